@@ -15,11 +15,12 @@ use Rattle.ft_content.specs.Views.{TableInfo}
 use Rattle.ft_content.specs.Deserved.{TableState, Sound, Stale, Loose, Table, Contents, deserved}
 use Rattle.ft_content.specs.Step.{after, with_documents, on_table}
 use Rattle.ft_index.specs.DocumentsRead.{Looks}
-use Rattle.ft_index.specs.Kept.{IsUp, AreHeld, Executes, Answers, is_outside, table_info}
+use Rattle.ft_index.specs.Kept.{IsUp, AreHeld, KeepsOthers, Executes, Answers, is_outside, table_info}
 use Rattle.ft_index.specs.Changed.{Changed, with_tables}
 use Rattle.ft_index.specs.Written.{PlansTo}
 use Rattle.ft_index.proofs.CreateLemmas.{refused_answers}
 use Rattle.ft_index.proofs.Executing.{executes_refused}
+use Rattle.ft_index.proofs.OtherRows.{keeps_same}
 
 -- ---- the tables that are told stay
 
@@ -62,7 +63,7 @@ module _ {S : Type 0} (g : Ghosts S) where
   executes_read old new tables command answer looks answers = record {
     was_up = λ up. looks_up old new tables tables looks up;
     steps = λ up first holds. (first, subst (λ v. AreHeld v tables first) (sym (looks_same old new tables looks up)) holds, answers up first holds);
-    noted = λ up first holds. ap (λ v. v.noted) (looks_same old new tables looks up);
+    others = λ up first holds. subst (KeepsOthers (value_in g old)) (sym (looks_same old new tables looks up)) (keeps_same (value_in g old));
     unchanged = λ no up. (looks_same old new tables looks up, refl);
   }
 

@@ -1,6 +1,6 @@
 -- A table that is made anew, with documents.
 use Rattle.std.proofs.Common.{◌≡◌, map, ℕ, Bool, true, false, cond, not, List, [], ◌∷◌, Some, None, ℤ, pos, refl, sym, ap, subst, ◌∙◌}
-use Rattle.std.specs.Prelude.{All, option_map}
+use Rattle.std.specs.Prelude.{All, is_some, option_map}
 use Rattle.std.specs.List.{enumerate_from, find as first_of}
 use Rattle.std.specs.declared.cmp.Ordering.{Ordering}
 use Rattle.std.specs.Ordering.{int_cmp, int_eq}
@@ -23,7 +23,7 @@ use Rattle.ft_documents.proofs.AddLemmas.{bare, added_rows, added_index}
 use Rattle.ft_documents.proofs.KeyedRows.{true_of, of_true, same_int, turned_round, sorted_put}
 use Rattle.ft_documents.proofs.StoreKeys.{column_total, column_exact}
 use Rattle.ft_index.specs.declared.written.Written.{Written}
-use Rattle.ft_index.specs.Kept.{AreHeld, StoreHolds, Stands, held_columns, table_info}
+use Rattle.ft_index.specs.Kept.{AreHeld, KeepsOthers, StoreHolds, Stands, held_columns, table_info}
 use Rattle.ft_index.specs.Opened.{IsNamed}
 use Rattle.ft_index.specs.Written.{MakeTable}
 use Rattle.ft_index.proofs.CheckLemmas.{IsTold, told_here}
@@ -32,6 +32,7 @@ use Rattle.ft_index.proofs.Executing.{Reaches}
 use Rattle.ft_index.proofs.KnownLemmas.{sound_held, sound_is}
 use Rattle.ft_index.proofs.Lifting.{LeavesRest, leaves_rest}
 use Rattle.ft_index.proofs.OneTable.{AreHeldIn, changes_one}
+use Rattle.ft_index.proofs.OtherRows.{keeps_changed}
 use Rattle.ft_index.proofs.TableChanges.{add_spares}
 
 -- ---- the tables that the store names stay
@@ -119,11 +120,11 @@ anew_change known = AddTable known.id known.name (names_of known.columns) (skipp
 module _ (store : StoreValue) (tables : List TableInfo) (contents : Contents) (name : List ℕ) (known : TableInfo) (order : AreInOrder store) (held : AreHeld store tables contents) (t : IsTold store contents name known) where
   -- So a table that is told and is made anew with the documents of a content holds the content.
   pub anew_holds : (content : Content) (rewrites : List Rewrite) (changes : List Change) (change : TableState → TableState) → IsContent t.table.1.name content → held_columns t.table.1.held ≡ content.columns → AreOf (bare content.columns) rewrites → rewritten rewrites [] ≡ content.documents → change t.table.1.held ≡ Sound content →
-      AreRight known.id known.columns rewrites changes → All (IsOfDocids known.id (docids_of rewrites)) changes → StoreHolds (all_applied (anew_change known ∷ changes) store) (on_table contents name change) × ((all_applied (anew_change known ∷ changes) store).noted ≡ store.noted)
+      AreRight known.id known.columns rewrites changes → All (IsOfDocids known.id (docids_of rewrites)) changes → StoreHolds (all_applied (anew_change known ∷ changes) store) (on_table contents name change) × KeepsOthers store (all_applied (anew_change known ∷ changes) store)
   anew_holds content rewrites changes change is columns_are are made changed = subst Holds t.told (subst (λ cs. Holds (record (table_info t.table) { columns = cs })) (sym columns_are) here)
     where
       Holds : TableInfo → Type 0
-      Holds k = AreRight k.id k.columns rewrites changes → All (IsOfDocids k.id (docids_of rewrites)) changes → StoreHolds (all_applied (anew_change k ∷ changes) store) (on_table contents name change) × ((all_applied (anew_change k ∷ changes) store).noted ≡ store.noted)
+      Holds k = AreRight k.id k.columns rewrites changes → All (IsOfDocids k.id (docids_of rewrites)) changes → StoreHolds (all_applied (anew_change k ∷ changes) store) (on_table contents name change) × KeepsOthers store (all_applied (anew_change k ∷ changes) store)
 
       named : IsNamed store t.table.0 (t.table.0, t.table.1.name)
       named = subst (λ k. IsNamed store k (t.table.0, t.table.1.name)) (ap (λ (k : TableInfo). k.id) (sym t.told)) t.named
@@ -136,7 +137,7 @@ module _ (store : StoreValue) (tables : List TableInfo) (contents : Contents) (n
           let same : rewritten_content rewrites (bare content.columns) ≡ content = λ i. record content { documents = made i } in
           let stands = subst (Stands t.table.1.name (table_rows id new) (table_index id new)) (sym changed) (is, done.1 ∙ ap content_rows same, done.2 ∙ ap index_rows same) in (
             subst (λ ts. AreHeldIn new ts (on_table contents name change)) (sym done.0.tables) (changes_one name t.table store new change store.tables contents done.0.others stands t.one held.held),
-            done.0.noted,
+            keeps_changed id store new done.0 (ap is_some (key_found id t.table.1.name store.tables named)),
           )
 
 -- ---- a Delete of all documents

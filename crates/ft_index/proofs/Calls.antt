@@ -122,7 +122,7 @@ module _ {S : Type 0} (g : Ghosts S) where
   }
 
   call_names : (old new : FullText S) (call : Call) (first : Contents) → DoesCall g old call new → IsUp g new → Holds g old first → (value_of g new).noted ≡ names_next (value_of g old).noted call
-  call_names old new (Executed command answer) first does up holds = does.0.noted up first holds
+  call_names old new (Executed command answer) first does up holds = (does.0.others up first holds).noted
   call_names old new (Noted name is_done) first does up holds = name_noted old new name is_done (does.0.noted up)
   call_names old new (Looked is_done) first does up holds = ap (λ (v : StoreValue). v.noted) (does.0.value up)
 

@@ -55,7 +55,7 @@ module _ {S : Type 0} (g : Ghosts S) where
       (IsUp g (with_tables old tables) → (first : Contents) → AreHeld (value_in g old) tables first → Reaches first command (value_in g old) changes) →
       Survives (shows g old) (shows g new) (CommitsRows old changes) → CommandSurvives g (with_tables old tables) command (with_tables new others)
   crash_changed old new tables others command changes leads survives = survives_as (shows g old) (shows g new) _ _ (λ clean db commits up first holds.
-      record { left = all_applied changes (value_in g old); stored = commits up.is_open; held = subst (StoreHolds (all_applied changes (value_in g old))) (left_is first command (leads up first holds).0) (leads up first holds).1; noted = (leads up first holds).2 }) survives
+      record { left = all_applied changes (value_in g old); stored = commits up.is_open; held = subst (StoreHolds (all_applied changes (value_in g old))) (left_is first command (leads up first holds).0) (leads up first holds).1; noted = (leads up first holds).2.noted }) survives
 
   -- row changes after reads that lead to it
   pub crash_reached : (old mid new : StoreState S) (tables others : List TableInfo) (command : Command) (changes : List Change) → Looks g old mid → (HasCleanDisk (shows g mid) → IsTrue (shows g old).is_open → IsTrue (shows g mid).is_open) →
@@ -70,5 +70,5 @@ module _ {S : Type 0} (g : Ghosts S) where
         left = all_applied changes (value_in g old);
         stored = subst (λ (v : StoreValue). IsStored db (all_applied changes v)) (looks_same g old mid tables looks mid_up) (commits mid_up.is_open);
         held = subst (StoreHolds (all_applied changes (value_in g old))) (left_is first command planned.0) planned.1;
-        noted = planned.2;
+        noted = planned.2.noted;
       }) looks.survives survives

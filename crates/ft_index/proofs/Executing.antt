@@ -15,8 +15,9 @@ use Rattle.ft_content.specs.Step.{after, reply_to, step, step_by}
 use Rattle.ft_documents.specs.Found.{with_info}
 use Rattle.ft_index.specs.Planned.{Makes, table_change}
 use Rattle.ft_index.specs.Changed.{Changed, with_tables}
-use Rattle.ft_index.specs.Kept.{FullText, IsUp, PlansFrom, AreHeld, StoreHolds, Holds, Executes, Answers, is_outside, table_info}
+use Rattle.ft_index.specs.Kept.{FullText, IsUp, KeepsOthers, PlansFrom, AreHeld, StoreHolds, Holds, Executes, Answers, is_outside, table_info, value_of}
 use Rattle.ft_index.proofs.NameLemmas.{apart_after}
+use Rattle.ft_index.proofs.OtherRows.{keeps_same, makes_table}
 use Rattle.ft_index.proofs.CreateLemmas.{made_is_held, create_answers, refused_answers, nothing_made}
 
 -- a command that leaves everything as it is
@@ -24,7 +25,7 @@ pub executes_same : {S : Type 0} (g : Ghosts S) (known : FullText S) (command : 
 executes_same g known command answer answers = record {
   was_up = λ up. up;
   steps = λ up first holds. (first, holds, answers first holds);
-  noted = λ up first holds. refl;
+  others = λ up first holds. keeps_same (value_of g known);
   unchanged = λ no up. (refl, refl);
 }
 
@@ -57,7 +58,8 @@ module _ {S : Type 0} (g : Ghosts S) (creation : Creation) where
       subst (λ v. AreHeld v (with_info (shown_info made) tables) (after first create)) (sym (changed.value (with_info (shown_info made) tables) up)) (made_is_held first creation made (value_in g old) tables (makes first holds.told) order holds),
       inr (create_answers first creation (makes first holds.told).0),
     );
-    noted = λ up first holds. ap (λ v. v.noted) (changed.value (with_info (shown_info made) tables) up);
+    others = λ up first holds. subst (KeepsOthers (value_in g old)) (sym (changed.value (with_info (shown_info made) tables) up))
+        (makes_table made (value_in g old));
     unchanged = λ no up. absurd (let wrong = no in cc);
   }
 
@@ -67,7 +69,7 @@ pub executes_refused : {S : Type 0} (g : Ghosts S) (old new : StoreState S) (tab
 executes_refused g old new tables changes command fault outside changed = record {
   was_up = λ up. changed.was_up tables tables up;
   steps = λ up first holds. (first, subst (λ v. AreHeld v tables first) (sym (changed.value tables up)) holds, inl (is_out outside, refl));
-  noted = λ up first holds. ap (λ v. v.noted) (changed.value tables up);
+  others = λ up first holds. subst (KeepsOthers (value_in g old)) (sym (changed.value tables up)) (keeps_same (value_in g old));
   unchanged = λ no up. (changed.value tables up, refl);
 }
   where
@@ -83,7 +85,7 @@ done_answers contents command fine done = ap (λ due. step_by due contents comma
 
 -- Row changes that lead to what a command leaves, which deserves no fault.
 abbrev pub Reaches : Contents → Command → StoreValue → List Change → Type 0
-Reaches contents command store changes = (deserved contents command ≡ None) × StoreHolds (all_applied changes store) (after contents command) × ((all_applied changes store).noted ≡ store.noted)
+Reaches contents command store changes = (deserved contents command ≡ None) × StoreHolds (all_applied changes store) (after contents command) × KeepsOthers store (all_applied changes store)
 
 pub reached : (contents : Contents) (command : Command) (store : StoreValue) (changes : List Change) → PlansFrom contents command store (Ok changes) → Reaches contents command store changes
 reached contents command store changes plans = (plans.0, plans.1, plans.2)
@@ -104,7 +106,7 @@ executes_planned g old new tables after_tables changes command reaches changed t
     }),
     inr (done_answers first command (reaches up first holds).0 (replies first)),
   );
-  noted = λ up first holds. ap (λ v. v.noted) (changed.value after_tables up) ∙ (reaches up first holds).2;
+  others = λ up first holds. subst (KeepsOthers (value_in g old)) (sym (changed.value after_tables up)) (reaches up first holds).2;
   unchanged = λ no up. absurd (let wrong = no in cc);
 }
 

@@ -4,6 +4,7 @@ pub mod HeldLemmas
 pub mod NameLemmas
 pub mod SoundLemmas
 pub mod OneTable
+pub mod OtherRows
 pub mod TableChanges
 pub mod KnownLemmas
 pub mod TablePlans

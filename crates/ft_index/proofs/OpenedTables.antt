@@ -17,7 +17,7 @@ use Rattle.ft_content.specs.Deserved.{Table, Contents}
 use Rattle.ft_index.specs.Changed.{with_tables}
 use Rattle.ft_index.specs.DocumentsRead.{Looks}
 use Rattle.ft_index.specs.Kept.{AreHeld, StoreHolds, HoldsTable, HoldsSome, table_info}
-use Rattle.ft_index.specs.Opened.{IsListed, IsFound, IsMarked, AreMarked, Opens}
+use Rattle.ft_index.specs.Opened.{IsListed, IsMarked, AreMarked, Opens}
 use Rattle.ft_index.proofs.HeldLemmas.{holds_one_contents}
 use Rattle.ft_documents.specs.Tables.{table_rows, table_index}
 
@@ -99,20 +99,3 @@ module _ {S : Type 0} (g : Ghosts S) (old new : StoreState S) (known : List Tabl
         let same : found.0 ≡ contents = holds_one_contents (value_in g new) found.0 contents found.1.held (subst (λ v. StoreHolds v contents) (sym (same_value up.clean)) held) in
         subst (λ cs. AreHeld (value_in g new) known cs) same found.1;
   }
-
--- ---- the table of an id
-
-pub found_listed : (store : StoreValue) (id : ℤ) (named : ℤ × List ℕ) (rows : List TabRow) (tables : List (ℤ × List ℕ)) → map shown_table rows ≡ map (table_listed store) tables →
-    find (λ (n : ℤ × List ℕ). int_eq id n.0) tables ≡ Some named → IsFound store named (find (λ (t : TabRow). int_eq id t.id) rows)
-found_listed store id named [] [] same is = absurd (let none = is in cc)
-found_listed store id named [] (t ∷ ts) same is = absurd (let none = same in cc)
-found_listed store id named (r ∷ rs) [] same is = absurd (let none = same in cc)
-found_listed store id named (r ∷ rs) (t ∷ ts) same is =
-    let first : IsListed store t r = cc in
-    let rest : map shown_table rs ≡ map (table_listed store) ts = cc in
-    go (int_eq id t.0) refl (ap (λ (l : Listed). int_eq id l.id) first) first (found_listed store id named rs ts rest) is
-  where
-    go : (b : Bool) → int_eq id t.0 ≡ b → int_eq id r.id ≡ int_eq id t.0 → IsListed store t r → (find (λ (n : ℤ × List ℕ). int_eq id n.0) ts ≡ Some named → IsFound store named (find (λ (t : TabRow). int_eq id t.id) rs)) →
-        cond b (Some t) (find (λ (n : ℤ × List ℕ). int_eq id n.0) ts) ≡ Some named → IsFound store named (cond (int_eq id r.id) (Some r) (find (λ (t : TabRow). int_eq id t.id) rs))
-    go true here same first rest is = subst (λ c. IsFound store named (cond c (Some r) (find (λ (t : TabRow). int_eq id t.id) rs))) (sym (same ∙ here)) (subst (λ n. IsListed store n r) (ap (λ o. unwrap_or o t) is) first)
-    go false here same first rest is = subst (λ c. IsFound store named (cond c (Some r) (find (λ (t : TabRow). int_eq id t.id) rs))) (sym (same ∙ here)) (rest is)

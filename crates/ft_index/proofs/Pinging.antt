@@ -26,7 +26,7 @@ use Rattle.ft_content.specs.Command.{Command, Create, Drop, Insert, Update, Dele
 use Rattle.ft_content.specs.Deserved.{TableState, Sound, Stale, Loose, Table, Contents, table_named}
 use Rattle.ft_content.specs.Views.{TableInfo, answer_of}
 use Rattle.ft_index.specs.DocumentsRead.{Looks}
-use Rattle.ft_index.specs.Kept.{FullText, IsUp, IsOutside, AreHeld, Executes, OnlyLooks, is_outside}
+use Rattle.ft_index.specs.Kept.{FullText, IsUp, IsOutside, AreHeld, Executes, KeepsOthers, OnlyLooks, is_outside, value_of}
 use Rattle.ft_index.specs.Crashes.{HoldsAfter, IsSettled, LeavesRead}
 use Rattle.ft_index.specs.Changed.{with_tables, Does, DoesAsked, LooksAsked, MakesAsked, MakesRows}
 use Rattle.ft_index.specs.RowsRead.{CountsFound, CountsHeld, CountsIfRows, CountsRows}
@@ -155,7 +155,7 @@ module _ {S : Type 0} (g : Ghosts S) (old mid : StoreState S) (result : Result (
         executes_behind = record {
           was_up = λ up. looks_up g old mid tables tables pinged (does.executes.was_up up);
           steps = λ up first holds. does.executes.steps up first (subst (λ v. AreHeld v tables first) (sym (same_value up)) holds);
-          noted = λ up first holds. does.executes.noted up first (subst (λ v. AreHeld v tables first) (sym (same_value up)) holds) ∙ ap (λ (v : StoreValue). v.noted) (same_value up);
+          others = λ up first holds. subst (λ v. KeepsOthers v (value_of g new)) (same_value up) (does.executes.others up first (subst (λ v. AreHeld v tables first) (sym (same_value up)) holds));
           unchanged = λ refused up. ((does.executes.unchanged refused up).0 ∙ same_value up, (does.executes.unchanged refused up).1);
         }
 

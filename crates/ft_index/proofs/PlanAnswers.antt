@@ -17,10 +17,11 @@ use Rattle.ft_index.proofs.KnownLemmas.{sound_table, sound_is, unfit_is}
 use Rattle.ft_index.proofs.SelectAnswers.{fault_bare, told_columns}
 use Rattle.ft_documents.proofs.AddLemmas.{bare}
 use Rattle.ft_index.proofs.CreateLemmas.{made_is_held, nothing_made}
+use Rattle.ft_index.proofs.OtherRows.{keeps_same, makes_table}
 
 -- a command that leaves the contents, and names no row
 pub plans_nothing : (contents : Contents) (command : Command) (store : StoreValue) (tables : List TableInfo) → AreHeld store tables contents → after contents command ≡ contents → StaysNear contents command [] → deserved contents command ≡ None → PlansFrom contents command store (Ok [])
-plans_nothing contents command store tables held same near fine = (fine, subst (StoreHolds store) (sym same) held.held, refl, near)
+plans_nothing contents command store tables held same near fine = (fine, subst (StoreHolds store) (sym same) held.held, keeps_same store, near)
 
 -- ---- Create
 
@@ -33,7 +34,7 @@ module _ (contents : Contents) (creation : Creation) (store : StoreValue) (table
   create_nothing held makes = plans_nothing contents (creation_of creation) store tables held (nothing_made contents creation makes.1) tt makes.0
 
   pub create_makes : (made : RustTableInfo) → AreInOrder store → AreHeld store tables contents → Makes contents creation (Ok (Some made)) → PlansFrom contents (creation_of creation) store (Ok (table_change made ∷ []))
-  create_makes made order held makes = (makes.0, (made_is_held contents creation made store tables makes order held).held, refl, tt)
+  create_makes made order held makes = (makes.0, (made_is_held contents creation made store tables makes order held).held, makes_table made store, tt)
 
 -- ---- Select
 

@@ -29,6 +29,7 @@ use Rattle.ft_index.specs.Opened.{state_of}
 use Rattle.ft_index.proofs.Anew.{anew_change, anew_holds}
 use Rattle.ft_index.proofs.CheckLemmas.{IsTold}
 use Rattle.ft_index.proofs.KnownLemmas.{none_named}
+use Rattle.ft_index.proofs.OtherRows.{keeps_same}
 use Rattle.ft_index.proofs.OneTable.{IsOne, changes_one}
 
 -- ---- what it deserves, and what it leaves
@@ -73,7 +74,7 @@ module _ (store : StoreValue) (tables : List TableInfo) (contents : Contents) (n
         due_at (Sound content) e,
         subst (StoreHolds store) (sym (rebuild_after contents name)) (changes_one name t.table store store rebuilt store.tables contents (record { rows = λ other apart. refl; index = λ other apart. refl })
             (subst (λ state. Stands t.table.1.name (table_rows t.table.0 store) (table_index t.table.0 store) (rebuilt state)) (sym e) (stands_at (Sound content) e)) t.one held.held),
-        refl,
+        keeps_same store,
         tt,
       )
       go (Stale content) e is = absurd (let no = is in cc)

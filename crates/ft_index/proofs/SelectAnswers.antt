@@ -19,12 +19,13 @@ use Rattle.ft_query.specs.Reads.{query_of}
 use Rattle.ft_content.specs.Index.{index_rows}
 use Rattle.ft_documents.specs.Tables.{table_rows, table_index}
 use Rattle.ft_documents.specs.Found.{info_named, IsUnfit}
-use Rattle.ft_index.specs.Kept.{FullText, IsUp, AreHeld, Executes, OnlyLooks, Answers, is_outside, held_columns}
+use Rattle.ft_index.specs.Kept.{FullText, IsUp, AreHeld, Executes, KeepsOthers, OnlyLooks, Answers, is_outside, held_columns}
 use Rattle.ft_index.specs.Changed.{with_tables}
 use Rattle.ft_index.specs.DocumentsRead.{Looks}
 use Rattle.ft_documents.specs.Chosen.{ReadsAs}
 use Rattle.ft_index.specs.Selected.{IsAsked}
 use Rattle.ft_index.specs.RowsRead.{rows_asked, CountsHeld, CountsFound, CountsRows, CountsCommand}
+use Rattle.ft_index.proofs.OtherRows.{keeps_same}
 use Rattle.ft_index.proofs.KnownLemmas.{IsSoundTable, sound_table, sound_is, unfit_is}
 use Rattle.ft_index.proofs.CreateLemmas.{refused_answers}
 use Rattle.ft_index.proofs.InsertHolds.{sound_rows}
@@ -114,7 +115,7 @@ module _ {S : Type 0} (g : Ghosts S) (old new : StoreState S) (tables : List Tab
   does result answers = record {
     was_up = was_up;
     steps = λ up first holds. (first, subst (λ v. AreHeld v tables first) (sym (same_value up)) holds, answers up first holds);
-    noted = λ up first holds. ap (λ (v : StoreValue). v.noted) (same_value up);
+    others = λ up first holds. subst (KeepsOthers (value_in g old)) (sym (same_value up)) (keeps_same (value_in g old));
     unchanged = λ no up. (same_value up, refl);
   }
 

@@ -11,10 +11,11 @@ use Rattle.ft_content.specs.Views.{TableInfo}
 use Rattle.ft_content.specs.Deserved.{Table, Contents, table_named, first_of, deserved}
 use Rattle.ft_content.specs.Step.{dropped, after, reply_to}
 use Rattle.ft_documents.specs.Found.{info_named, without_info}
-use Rattle.ft_index.specs.Kept.{AreHeld, StoreHolds, PlansFrom, table_info}
+use Rattle.ft_index.specs.Kept.{AreHeld, KeepsOthers, StoreHolds, PlansFrom, table_info}
 use Rattle.ft_index.proofs.OneTable.{IsOne, one_named, ids_sorted}
 use Rattle.ft_index.proofs.TableChanges.{drop_spares, drops_one}
 use Rattle.ft_index.proofs.KnownLemmas.{none_named, some_named}
+use Rattle.ft_index.proofs.OtherRows.{keeps_dropped, keeps_same, names_held}
 
 -- ---- Drop
 
@@ -41,7 +42,7 @@ drop_spared store tables contents name if_there may held none =
     let none_here : table_named contents name ≡ None = none_named contents name (ap (λ ts. info_named ts name) (sym held.told) ∙ none) in (
       ap (λ b. first_of ((is_none (table_named contents name) && not b, faults.NoSuchTable) ∷ [])) may ∙ spared_due (table_named contents name),
       subst (StoreHolds store) (sym (none_dropped contents name none_here)) held.held,
-      refl,
+      keeps_same store,
       tt,
     )
 
@@ -58,7 +59,7 @@ drop_planned store tables contents name if_there known order held named =
     let id : t.0 ≡ known.id = ap (λ (k : TableInfo). k.id) it.2 in (
       found_due (table_named contents name) t if_there it.1,
       subst (λ k. StoreHolds (applied (DropTable k) store) (dropped contents name)) id (drops_one name t store (applied (DropTable t.0) store) store.tables contents (drop_spares t.0 store) one held.held),
-      refl,
+      subst (λ k. KeepsOthers store (applied (DropTable k) store)) id (keeps_dropped t.0 store (names_held name t store store.tables contents held.held it.1)),
       tt,
     )
 

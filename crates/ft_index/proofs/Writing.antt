@@ -20,6 +20,7 @@ use Rattle.ft_index.specs.Written.{LeadsTo}
 use Rattle.ft_index.proofs.KnownLemmas.{IsSoundTable, sound_table, sound_is, unfit_is}
 use Rattle.ft_index.proofs.InsertHolds.{sound_rows}
 use Rattle.ft_index.proofs.Lifting.{leaves_rest, lifts}
+use Rattle.ft_index.proofs.OtherRows.{keeps_changed, names_held}
 
 -- A command that writes documents of the table of a name: what it deserves where that table is
 -- sound, the documents after it, and the docids that it touches.
@@ -85,7 +86,7 @@ module _ (command : Command) (name : List ℕ) (due : List ℕ → Content → O
         is.deserves contents ∙ sound_is contents name known t due ∙ fine,
         subst (StoreHolds (all_applied changes store)) (sym (is.leaves contents))
             (lifts store (all_applied changes store) tables contents name known t change order held leaves (is.keeps t.table.1.name t.content has.is_content fine) (done.0 ∙ ap content_rows same) (done.1 ∙ ap index_rows same)),
-        leaves.noted,
+        keeps_changed t.table.0 store (all_applied changes store) leaves (names_held name t.table store store.tables contents held.held t.found),
         is.near contents changes (subst (λ docids. AreOfFound (table_named contents name) docids changes) (sym touches)
             (subst (λ found. AreOfFound found (touch t.content) changes) (sym t.found) (All-from_recursion (IsOfDocids t.table.0 (touch t.content)) changes many))),
       )

@@ -1,6 +1,8 @@
 -- Meaning. What stays true of full-text tables, whatever is called.
 use Rattle.std.specs.Prelude.{◌≡◌, ◌≢◌, ◌⊎◌, ℕ, Bool, true, false, if◌then◌else◌, List, [], map, Option, Some, None, Result, Ok}
-use Rattle.std.specs.Prelude.{Err, ℤ, IsTrue, is_ok, All, refl}
+use Rattle.std.specs.Prelude.{Err, ℤ, IsTrue, is_ok, is_some, All, refl}
+use Rattle.std.specs.Ordering.{int_cmp}
+use Rattle.std.specs.FinMap.Entries.{find}
 use Rattle.std.specs.List.{AllZip}
 use Rattle.std.specs.Coded.{Coded, code_by, coded×, coded_ℤ, coded_ℕ, coded_bool, coded_list}
 use Rattle.sqlite.specs.State.{State, HasCleanDisk, Survives}
@@ -89,6 +91,25 @@ pub record AreHeld (store : StoreValue) (tables : List TableInfo) (contents : Co
 abbrev pub Holds : {S : Type 0} → Ghosts S → FullText S → Contents → Type 0
 Holds g known contents = AreHeld (value_of g known) known.tables contents
 
+-- the store names a table of this id
+abbrev pub names_table : StoreValue → ℤ → Bool
+names_table store id = is_some (find int_cmp id store.tables)
+
+-- rows and index rows of nothing
+abbrev pub no_rows : TableRows
+no_rows = record { columns = []; skipped = []; cells = [] }
+
+abbrev pub no_index : IndexRows
+no_index = record { lists = []; sizes = [] }
+
+-- What a command leaves beside the contents: the noted names, and under an id that no table has
+-- afterwards the rows that stood there, or none where it was a table's. So no row is left of a
+-- table that goes.
+pub record KeepsOthers (old new : StoreValue) : Type 0 where
+  pub noted : new.noted ≡ old.noted
+  pub rows : (id : ℤ) → names_table new id ≡ false → table_rows id new ≡ (if names_table old id then no_rows else table_rows id old)
+  pub index : (id : ℤ) → names_table new id ≡ false → table_index id new ≡ (if names_table old id then no_index else table_index id old)
+
 -- where it is up it holds some contents
 abbrev pub HoldsSome : {S : Type 0} → Ghosts S → FullText S → Type 0
 HoldsSome g known = IsUp g known → (contents : Contents) × Holds g known contents
@@ -137,7 +158,7 @@ Answers old command answer new = (IsTrue (is_outside answer) × (new ≡ old)) �
 pub record Executes {S : Type 0} (g : Ghosts S) (old : FullText S) (command : Command) (answer : Result Reply Fault) (new : FullText S) : Type 0 where
   pub was_up : IsUp g new → IsUp g old
   pub steps : IsUp g new → (first : Contents) → Holds g old first → (last : Contents) × Holds g new last × Answers first command answer last
-  pub noted : IsUp g new → (first : Contents) → Holds g old first → (value_of g new).noted ≡ (value_of g old).noted
+  pub others : IsUp g new → (first : Contents) → Holds g old first → KeepsOthers (value_of g old) (value_of g new)
   -- what is refused changes nothing
   pub unchanged : is_ok answer ≡ false → IsUp g new → (value_of g new ≡ value_of g old) × (new.tables ≡ old.tables)
 
@@ -160,7 +181,7 @@ StaysNear contents (Optimize table) changes = changes ≡ []
 -- What a plan is: row changes that lead to what the command leaves, or the fault that it deserves.
 abbrev pub PlansFrom : Contents → Command → StoreValue → Result (List Change) Fault → Type 0
 PlansFrom contents command store (Ok changes) = (deserved contents command ≡ None) × StoreHolds (all_applied changes store) (after contents command)
-    × ((all_applied changes store).noted ≡ store.noted) × StaysNear contents command changes
+    × KeepsOthers store (all_applied changes store) × StaysNear contents command changes
 PlansFrom contents command store (Err fault) = IsTrue (is_outside (Err fault)) ⊎ (deserved contents command ≡ Some fault)
 
 abbrev pub Plans : {S : Type 0} → Ghosts S → FullText S → Command → Result (List Change) Fault → Type 0

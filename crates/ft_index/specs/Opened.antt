@@ -1,5 +1,5 @@
 -- Meaning. How the tables of a store stand, as they are read. All of it is our own choice.
-use Rattle.std.specs.Prelude.{◌≡◌, ℕ, ℤ, List, Option, Some, None, IsTrue}
+use Rattle.std.specs.Prelude.{◌≡◌, ℕ, ℤ, List, Some, IsTrue}
 use Rattle.std.specs.List.{AllZip, find}
 use Rattle.std.specs.Ordering.{int_eq}
 use Rattle.sqlite.specs.State.{HasCleanDisk}
@@ -29,6 +29,10 @@ pub record StandsSo (name : List ℕ) (rows : TableRows) (index : IndexRows) (st
   pub stands : Stands name rows index held
   pub is : state ≡ state_of held
 
+-- the rows of a table that is known stand so
+abbrev pub HasState : StoreValue → TableInfo → TableState → Type 0
+HasState store known held = Stands known.name (table_rows known.id store) (table_index known.id store) held
+
 -- a table is listed as one that the store names
 abbrev pub IsListed : StoreValue → ℤ × List ℕ → TabRow → Type 0
 IsListed store named table = shown_table table ≡ table_listed store named
@@ -36,11 +40,6 @@ IsListed store named table = shown_table table ≡ table_listed store named
 -- the table that the store names under an id
 abbrev pub IsNamed : StoreValue → ℤ → ℤ × List ℕ → Type 0
 IsNamed store id named = find (λ (n : ℤ × List ℕ). int_eq id n.0) store.tables ≡ Some named
-
--- and it is found as it is listed
-abbrev pub IsFound : StoreValue → ℤ × List ℕ → Option TabRow → Type 0
-IsFound store named None = ⊥
-IsFound store named (Some table) = IsListed store named table
 
 -- what is known of a table that the store names says how its rows stand
 pub record IsMarked (store : StoreValue) (named : ℤ × List ℕ) (known : TableInfo) : Type 0 where

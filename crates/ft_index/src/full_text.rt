@@ -201,7 +201,7 @@ impl<S: Alter> FullText<S> {
 
     /// After any calls of `execute` and `note` the contents are those of the accepted commands, the
     /// index rows of each sound table are exactly those made from scratch, and each command was
-    /// answered by the definitions. No table gets unsound, and no two get one name.
+    /// answered by the definitions. No table becomes unsound, and no two get one name.
     pub fn kept_by_calls()
         ensures kept { KeptByCalls S.Store }
         ensures sound { NoneGetsUnsound }

@@ -1,6 +1,5 @@
 //! How the rows of tables stand, as a store is taken and as one table is asked for.
 ghost use Rattle.std.specs.Prelude.{◌≡◌, ◌<◌, ◌↔◌, ℤ, ℕ, List, map, length, IsTrue, IfOk};
-ghost use Rattle.std.specs.List.{find};
 ghost use Rattle.sqlite.specs.State.{HasCleanDisk};
 ghost use Rattle.ft_store.specs.Blame.{Blames, AreTableTexts};
 ghost use Rattle.ft_store.specs.Calls.{IsPlainFault};
@@ -9,9 +8,9 @@ ghost use Rattle.ft_content.specs.Content.{Content};
 ghost use Rattle.ft_content.specs.Index.{index_rows};
 ghost use Rattle.ft_content.specs.Views.{column_of, shown_info};
 ghost use Rattle.ft_content.specs.Deserved.{TableState};
-ghost use Rattle.ft_index.specs.DocumentsRead.{Asks, LooksFor};
-ghost use Rattle.ft_index.specs.Kept.{Stands, is_sound};
-ghost use Rattle.ft_index.specs.Opened.{state_of, StandsSo, IsListed, IsNamed, AreMarked};
+ghost use Rattle.ft_index.specs.DocumentsRead.{Asks};
+ghost use Rattle.ft_index.specs.Kept.{is_sound};
+ghost use Rattle.ft_index.specs.Opened.{state_of, StandsSo, HasState, IsListed, AreMarked};
 ghost use Rattle.ft_documents.specs.Tables.{table_rows, table_index};
 ghost use Rattle.ft_documents.specs.Standing as standing;
 
@@ -40,24 +39,20 @@ impl RowState {
     }
 }
 
-/// How the rows of the table of an id stand. The store is only read, whatever is answered.
-pub(crate) fn state_under<S: Alter>(
+/// How the rows of a table that is known stand. The store is only read, whatever is answered.
+pub(crate) fn known_state<S: Alter>(
     alloc: Global,
     store: &mut Store<S>,
-    id: i64,
+    table: &TableInfo,
 ) -> Result<RowState, StoreFault>
-    ensures looks { LooksFor S.Store store.old store.new result IsPlainFault
-        ((named : ℤ × List ℕ) (held : TableState) → HasCleanDisk (shows S.Store store.new)
-        → IsNamed (value_in S.Store store.old) id named → Stands named.1 (table_rows named.0
-        (value_in S.Store store.old)) (table_index named.0 (value_in S.Store store.old)) held
+    ensures asks { Asks S.Store store.old store.new result IsPlainFault
+        ((held : TableState) → HasCleanDisk (shows S.Store store.new)
+        → HasState (value_in S.Store store.old) (shown_info table.now) held
         → IfOk result (λ s. s ≡ state_of held)) }
-    ensures refused { AreTableTexts (value_in S.Store store.old)
-        → Blames (shows S.Store store.old) (shows S.Store store.new) result }
+    ensures refused { Blames (shows S.Store store.old) (shows S.Store store.new) result }
 {
-    match store.tables()?.into_iter().find(|table| table.id == id) {
-        Some(table) => read_state(alloc, store, &table),
-        None => Ok(RowState::Loose),
-    }
+    let listed = store.table(table.id, table.name.as_str())?;
+    read_state(alloc, store, &listed)
 }
 
 // How the rows of a table that is listed stand. The store is only read, whatever is answered.

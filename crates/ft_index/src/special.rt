@@ -4,8 +4,7 @@ ghost use Rattle.ft_content.specs.Views.{shown_info, answer_of};
 ghost use Rattle.ft_index.specs.Changed.{with_tables, Does};
 ghost use Rattle.ft_index.specs.DocumentsRead.{LooksTo};
 ghost use Rattle.ft_index.specs.Kept.{Executes, Answers, BlamesStore, table_info};
-ghost use Rattle.ft_store.specs.Blame.{AreTableTexts};
-ghost use Rattle.ft_store.specs.Kept.{shows, value_in};
+ghost use Rattle.ft_store.specs.Kept.{shows};
 ghost use Rattle.ft_documents.specs.Found.{info_named};
 ghost use Rattle.ft_index.specs.Written.{PlansIn, RebuildsIn};
 ghost use Rattle.ft_content.specs.Deserved.{Contents};
@@ -13,7 +12,7 @@ ghost use Rattle.ft_content.specs.Command as plain;
 ghost use Rattle.ft_content.specs.Views as views;
 
 use crate::documents::all_documents;
-use crate::row_state::{RowState, state_under};
+use crate::row_state::{RowState, known_state};
 use crate::written::{Written, anew_changes, make_anew};
 use ft_content::{Fault, Reply, TableInfo};
 use ft_documents::{additions, mark_sound, named_table, sound_table};
@@ -32,12 +31,11 @@ pub(crate) fn check_table<S: Alter>(
         (Executes S.Store (with_tables store.old (map shown_info tables.now))
         (plain.Check table.now) (answer_of result) (with_tables store.new
         (map shown_info tables.now))) }
-    ensures refused { AreTableTexts (value_in S.Store store.old)
-        → BlamesStore (shows S.Store store.old) (shows S.Store store.new) result }
+    ensures refused { BlamesStore (shows S.Store store.old) (shows S.Store store.new) result }
 {
     store.is_in_order();
     let known = named_table(tables, table)?;
-    let state = state_under(alloc, store, known.id)?;
+    let state = known_state(alloc, store, known)?;
     if state.is_sound() {
         Ok(Reply::Done)
     } else {
@@ -94,7 +92,7 @@ fn rebuilt<'t, S: Alter>(
         → RebuildsIn S.Store tables store.old store.new (plain.Rebuild name) result) }
 {
     store.is_in_order();
-    let state = state_under(alloc, store, table.id)?;
+    let state = known_state(alloc, store, table)?;
     match state {
         RowState::Sound => Ok(None),
         RowState::Stale => {

@@ -1,6 +1,6 @@
 -- Inputs that are run in turn.
 use Rattle.std.proofs.Common.{◌≡◌, ◌<◌, ◌≤◌, ◌+◌, ◌-◌, ◌^◌, ◌∙◌, ℕ, Bool, true, false, List, [], ◌∷◌, map, drop, get_or, length, Option, Some, None, Result, Ok, Err, min, refl, ap, sym, subst, arith, string_bytes, String, Global, zero, suc}
-use Rattle.std.specs.Prelude.{MatchBool, if◌then◌else◌, ◌==◌}
+use Rattle.std.specs.Prelude.{MatchBool, MatchResult, if◌then◌else◌, ◌==◌}
 use Rattle.std.proofs.lemmas.Bool.Decides.{nat_tests}
 use Rattle.std.proofs.lemmas.List.{drop_all, drop_more}
 use Rattle.sqlite.specs.Store.{Ghosts}
@@ -8,12 +8,12 @@ use Rattle.plain_shell.specs.declared.run.Status.{Status}
 use Rattle.plain_shell.specs.declared.run.RunFault.{RunFault}
 use Rattle.ft_shell.specs.Shell.{Parts}
 use Rattle.ft_shell.specs.Effects.{Effects, idle, and_then}
-use Rattle.ft_shell.specs.Promise.{IsClean, Ran, AllRan, PromiseKept, KeptByRuns, none_ran, last_ran, first_ran}
+use Rattle.ft_shell.specs.Promise.{IsClean, Ran, AllRan, PromiseKept, KeptByRuns, none_ran, last_ran, first_ran, read_by}
 use Rattle.ft_shell.specs.Runs.{Console}
 use Rattle.ft_shell.proofs.TurnsLemmas.{assoc_then, idle_then, then_idle}
 use Rattle.ft_shell.proofs.PromiseLemmas.{all_made}
 use Rattle.std.specs.Prelude.{OnOk, OnErr, ◌≢◌}
-use Rattle.std.specs.Io.KnownBytes.{Appends}
+use Rattle.std.specs.Io.KnownBytes.{Appends, Consumes}
 use Rattle.sqlite.specs.Held.{Held}
 use Rattle.shell_text.specs.Print.{AppendsFront, Settings}
 use Rattle.ft_store.specs.Kept.{StoreState}
@@ -23,7 +23,7 @@ use Rattle.ft_index.proofs.Calls.{clean_before}
 use Rattle.ft_index.specs.Opened.{Opens}
 use Rattle.plain_shell.specs.Writing.{AppendsUpTo, Sends}
 use Rattle.plain_shell.proofs.WriteLemmas.{up_to_part, up_to_whole}
-use Rattle.ft_program.specs.Inputs.{Closes, EndsAs, InTurn, Outputs, RunsAndKeeps, RunsInTurn, RunsOne, RunsOver, Stage, WritesOwn, due, exit_status}
+use Rattle.ft_program.specs.Inputs.{AreRead, Closes, EndsAs, InTurn, Outputs, RunsAndKeeps, RunsInTurn, RunsOne, RunsOver, Stage, WritesOwn, console, due, exit_status}
 
 module _ {P S : Type 0} (g : Ghosts P) (h : Ghosts S) where
   -- what is answered of a run is what its turns told
@@ -113,22 +113,51 @@ next_text texts i text bytes within is same =
 pub no_text : (texts : List (String Global)) (i : ℕ) → length texts ≤ i → map Some (map string_bytes (drop i texts)) ≡ []
 no_text texts i past = ap (λ ts. map Some (map string_bytes ts)) (drop_all i texts past)
 
--- inputs that were run in turn are runs one after another
-pub all_ran : {P S : Type 0} (g : Ghosts P) (h : Ghosts S) (inputs : List (Option (List ℕ))) (cause : Option RunFault) (old new : Stage P S) (all : Effects) → InTurn g h inputs cause old new all → AllRan g h old.parts all new.parts
-all_ran {P} {S} g h [] cause old new all (is_none, same, nothing) = subst (λ (s : Stage P S). AllRan g h old.parts all s.parts) (sym same) (subst (λ d. AllRan g h old.parts d old.parts) (sym nothing) (none_ran old.parts))
-all_ran {P} {S} g h (input ∷ inputs) cause old new all (Err fault, mid, own, (left, ran), (is, same, whole)) =
-    subst (λ (s : Stage P S). AllRan g h old.parts all s.parts) (sym same) (subst (λ d. AllRan g h old.parts d mid.parts) (sym whole) (last_ran (Err fault) _ _ own ran))
-all_ran {P} {S} g h (input ∷ inputs) cause old new all (Ok status, mid, own, (left, ran), goes) = go (λ rest later. all_ran g h inputs cause mid new rest later) own.ends goes
+-- inputs that were run in turn are runs one after another, which read them
+record RanInputs {P S : Type 0} (g : Ghosts P) (h : Ghosts S) (inputs : List (Option (List ℕ))) (old new : Stage P S) (all : Effects) : Type 0 where
+  pub reads : List (List ℕ)
+  pub read : AreRead inputs reads
+  pub ran : AllRan g h old.parts reads all new.parts
+
+run_read : {P S : Type 0} (g : Ghosts P) (h : Ghosts S) (ended : Result Status RunFault) (old new : Console P S) (all : Effects) (ran : Ran g h ended old new all) → Consumes old.input new.input (read_by g h ended old new all ran)
+run_read g h (Ok status) old new all ran = ran.0.consumed
+run_read g h (Err fault) old new all ran = ran.0.consumed
+
+all_ran : {P S : Type 0} (g : Ghosts P) (h : Ghosts S) (inputs : List (Option (List ℕ))) (cause : Option RunFault) (old new : Stage P S) (all : Effects) → InTurn g h inputs cause old new all → RanInputs g h inputs old new all
+all_ran {P} {S} g h [] cause old new all (is_none, same, nothing) =
+    subst (λ (s : Stage P S). RanInputs g h [] old s all) (sym same) (subst (RanInputs g h [] old old) (sym nothing) (record { reads = []; read = tt; ran = none_ran old.parts }))
+all_ran {P} {S} g h (input ∷ inputs) cause old new all (ended, mid, own, (left, ran), goes) = by_end ended ran goes
   where
-    go : ((rest : Effects) → InTurn g h inputs cause mid new rest → AllRan g h mid.parts rest new.parts) → (e : Bool) → MatchBool e ((cause ≡ None) × (new ≡ mid) × (all ≡ own)) ((rest : Effects) × InTurn g h inputs cause mid new rest × (all ≡ and_then own rest)) → AllRan g h old.parts all new.parts
-    go left_ran true (is, same, whole) = subst (λ (s : Stage P S). AllRan g h old.parts all s.parts) (sym same) (subst (λ d. AllRan g h old.parts d mid.parts) (sym whole) (last_ran (Ok status) _ _ own ran))
-    go left_ran false (rest, later, whole) = subst (λ d. AllRan g h old.parts d new.parts) (sym whole) (first_ran (Ok status) _ _ own rest new.parts ran (left_ran rest later))
+    only : (ended : Result Status RunFault) → Ran g h ended (console old input) (console mid left) own → new ≡ mid → all ≡ own → RanInputs g h (input ∷ inputs) old new all
+    only ended ran same whole =
+        subst (λ (s : Stage P S). RanInputs g h (input ∷ inputs) old s all) (sym same)
+        (subst (RanInputs g h (input ∷ inputs) old mid) (sym whole) (record {
+          reads = read_by g h ended (console old input) (console mid left) own ran ∷ [];
+          read = (left, run_read g h ended (console old input) (console mid left) own ran, tt);
+          ran = last_ran ended (console old input) (console mid left) own ran;
+        }))
+
+    by_end : (ended : Result Status RunFault) → Ran g h ended (console old input) (console mid left) own → MatchResult ended
+        (λ status. MatchBool own.ends ((cause ≡ None) × (new ≡ mid) × (all ≡ own)) ((rest : Effects) × InTurn g h inputs cause mid new rest × (all ≡ and_then own rest)))
+        (λ fault. (cause ≡ Some fault) × (new ≡ mid) × (all ≡ own)) → RanInputs g h (input ∷ inputs) old new all
+    by_end (Err fault) ran (is, same, whole) = only (Err fault) ran same whole
+    by_end (Ok status) ran goes = go (λ rest later. all_ran g h inputs cause mid new rest later) own.ends goes
+      where
+        go : ((rest : Effects) → InTurn g h inputs cause mid new rest → RanInputs g h inputs mid new rest) → (e : Bool) → MatchBool e ((cause ≡ None) × (new ≡ mid) × (all ≡ own)) ((rest : Effects) × InTurn g h inputs cause mid new rest × (all ≡ and_then own rest)) → RanInputs g h (input ∷ inputs) old new all
+        go left_ran true (is, same, whole) = only (Ok status) ran same whole
+        go left_ran false (rest, later, whole) =
+            let behind = left_ran rest later in
+            subst (RanInputs g h (input ∷ inputs) old new) (sym whole) (record {
+              reads = read_by g h (Ok status) (console old input) (console mid left) own ran ∷ behind.reads;
+              read = (left, run_read g h (Ok status) (console old input) (console mid left) own ran, behind.read);
+              ran = first_ran (Ok status) (console old input) (console mid left) own behind.reads rest new.parts ran behind.ran;
+            })
 
 -- so what they leave is kept
 pub runs_and_keeps : {P S : Type 0} (g : Ghosts P) (h : Ghosts S) (inputs : List (Option (List ℕ))) (ended : Result Status RunFault) (old new : Stage P S) → KeptByRuns g h (IsClean h) → RunsInTurn g h inputs ended old new → RunsAndKeeps g h inputs ended old new
 runs_and_keeps g h inputs ended old new law (cause, all, turns, ends) =
-    let ran = all_ran g h inputs cause old new all turns in
-    (cause, all, turns, ends, ran, λ first held settled clean. law first old.parts new.parts all held settled ran clean)
+    let it = all_ran g h inputs cause old new all turns in
+    (cause, all, turns, ends, it.reads, it.read, it.ran, λ first held settled clean. law first old.parts new.parts it.reads all held settled it.ran clean)
 
 -- ---- the inputs of a command line
 
@@ -182,13 +211,13 @@ closes_as (Ok status) cause all a b n (is, faults, quit) (same, code) =
     go (suc m) (suc n) same = ap code_if (not_none (suc m) (omega arith) ∙ sym (not_none (suc n) (omega arith)))
 
 -- where the disk did what it was told to the end, it did so from the first
-clean_from_first : {P S : Type 0} (g : Ghosts P) (h : Ghosts S) (old new : Parts P S) (all : Effects) → AllRan g h old all new → IsClean h new.full_text → IsClean h old.full_text
-clean_from_first g h old new all ran clean = clean_before h old.full_text new.full_text all.calls (all_made g h old new all ran) clean
+clean_from_first : {P S : Type 0} (g : Ghosts P) (h : Ghosts S) (old new : Parts P S) (reads : List (List ℕ)) (all : Effects) → AllRan g h old reads all new → IsClean h new.full_text → IsClean h old.full_text
+clean_from_first g h old new reads all ran clean = clean_before h old.full_text new.full_text all.calls (all_made g h old new reads all ran) clean
 
 -- the inputs are run over two databases, and then the program ends
 pub runs_over : {P S : Type 0} (g : Ghosts P) (h : Ghosts S) (AreClosed : Parts P S → Type 0) (settings : Settings) (plain : Held P) (store : StoreState S) (made : FullText S) (inputs : List (Option (List ℕ))) (ended : Result Status RunFault) (old new : Outputs) (parts : Parts P S) (last : Stage P S) (status : ℕ) →
     Opens h store made → IsSettled h made → parts ≡ record { settings = settings; plain = plain; full_text = made } → RunsAndKeeps g h inputs ended (record { parts = parts; on = old }) last → AreClosed last.parts → new.out ≡ last.on.out → Closes ended last.on.err new.err status → (it : RunsOver g h settings plain store inputs old new status) × AreClosed it.last.parts
-runs_over {P} {S} g h AreClosed settings plain store made inputs ended old new parts last status opened settled is (cause, all, turns, ends, ran, kept) closed out closes =
+runs_over {P} {S} g h AreClosed settings plain store made inputs ended old new parts last status opened settled is (cause, all, turns, ends, reads, read, ran, kept) closed out closes =
     let end = closes_as ended cause all last.on.err new.err status ends closes in (
       record {
         made = made;
@@ -200,11 +229,13 @@ runs_over {P} {S} g h AreClosed settings plain store made inputs ended old new p
         out = out;
         err = end.0;
         ends = end.1;
-        ran = subst (λ (p : Parts P S). AllRan g h p all last.parts) is ran;
+        reads = reads;
+        read = read;
+        ran = subst (λ (p : Parts P S). AllRan g h p reads all last.parts) is ran;
         kept = λ first held clean.
-            let first_clean : IsClean h made = subst (λ (p : Parts P S). IsClean h p.full_text) is (clean_from_first g h parts last.parts all ran clean) in
+            let first_clean : IsClean h made = subst (λ (p : Parts P S). IsClean h p.full_text) is (clean_from_first g h parts last.parts reads all ran clean) in
             let up : IsUp h made = record { clean = first_clean; is_open = opened.live first_clean } in
-            subst (λ (p : Parts P S). PromiseKept g h first p all last.parts) is
+            subst (λ (p : Parts P S). PromiseKept g h first p reads all last.parts) is
             (kept first (subst (λ (p : Parts P S). Holds h p.full_text first) (sym is) (opened.marks up first held)) (subst (λ (p : Parts P S). IsSettled h p.full_text) (sym is) settled) clean);
       },
       closed,

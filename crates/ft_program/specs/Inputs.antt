@@ -2,6 +2,7 @@
 -- that ends (own choice).
 use Rattle.std.specs.Prelude.{ℕ, ◌≡◌, ◌^◌, ◌-◌, ◌++◌, ◌==◌, min, if◌then◌else◌, MatchBool, MatchResult, List, [], ◌∷◌, map}
 use Rattle.std.specs.Prelude.{codes, Option, Some, None, Result, Ok, Err}
+use Rattle.std.specs.Io.KnownBytes.{Consumes}
 use Rattle.sqlite.specs.Store.{Ghosts}
 use Rattle.sqlite.specs.Held.{Held}
 use Rattle.shell_text.specs.Print.{Settings}
@@ -68,6 +69,13 @@ module _ {P S : Type 0} (g : Ghosts P) (h : Ghosts S) where
       × (all ≡ and_then own rest)))
       (λ fault. (cause ≡ Some fault) × (new ≡ mid) × (all ≡ own))
 
+-- What runs read of inputs: each of the first of these inputs, where its bytes are known, begins
+-- with what was read of it.
+abbrev pub AreRead : List (Option (List ℕ)) → List (List ℕ) → Type 0
+AreRead inputs [] = Unit {0}
+AreRead [] (read ∷ reads) = ⊥
+AreRead (input ∷ inputs) (read ∷ reads) = (left : Option (List ℕ)) × Consumes input left read × AreRead inputs reads
+
 -- ---- the end
 
 -- what is answered of inputs that were run: their fault lines are counted together, up to
@@ -83,8 +91,9 @@ RunsInTurn g h inputs ended old new = (cause : Option RunFault) × (all : Effect
 -- too.
 abbrev pub RunsAndKeeps : {P S : Type 0} → Ghosts P → Ghosts S → List (Option (List ℕ)) → Result Status RunFault → Stage P S → Stage P S → Type 0
 RunsAndKeeps g h inputs ended old new = (cause : Option RunFault) × (all : Effects) × InTurn g h inputs cause old new all × EndsAs ended cause all
-    × AllRan g h old.parts all new.parts × ((first : Contents) → Holds h old.parts.full_text first → IsSettled h old.parts.full_text
-    → IsClean h new.parts.full_text → PromiseKept g h first old.parts all new.parts)
+    × (reads : List (List ℕ)) × AreRead inputs reads × AllRan g h old.parts reads all new.parts
+    × ((first : Contents) → Holds h old.parts.full_text first → IsSettled h old.parts.full_text → IsClean h new.parts.full_text
+    → PromiseKept g h first old.parts reads all new.parts)
 
 -- the program's own line for a fault that ended a run
 abbrev pub own_line : RunFault → List ℕ
@@ -136,6 +145,8 @@ module _ {P S : Type 0} (g : Ghosts P) (h : Ghosts S) where
     pub out : new.out ≡ last.on.out
     pub err : WritesOwn cause last.on.err new.err
     pub ends : status ≡ exit_status cause all
-    pub ran : AllRan g h (record { settings = settings; plain = plain; full_text = made }) all last.parts
+    pub reads : List (List ℕ)
+    pub read : AreRead inputs reads
+    pub ran : AllRan g h (record { settings = settings; plain = plain; full_text = made }) reads all last.parts
     pub kept : (first : Contents) → StoreHolds (value_in h store) first → IsClean h last.parts.full_text
-        → PromiseKept g h first (record { settings = settings; plain = plain; full_text = made }) all last.parts
+        → PromiseKept g h first (record { settings = settings; plain = plain; full_text = made }) reads all last.parts

@@ -35,7 +35,7 @@ pub record FromNothing {D : Type 0} (g : disk.Ghosts D) (settings : Settings) (i
   pub no_store : value_in over_files store ≡ nothing_held
   pub runs : RunsOver over_files over_files settings plain store inputs old new status
   -- nothing is supposed of the disk
-  pub kept : PromiseKept over_files over_files [] (record { settings = settings; plain = plain; full_text = runs.made }) runs.all runs.last.parts
+  pub kept : PromiseKept over_files over_files [] (record { settings = settings; plain = plain; full_text = runs.made }) runs.reads runs.all runs.last.parts
   pub tables : Closed D
   pub texts : Closed D
   pub closed : AreClosed tables texts runs.last.parts

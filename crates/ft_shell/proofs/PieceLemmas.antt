@@ -5,10 +5,10 @@ use Rattle.std.proofs.lemmas.List.{length-drop, length-take-le, take_all}
 use Rattle.sqlite.specs.Store.{Ghosts}
 use Rattle.plain_shell.specs.declared.run.RunFault.{RunFault}
 use Rattle.plain_shell.specs.declared.run.RunFault.TheVariants as causes
-use Rattle.plain_shell.specs.LinesRead.{LinesRead, members_left}
+use Rattle.plain_shell.specs.LinesRead.{LinesRead, Way, at_end, behind, members_left}
 use Rattle.ft_shell.specs.Ran.{Moment, Runs, TakesRead}
-use Rattle.ft_shell.proofs.RanLemmas.{breaks_none, runs_as}
-use Rattle.ft_shell.proofs.RunLemmas.{HasRead, Interrupted, consumes_none, nil_of, some_or_none}
+use Rattle.ft_shell.proofs.RanLemmas.{runs_as}
+use Rattle.ft_shell.proofs.RunLemmas.{HasRead, Interrupted, nil_of, some_or_none}
 
 -- as many bytes as there is room for
 front_within : (room k : ℕ) (bytes : List ℕ) → k ≡ min (length bytes) room → take room bytes ≡ take k bytes
@@ -27,14 +27,14 @@ chunk_kept size given items full some =
 module _ {P S : Type 0} (g : Ghosts P) (h : Ghosts S) where
   -- what was read is taken
   pub takes_some : {T : Type 0} (r : Result T RunFault) (room k : ℕ) (bytes : List ℕ) (fed left : LinesRead) (a b : Moment P S) → length bytes ≢ 0 → k ≡ min (length bytes) room →
-      Runs g h r (λ (rest : List ℕ). members_left fed (take k bytes ++ rest)) (λ (rest : List ℕ). members_left left rest) a b → TakesRead g h r room bytes fed left a b
+      Runs g h r (λ (way : Way). members_left fed (behind (take k bytes) way)) (members_left left) a b → TakesRead g h r room bytes fed left a b
   takes_some r room k bytes fed left a b some size runs = record {
-    goes = λ _. runs_as g h r _ _ _ _ (λ (rest : List ℕ). rest) a b (λ rest. ap (λ xs. members_left fed (xs ++ rest)) (front_within room k bytes size)) (λ rest goes. refl) runs;
+    goes = λ _. runs_as g h r _ _ _ _ (λ (way : Way). way) a b (λ way. ap (λ xs. members_left fed (behind xs way)) (front_within room k bytes size)) (λ way goes. refl) runs;
     ends = λ none. absurd (some none);
   }
 
   -- nothing was read, so that what is left is done
-  pub takes_none : {T : Type 0} (r : Result T RunFault) (room : ℕ) (bytes : List ℕ) (fed left : LinesRead) (a b : Moment P S) → length bytes ≡ 0 → Runs g h r (λ (_ : Unit {0}). members_left fed []) (λ _. []) a b → TakesRead g h r room bytes fed left a b
+  pub takes_none : {T : Type 0} (r : Result T RunFault) (room : ℕ) (bytes : List ℕ) (fed left : LinesRead) (a b : Moment P S) → length bytes ≡ 0 → Runs g h r (λ (_ : Unit {0}). members_left fed at_end) (λ _. []) a b → TakesRead g h r room bytes fed left a b
   takes_none r room bytes fed left a b none runs = record { goes = λ some. absurd (omega (arith, some, none)); ends = λ _. runs }
 
   -- a piece was taken
@@ -48,20 +48,11 @@ module _ {P S : Type 0} (g : Ghosts P) (h : Ghosts S) where
     ends = λ none. let no_bytes : length bytes ≡ 0 = omega (arith, none, is) in (at_end (nil_of bytes no_bytes), takes.ends no_bytes);
   }
 
-  -- the reader failed
-  pub interrupted_unread : (fault : RunFault) (room : ℕ) (before after : Option (List ℕ)) (fed : LinesRead) (a : Moment P S) → fault ≡ causes.Read → Keeps before after → Interrupted g h fault room before after fed a a
-  interrupted_unread fault room before after fed a cause kept = record {
-    bytes = [];
-    consumed = consumes_none before after kept;
-    cause = inr (cause, refl);
-    breaks = inl (breaks_none g h fault _ a);
-  }
-
   -- what is done with a piece was cut short, or what is done at the end
   pub interrupted_taking : {T : Type 0} (fault : RunFault) (room : ℕ) (bytes : List ℕ) (before after : Option (List ℕ)) (fed left : LinesRead) (a b : Moment P S) → Consumes before after bytes → (bytes ≡ [] → IsAtEnd after) →
       TakesRead g h {T = T} (Err fault) room bytes fed left a b → Interrupted g h fault room before after fed a b
   interrupted_taking fault room bytes before after fed left a b consumed at_end takes = go (some_or_none (length bytes))
     where
       go : (length bytes ≡ 0) ⊎ (0 < length bytes) → Interrupted g h fault room before after fed a b
-      go (inl none) = let broken = takes.ends none in record { bytes = bytes; consumed = consumed; cause = inl broken.1; breaks = inr (nil_of bytes none, at_end (nil_of bytes none), broken.0) }
-      go (inr some) = let broken = takes.goes some in record { bytes = bytes; consumed = consumed; cause = inl broken.1; breaks = inl broken.0 }
+      go (inl none) = let broken = takes.ends none in record { bytes = bytes; consumed = consumed; cause = broken.1; breaks = inr (nil_of bytes none, at_end (nil_of bytes none), broken.0) }
+      go (inr some) = let broken = takes.goes some in record { bytes = bytes; consumed = consumed; cause = broken.1; breaks = inl broken.0 }

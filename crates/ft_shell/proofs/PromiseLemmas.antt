@@ -1,6 +1,7 @@
 -- What runs leave, by the calls that their turns made.
 use Rattle.std.proofs.Common.{◌≡◌, ℕ, Bool, true, false, List, [], ◌∷◌, ◌++◌, Option, Some, None, Result, Ok, Err, refl, ap, sym, subst, ◌∙◌, ◌⊎◌, inl, inr, append-nil, append_assoc, ◌^◌}
-use Rattle.std.specs.Prelude.{IsTrue, MatchBool, map, take}
+use Rattle.std.specs.Prelude.{IsTrue, MatchBool, drop, map, take}
+use Rattle.std.proofs.lemmas.List.{take-append-drop}
 use Rattle.sqlite.specs.Store.{Ghosts}
 use Rattle.shell_text.specs.Print.{Settings}
 use Rattle.shell_text.specs.Dot.{dot_words_of}
@@ -29,11 +30,11 @@ use Rattle.plain_shell.specs.Outcomes.{Answer, Outcome, Tells, says, echoed, lac
 use Rattle.ft_shell.specs.Effects.{Effects, idle, and_then, outcome_in}
 use Rattle.plain_shell.specs.DotParts.{after_stop}
 use Rattle.ft_shell.proofs.Spelled.{MayNote, MayRead, CallsOf, CallsOfClass, CallsOfDot, CallsOfImport}
-use Rattle.ft_shell.specs.Turns.{Turn, Turns}
+use Rattle.ft_shell.specs.Turns.{Begins, Turn, Turns}
 use Rattle.ft_shell.specs.Ran.{Ends}
 use Rattle.ft_shell.specs.Runs.{Console, IsFront, IsWhole}
 use Rattle.ft_index.specs.Crashes.{IsSettled}
-use Rattle.ft_shell.specs.Promise.{IsClean, Ran, AllRan, none_ran, last_ran, first_ran, Reached, Lists, KeptByRuns, RanAndKept, parts_of}
+use Rattle.ft_shell.specs.Promise.{IsClean, Ran, AllRan, none_ran, last_ran, first_ran, Reached, Lists, KeptByRuns, RanAndKept, parts_of, read_by}
 use Rattle.ft_shell.proofs.CallsLemmas.{runs_join, turn_spelled, turns_made}
 use Rattle.ft_shell.proofs.TurnsLemmas.{assoc_then, idle_then, turns_one, turns_then}
 use Rattle.ft_shell.specs.Broken.{Broken, not_begun, not_echoed, not_told}
@@ -151,14 +152,14 @@ few_is calls before more command answer (inr (c, a, one)) is = go before (sym on
 
 module _ {P S : Type 0} (g : Ghosts P) (h : Ghosts S) where
   -- a call's turn, among others, with what the turns before it did
-  record At (Reaches : Effects → Shell P S → Type 0) (all : Effects) (before : List Call) (command : Command) (answer : Result Reply Fault) (more : List Call) (new : FullText S) : Type 0 where
+  record At (Reaches : Effects → Shell P S → Member → Type 0) (all : Effects) (before : List Call) (command : Command) (answer : Result Reply Fault) (more : List Call) (new : FullText S) : Type 0 where
     member : Member
     was : Shell P S
     now : Shell P S
     earlier : Effects
     own : Effects
     later : Effects
-    reached : Reaches earlier was
+    reached : Reaches earlier was member
     calls : earlier.calls ≡ before
     turn : Turn g h member was now own
     only : own.calls ≡ Executed command answer ∷ []
@@ -167,15 +168,18 @@ module _ {P S : Type 0} (g : Ghosts P) (h : Ghosts S) where
     out : all.out ≡ earlier.out ++ (own.out ++ later.out)
     err : all.err ≡ earlier.err ++ (own.err ++ later.err)
 
-  -- turns from this shell
-  abbrev From : Shell P S → Effects → Shell P S → Type 0
-  From old earlier was = (members : List Member) × Turns g h members old was earlier
+  -- turns from this shell, of those of these members that stand before one
+  record From (members : List Member) (old : Shell P S) (earlier : Effects) (was : Shell P S) (next : Member) : Type 0 where
+    done : List Member
+    rest : List Member
+    stands : members ≡ done ++ next ∷ rest
+    turns : Turns g h done old was earlier
 
-  at_turn : (members : List Member) (old new : Shell P S) (all : Effects) → Turns g h members old new all → (before more : List Call) (command : Command) (answer : Result Reply Fault) → all.calls ≡ before ++ Executed command answer ∷ more → At (From old) all before command answer more new.full_text
+  at_turn : (members : List Member) (old new : Shell P S) (all : Effects) → Turns g h members old new all → (before more : List Call) (command : Command) (answer : Result Reply Fault) → all.calls ≡ before ++ Executed command answer ∷ more → At (From members old) all before command answer more new.full_text
   at_turn [] old new all it before more command answer is = absurd (no_more before more (Executed command answer) (sym (ap (λ (d : Effects). d.calls) it.1) ∙ is))
   at_turn (member ∷ members) old new all (mid, first, turn, rest) before more command answer is = go (λ later turns b e. at_turn members mid new later turns b more command answer e) first.ends refl rest
     where
-      here : first.calls ≡ before ++ Executed command answer ∷ [] → before ≡ [] → Runs h mid.full_text more new.full_text → (later : Effects) → later.calls ≡ more → all.out ≡ first.out ++ later.out → all.err ≡ first.err ++ later.err → At (From old) all before command answer more new.full_text
+      here : first.calls ≡ before ++ Executed command answer ∷ [] → before ≡ [] → Runs h mid.full_text more new.full_text → (later : Effects) → later.calls ≡ more → all.out ≡ first.out ++ later.out → all.err ≡ first.err ++ later.err → At (From (member ∷ members) old) all before command answer more new.full_text
       here own no_front ends later behind out err = record {
         member = member;
         was = old;
@@ -183,7 +187,7 @@ module _ {P S : Type 0} (g : Ghosts P) (h : Ghosts S) where
         earlier = idle;
         own = first;
         later = later;
-        reached = ([], (refl, refl));
+        reached = record { done = []; rest = members; stands = refl; turns = (refl, refl) };
         calls = sym no_front;
         turn = turn;
         only = own ∙ ap (λ b. b ++ Executed command answer ∷ []) no_front;
@@ -193,8 +197,8 @@ module _ {P S : Type 0} (g : Ghosts P) (h : Ghosts S) where
         err = err;
       }
 
-      go : ((later : Effects) → Turns g h members mid new later → (b : List Call) → later.calls ≡ b ++ Executed command answer ∷ more → At (From mid) later b command answer more new.full_text) → (stops : Bool) → first.ends ≡ stops →
-          MatchBool stops ((new ≡ mid) × (all ≡ first)) ((later : Effects) × Turns g h members mid new later × (all ≡ and_then first later)) → At (From old) all before command answer more new.full_text
+      go : ((later : Effects) → Turns g h members mid new later → (b : List Call) → later.calls ≡ b ++ Executed command answer ∷ more → At (From members mid) later b command answer more new.full_text) → (stops : Bool) → first.ends ≡ stops →
+          MatchBool stops ((new ≡ mid) × (all ≡ first)) ((later : Effects) × Turns g h members mid new later × (all ≡ and_then first later)) → At (From (member ∷ members) old) all before command answer more new.full_text
       go next true ended (same, all_is) =
           let own : first.calls ≡ before ++ Executed command answer ∷ more = sym (ap (λ (d : Effects). d.calls) all_is) ∙ is in
           let alone = few_is first.calls before more command answer (few member old turn.body first.calls (turn_spelled g h member old mid first turn)) own in
@@ -202,7 +206,7 @@ module _ {P S : Type 0} (g : Ghosts P) (h : Ghosts S) where
           (ap (λ (d : Effects). d.out) all_is ∙ sym (append-nil first.out)) (ap (λ (d : Effects). d.err) all_is ∙ sym (append-nil first.err))
       go next false goes (later, turns, all_is) = cut (split_at first.calls later.calls before more (Executed command answer) (sym (ap (λ (d : Effects). d.calls) all_is) ∙ is))
         where
-          cut : ((m : List Call) × (first.calls ≡ before ++ Executed command answer ∷ m) × (more ≡ m ++ later.calls)) ⊎ ((b : List Call) × (before ≡ first.calls ++ b) × (later.calls ≡ b ++ Executed command answer ∷ more)) → At (From old) all before command answer more new.full_text
+          cut : ((m : List Call) × (first.calls ≡ before ++ Executed command answer ∷ m) × (more ≡ m ++ later.calls)) ⊎ ((b : List Call) × (before ≡ first.calls ++ b) × (later.calls ≡ b ++ Executed command answer ∷ more)) → At (From (member ∷ members) old) all before command answer more new.full_text
           cut (inl (m, own, left)) =
               let alone = few_is first.calls before m command answer (few member old turn.body first.calls (turn_spelled g h member old mid first turn)) own in
               here (own ∙ ap (λ k. before ++ Executed command answer ∷ k) alone.1) alone.0 (subst (λ k. Runs h mid.full_text k new.full_text) (sym (left ∙ ap (λ k. k ++ later.calls) alone.1)) (turns_made g h members mid new later turns)) later (sym (left ∙ ap (λ k. k ++ later.calls) alone.1))
@@ -216,7 +220,12 @@ module _ {P S : Type 0} (g : Ghosts P) (h : Ghosts S) where
                 earlier = and_then first it.earlier;
                 own = it.own;
                 later = it.later;
-                reached = (member ∷ it.reached.0, (mid, first, turn, subst (λ ends. MatchBool ends ((it.was ≡ mid) × (and_then first it.earlier ≡ first)) ((rest : Effects) × Turns g h it.reached.0 mid it.was rest × (and_then first it.earlier ≡ and_then first rest))) (sym goes) (it.earlier, it.reached.1, refl)));
+                reached = record {
+                  done = member ∷ it.reached.done;
+                  rest = it.reached.rest;
+                  stands = ap (λ ms. member ∷ ms) it.reached.stands;
+                  turns = (mid, first, turn, subst (λ ends. MatchBool ends ((it.was ≡ mid) × (and_then first it.earlier ≡ first)) ((rest : Effects) × Turns g h it.reached.done mid it.was rest × (and_then first it.earlier ≡ and_then first rest))) (sym goes) (it.earlier, it.reached.turns, refl));
+                };
                 calls = ap (λ cs. first.calls ++ cs) it.calls ∙ sym front;
                 turn = it.turn;
                 only = it.only;
@@ -228,44 +237,77 @@ module _ {P S : Type 0} (g : Ghosts P) (h : Ghosts S) where
 
 -- ---- runs
 
-whole_made : {P S : Type 0} (g : Ghosts P) (h : Ghosts S) (left : Option (List ℕ)) (bytes : List ℕ) (old new : Shell P S) (all : Effects) → IsWhole g h left bytes old new all → (members : List Member) × Turns g h members old new all
-whole_made g h left bytes old new all (inl it) = (members_of bytes, it.2)
-whole_made g h left bytes old new all (inr it) = (members_of (take (2 ^ 30) bytes ++ []), it.1 [])
+-- turns of members that stand first in what was read
+record Made {P S : Type 0} (g : Ghosts P) (h : Ghosts S) (read : List ℕ) (old new : Shell P S) (all : Effects) : Type 0 where
+  members : List Member
+  rest : List Member
+  stands : members_of read ≡ members ++ rest
+  turns : Turns g h members old new all
 
-front_made : {P S : Type 0} (g : Ghosts P) (h : Ghosts S) (left : Option (List ℕ)) (bytes : List ℕ) (old new : Shell P S) (all : Effects) (next : List Member) → IsFront g h left bytes old new all next → (members : List Member) × Turns g h members old new all
-front_made g h left bytes old new all next (inl it) = (take it.1.0 (members_of bytes), it.1.1)
-front_made g h left bytes old new all next (inr it) = let begins = it [] in (take begins.0 (members_of (bytes ++ [])), begins.1)
+whole_made : {P S : Type 0} (g : Ghosts P) (h : Ghosts S) (left : Option (List ℕ)) (read : List ℕ) (old new : Shell P S) (all : Effects) → IsWhole g h left read old new all → Made g h read old new all
+whole_made g h left read old new all (inl it) = record { members = members_of read; rest = []; stands = sym (append-nil (members_of read)); turns = it.2 }
+whole_made g h left read old new all (inr it) = record {
+  members = members_of (take (2 ^ 30) read ++ drop (2 ^ 30) read);
+  rest = [];
+  stands = ap members_of (sym (take-append-drop (2 ^ 30) read)) ∙ sym (append-nil (members_of (take (2 ^ 30) read ++ drop (2 ^ 30) read)));
+  turns = it.1 (drop (2 ^ 30) read);
+}
+
+-- of a front of the turns, what begins it
+front_begins : {P S : Type 0} (g : Ghosts P) (h : Ghosts S) (left : Option (List ℕ)) (read : List ℕ) (old new : Shell P S) (all : Effects) (next : List Member) → IsFront g h left read old new all next → Begins g h read old new all next
+front_begins g h left read old new all next (inl it) = it.1
+front_begins g h left read old new all next (inr it) = subst (λ bytes. Begins g h bytes old new all next) (append-nil read) (it [])
 
 -- with the turn that was done, and not told whole
-broken_made : {P S : Type 0} (g : Ghosts P) (h : Ghosts S) (fault : RunFault) (whole : Effects) (members : List Member) (old mid new : Shell P S) (out out' err err' : Option (List ℕ)) (next : List Member) (all : Effects) →
-    Turns g h members old mid whole → Broken g h fault whole mid new out out' err err' next all → (done : List Member) × Turns g h done old new all
-broken_made g h fault whole members old mid new out out' err err' next all turns (not_begun same no_out no_err) = (members, subst (λ s. Turns g h members old s whole) (sym same) turns)
-broken_made g h fault whole members old mid new out out' err err' next all turns (not_echoed member goes cause same part no_err) = (members, subst (λ s. Turns g h members old s whole) (sym same) turns)
-broken_made g h fault whole members old mid new out out' err err' next all turns (not_told member own front rest goes cause turn is written lines) =
-    (members ++ member ∷ [], turns_then g h members (member ∷ []) old mid new whole own turns goes (turns_one g h member mid new own turn))
+broken_made : {P S : Type 0} (g : Ghosts P) (h : Ghosts S) (fault : RunFault) (whole : Effects) (read : List ℕ) (old mid new : Shell P S) (out out' err err' : Option (List ℕ)) (next : List Member) (all : Effects) →
+    Begins g h read old mid whole next → Broken g h fault whole mid new out out' err err' next all → Made g h read old new all
+broken_made {P} {S} g h fault whole read old mid new out out' err err' next all begins broken = go next all begins.3 broken
+  where
+    front : List Member
+    front = take begins.0 (members_of read)
+
+    undone : (next : List Member) → drop begins.0 (members_of read) ≡ next ++ begins.2 → new ≡ mid → Made g h read old new whole
+    undone next left same = record {
+      members = front;
+      rest = drop begins.0 (members_of read);
+      stands = sym (take-append-drop begins.0 (members_of read));
+      turns = subst (λ s. Turns g h front old s whole) (sym same) begins.1;
+    }
+
+    go : (next : List Member) (all : Effects) → drop begins.0 (members_of read) ≡ next ++ begins.2 → Broken g h fault whole mid new out out' err err' next all → Made g h read old new all
+    go next all left (not_begun same no_out no_err) = undone [] left same
+    go next all left (not_echoed member goes cause same part no_err) = undone (member ∷ []) left same
+    go next all left (not_told member own told rest goes cause turn is written lines) = record {
+      members = front ++ member ∷ [];
+      rest = begins.2;
+      stands = sym (take-append-drop begins.0 (members_of read)) ∙ ap (λ ms. front ++ ms) left ∙ sym (append_assoc front (member ∷ []) begins.2);
+      turns = turns_then g h front (member ∷ []) old mid new whole own begins.1 goes (turns_one g h member mid new own turn);
+    }
+
+made_as : {P S : Type 0} (g : Ghosts P) (h : Ghosts S) (read : List ℕ) (old new : Shell P S) (all due : Effects) → due ≡ all → Made g h read old new all → Made g h read old new due
+made_as g h read old new all due is made = subst (Made g h read old new) (sym is) made
 
 -- the turns of a run, however it ended
-ran_turns : {P S : Type 0} (g : Ghosts P) (h : Ghosts S) (ended : Result Status RunFault) (old new : Console P S) (all : Effects) → Ran g h ended old new all → (members : List Member) × Turns g h members old.shell new.shell all
-ran_turns g h (Ok status) old new all (it, is) = let made = whole_made g h new.input it.read old.shell new.shell it.effects it.turns in (made.0, subst (Turns g h made.0 old.shell new.shell) (sym is) made.1)
+ran_turns : {P S : Type 0} (g : Ghosts P) (h : Ghosts S) (ended : Result Status RunFault) (old new : Console P S) (all : Effects) (ran : Ran g h ended old new all) → Made g h (read_by g h ended old new all ran) old.shell new.shell all
+ran_turns g h (Ok status) old new all (it, is) = made_as g h it.read old.shell new.shell it.effects all is (whole_made g h new.input it.read old.shell new.shell it.effects it.turns)
 ran_turns g h (Err fault) old new all (it, is) =
-    let front = front_made g h new.input it.read old.shell it.mid it.whole it.next it.turns in
-    let made = broken_made g h fault it.whole front.0 old.shell it.mid new.shell it.mid_out new.out it.mid_err new.err it.next it.effects front.1 it.broken in
-    (made.0, subst (Turns g h made.0 old.shell new.shell) (sym is) made.1)
+    made_as g h it.read old.shell new.shell it.effects all is
+    (broken_made g h fault it.whole it.read old.shell it.mid new.shell it.mid_out new.out it.mid_err new.err it.next it.effects (front_begins g h new.input it.read old.shell it.mid it.whole it.next it.turns) it.broken)
 
 ran_made : {P S : Type 0} (g : Ghosts P) (h : Ghosts S) (ended : Result Status RunFault) (old new : Console P S) (all : Effects) → Ran g h ended old new all → Runs h old.shell.full_text all.calls new.shell.full_text
-ran_made g h ended old new all ran = let it = ran_turns g h ended old new all ran in turns_made g h it.0 old.shell new.shell all it.1
+ran_made g h ended old new all ran = let it = ran_turns g h ended old new all ran in turns_made g h it.members old.shell new.shell all it.turns
 
-pub all_made : {P S : Type 0} (g : Ghosts P) (h : Ghosts S) (old new : Parts P S) (all : Effects) → AllRan g h old all new → Runs h old.full_text all.calls new.full_text
-all_made g h old new all (none_ran parts) = refl
-all_made g h old new all (last_ran ended from to own ran) = ran_made g h ended from to own ran
-all_made g h old new all (first_ran ended from to own rest last ran later) =
-    runs_join h from.shell.full_text to.shell.full_text last.full_text own.calls rest.calls (ran_made g h ended from to own ran) (all_made g h (parts_of to.shell) last rest later)
+pub all_made : {P S : Type 0} (g : Ghosts P) (h : Ghosts S) (old new : Parts P S) (reads : List (List ℕ)) (all : Effects) → AllRan g h old reads all new → Runs h old.full_text all.calls new.full_text
+all_made g h old new reads all (none_ran parts) = refl
+all_made g h old new reads all (last_ran ended from to own ran) = ran_made g h ended from to own ran
+all_made g h old new reads all (first_ran ended from to own others rest last ran later) =
+    runs_join h from.shell.full_text to.shell.full_text last.full_text own.calls rest.calls (ran_made g h ended from to own ran) (all_made g h (parts_of to.shell) last others rest later)
 
 -- in a run, after none
-at_run : {P S : Type 0} (g : Ghosts P) (h : Ghosts S) (ended : Result Status RunFault) (from to : Console P S) (all : Effects) → Ran g h ended from to all → (before more : List Call) (command : Command) (answer : Result Reply Fault) → all.calls ≡ before ++ Executed command answer ∷ more → At g h (Reached g h (parts_of from.shell)) all before command answer more to.shell.full_text
-at_run g h ended from to all ran before more command answer is =
+at_run : {P S : Type 0} (g : Ghosts P) (h : Ghosts S) (ended : Result Status RunFault) (from to : Console P S) (all : Effects) (ran : Ran g h ended from to all) (others : List (List ℕ)) → (before more : List Call) (command : Command) (answer : Result Reply Fault) → all.calls ≡ before ++ Executed command answer ∷ more → At g h (Reached g h (parts_of from.shell) (read_by g h ended from to all ran ∷ others)) all before command answer more to.shell.full_text
+at_run g h ended from to all ran others before more command answer is =
     let turns = ran_turns g h ended from to all ran in
-    let it = at_turn g h turns.0 from.shell to.shell all turns.1 before more command answer is in
+    let it = at_turn g h turns.members from.shell to.shell all turns.turns before more command answer is in
     record {
       member = it.member;
       was = it.was;
@@ -273,7 +315,21 @@ at_run g h ended from to all ran before more command answer is =
       earlier = it.earlier;
       own = it.own;
       later = it.later;
-      reached = record { whole = idle; start = from.shell; ran = none_ran (parts_of from.shell); members = it.reached.0; part = it.earlier; turns = it.reached.1; both = sym (idle_then it.earlier) };
+      reached = record {
+        before = [];
+        whole = idle;
+        start = from.shell;
+        ran = none_ran (parts_of from.shell);
+        read = read_by g h ended from to all ran;
+        more = others;
+        inputs = refl;
+        members = it.reached.done;
+        rest = it.reached.rest ++ turns.rest;
+        stands = turns.stands ∙ ap (λ ms. ms ++ turns.rest) it.reached.stands ∙ append_assoc it.reached.done (it.member ∷ it.reached.rest) turns.rest;
+        part = it.earlier;
+        turns = it.reached.turns;
+        both = sym (idle_then it.earlier);
+      };
       calls = it.calls;
       turn = it.turn;
       only = it.only;
@@ -283,15 +339,15 @@ at_run g h ended from to all ran before more command answer is =
       err = it.err;
     }
 
-at_all : {P S : Type 0} (g : Ghosts P) (h : Ghosts S) (old new : Parts P S) (all : Effects) → AllRan g h old all new → (before more : List Call) (command : Command) (answer : Result Reply Fault) → all.calls ≡ before ++ Executed command answer ∷ more → At g h (Reached g h old) all before command answer more new.full_text
-at_all g h old new all (none_ran parts) before more command answer is = absurd (no_more before more (Executed command answer) is)
-at_all g h old new all (last_ran ended from to own ran) before more command answer is = at_run g h ended from to own ran before more command answer is
-at_all {P} {S} g h old new all (first_ran ended from to own rest last ran others) before more command answer is = cut (λ b left. at_all g h (parts_of to.shell) last rest others b more command answer left) (split_at own.calls rest.calls before more (Executed command answer) is)
+at_all : {P S : Type 0} (g : Ghosts P) (h : Ghosts S) (old new : Parts P S) (reads : List (List ℕ)) (all : Effects) → AllRan g h old reads all new → (before more : List Call) (command : Command) (answer : Result Reply Fault) → all.calls ≡ before ++ Executed command answer ∷ more → At g h (Reached g h old reads) all before command answer more new.full_text
+at_all g h old new reads all (none_ran parts) before more command answer is = absurd (no_more before more (Executed command answer) is)
+at_all g h old new reads all (last_ran ended from to own ran) before more command answer is = at_run g h ended from to own ran [] before more command answer is
+at_all {P} {S} g h old new reads all (first_ran ended from to own inputs rest last ran others) before more command answer is = cut (λ b left. at_all g h (parts_of to.shell) last inputs rest others b more command answer left) (split_at own.calls rest.calls before more (Executed command answer) is)
   where
-    cut : ((b : List Call) → rest.calls ≡ b ++ Executed command answer ∷ more → At g h (Reached g h (parts_of to.shell)) rest b command answer more last.full_text) → ((m : List Call) × (own.calls ≡ before ++ Executed command answer ∷ m) × (more ≡ m ++ rest.calls)) ⊎ ((b : List Call) × (before ≡ own.calls ++ b) × (rest.calls ≡ b ++ Executed command answer ∷ more)) →
-        At g h (Reached g h (parts_of from.shell)) (and_then own rest) before command answer more last.full_text
+    cut : ((b : List Call) → rest.calls ≡ b ++ Executed command answer ∷ more → At g h (Reached g h (parts_of to.shell) inputs) rest b command answer more last.full_text) → ((m : List Call) × (own.calls ≡ before ++ Executed command answer ∷ m) × (more ≡ m ++ rest.calls)) ⊎ ((b : List Call) × (before ≡ own.calls ++ b) × (rest.calls ≡ b ++ Executed command answer ∷ more)) →
+        At g h (Reached g h (parts_of from.shell) (read_by g h ended from to own ran ∷ inputs)) (and_then own rest) before command answer more last.full_text
     cut next (inl (m, mine, left)) =
-        let it = at_run g h ended from to own ran before m command answer mine in
+        let it = at_run g h ended from to own ran inputs before m command answer mine in
         record {
           member = it.member;
           was = it.was;
@@ -304,7 +360,7 @@ at_all {P} {S} g h old new all (first_ran ended from to own rest last ran others
           turn = it.turn;
           only = it.only;
           behind = ap (λ k. k ++ rest.calls) it.behind ∙ sym left;
-          ends = subst (λ k. Runs h it.now.full_text k last.full_text) (sym left) (runs_join h it.now.full_text to.shell.full_text last.full_text m rest.calls it.ends (all_made g h (parts_of to.shell) last rest others));
+          ends = subst (λ k. Runs h it.now.full_text k last.full_text) (sym left) (runs_join h it.now.full_text to.shell.full_text last.full_text m rest.calls it.ends (all_made g h (parts_of to.shell) last inputs rest others));
           out = behind it.earlier.out it.own.out it.later.out rest.out it.out;
           err = behind it.earlier.err it.own.err it.later.err rest.err it.err;
         }
@@ -321,7 +377,21 @@ at_all {P} {S} g h old new all (first_ran ended from to own rest last ran others
           earlier = and_then own it.earlier;
           own = it.own;
           later = it.later;
-          reached = record { whole = and_then own r.whole; start = r.start; ran = first_ran ended from to own r.whole (parts_of r.start) ran r.ran; members = r.members; part = r.part; turns = r.turns; both = ap (and_then own) r.both ∙ sym (assoc_then own r.whole r.part) };
+          reached = record {
+            before = read_by g h ended from to own ran ∷ r.before;
+            whole = and_then own r.whole;
+            start = r.start;
+            ran = first_ran ended from to own r.before r.whole (parts_of r.start) ran r.ran;
+            read = r.read;
+            more = r.more;
+            inputs = ap (λ rs. read_by g h ended from to own ran ∷ rs) r.inputs;
+            members = r.members;
+            rest = r.rest;
+            stands = r.stands;
+            part = r.part;
+            turns = r.turns;
+            both = ap (and_then own) r.both ∙ sym (assoc_then own r.whole r.part);
+          };
           calls = ap (λ cs. own.calls ++ cs) it.calls ∙ sym front;
           turn = it.turn;
           only = it.only;
@@ -375,13 +445,13 @@ module _ (table : List ℕ) (items : Items) (filter : Filter) (limit : Option �
       go true it = absurd (not_none (none_of selected it))
       go false it = select_class old.settings told (made_name (tokens_of text)) (class_of (table_names old.full_text) (tokens_of text)) it
 
-  select_lists : {P S : Type 0} (g : Ghosts P) (h : Ghosts S) (old new : Parts P S) (all : Effects) (before more : List Call) → At g h (Reached g h old) all before (Select table items filter limit offset) (Ok reply) more new.full_text → Lists g h old all before (Select table items filter limit offset) reply more new
-  select_lists {P} {S} g h old new all before more it = go it.member it.turn
+  select_lists : {P S : Type 0} (g : Ghosts P) (h : Ghosts S) (old new : Parts P S) (reads : List (List ℕ)) (all : Effects) (before more : List Call) → At g h (Reached g h old reads) all before (Select table items filter limit offset) (Ok reply) more new.full_text → Lists g h old reads all before (Select table items filter limit offset) reply more new
+  select_lists {P} {S} g h old new reads all before more it = go it.member it.turn it.reached
     where
-      go : (member : Member) → Turn g h member it.was it.now it.own → Lists g h old all before (Select table items filter limit offset) reply more new
-      go (units.Fault line fault) turn = absurd (not_none (none_of selected (sym it.only ∙ turn_spelled g h (units.Fault line fault) it.was it.now it.own turn)))
-      go (Dot line text) turn = absurd (select_dot it.was turn.body (dot_command_of (dot_words_of (after_stop text))) (subst (λ calls. CallsOfDot it.was turn.body calls (dot_command_of (dot_words_of (after_stop text)))) it.only (turn_spelled g h (Dot line text) it.was it.now it.own turn)))
-      go (Sql line text) turn = record {
+      go : (member : Member) → Turn g h member it.was it.now it.own → Reached g h old reads it.earlier it.was member → Lists g h old reads all before (Select table items filter limit offset) reply more new
+      go (units.Fault line fault) turn reached = absurd (not_none (none_of selected (sym it.only ∙ turn_spelled g h (units.Fault line fault) it.was it.now it.own turn)))
+      go (Dot line text) turn reached = absurd (select_dot it.was turn.body (dot_command_of (dot_words_of (after_stop text))) (subst (λ calls. CallsOfDot it.was turn.body calls (dot_command_of (dot_words_of (after_stop text)))) it.only (turn_spelled g h (Dot line text) it.was it.now it.own turn)))
+      go (Sql line text) turn reached = record {
         line = line;
         text = text;
         was = it.was;
@@ -389,7 +459,7 @@ module _ (table : List ℕ) (items : Items) (filter : Filter) (limit : Option �
         earlier = it.earlier;
         own = it.own;
         later = it.later;
-        reached = it.reached;
+        reached = reached;
         calls_before = it.calls;
         turn = turn;
         one_call = it.only;
@@ -410,21 +480,21 @@ module _ (table : List ℕ) (items : Items) (filter : Filter) (limit : Option �
 -- ---- the promise
 
 pub kept_by_runs : {P S : Type 0} (g : Ghosts P) (h : Ghosts S) → KeptByCalls h → NoneGetsUnsound → KeptByRuns g h (IsClean h)
-kept_by_runs g h law sound first old new all held settled ran clean = record {
+kept_by_runs g h law sound first old new reads all held settled ran clean = record {
   calls = kept;
   sound = λ id. sound first (accepted all.calls) id;
   lists = λ before more table items filter limit offset reply is.
       let select = Select table items filter limit offset in
       let behind = kept.stands before more (Executed select (Ok reply)) is refl in (
         reply_is (left_by first (accepted before)) select reply (answer_at first before [] select (Ok reply) behind.3.answered),
-        select_lists table items filter limit offset reply g h old new all before more (at_all g h old new all ran before more select (Ok reply) is),
+        select_lists table items filter limit offset reply g h old new reads all before more (at_all g h old new reads all ran before more select (Ok reply) is),
       );
 }
   where
     kept : CallsKept h first old.full_text all.calls new.full_text
-    kept = law old.full_text new.full_text all.calls first clean held settled (all_made g h old new all ran)
+    kept = law old.full_text new.full_text all.calls first clean held settled (all_made g h old new reads all ran)
 
 -- one run, however it ends
 pub ran_and_kept : {P S : Type 0} (g : Ghosts P) (h : Ghosts S) (ended : Result Status RunFault) (old new : Console P S) → Ends g h ended old new → IsSettled h old.shell.full_text → KeptByRuns g h (IsClean h) → RanAndKept g h ended old new
-ran_and_kept g h (Ok status) old new ran settled law = (ran.effects, (ran, refl), λ first held clean. law first (parts_of old.shell) (parts_of new.shell) ran.effects held settled (last_ran (Ok status) old new ran.effects (ran, refl)) clean)
-ran_and_kept g h (Err fault) old new cut settled law = (cut.effects, (cut, refl), λ first held clean. law first (parts_of old.shell) (parts_of new.shell) cut.effects held settled (last_ran (Err fault) old new cut.effects (cut, refl)) clean)
+ran_and_kept g h (Ok status) old new ran settled law = (ran.effects, (ran, refl), λ first held clean. law first (parts_of old.shell) (parts_of new.shell) (ran.read ∷ []) ran.effects held settled (last_ran (Ok status) old new ran.effects (ran, refl)) clean)
+ran_and_kept g h (Err fault) old new cut settled law = (cut.effects, (cut, refl), λ first held clean. law first (parts_of old.shell) (parts_of new.shell) (cut.read ∷ []) cut.effects held settled (last_ran (Err fault) old new cut.effects (cut, refl)) clean)

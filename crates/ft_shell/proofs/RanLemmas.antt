@@ -82,7 +82,7 @@ broken_after g h fault first whole old new out out' err err' next all (not_echoe
 broken_after g h fault first whole old new out out' err err' next all (not_told member own front rest goes cause turn is written lines) =
     subst (Broken g h fault (and_then first whole) old new out out' err err' (member ∷ [])) (assoc_then first whole own) (not_told member own front rest goes cause turn is written lines)
 
-cut_whole : {P S : Type 0} (g : Ghosts P) (h : Ghosts S) (fault : RunFault) (members : List Member) (a b : Moment P S) → Did g h members a b → Cut g h fault members [] a b
+abbrev pub cut_whole : {P S : Type 0} (g : Ghosts P) (h : Ghosts S) (fault : RunFault) (members : List Member) (a b : Moment P S) → Did g h members a b → Cut g h fault members [] a b
 cut_whole g h fault members a b d = record { mid = b; did = d; effects = d.effects; broken = not_begun refl refl refl }
 
 cut_then : {P S : Type 0} (g : Ghosts P) (h : Ghosts S) (fault : RunFault) (xs ys next : List Member) (a b c : Moment P S) → Did g h xs a b → b.status.quit ≡ false → Cut g h fault ys next b c → Cut g h fault (xs ++ ys) next a c
@@ -121,7 +121,7 @@ breaks_echo g h fault member a out part cause = record {
 }
 
 -- where nothing more was done
-pub breaks_after : {P S W : Type 0} (g : Ghosts P) (h : Ghosts S) (fault : RunFault) (due left : W → List Member) (a b : Moment P S) → Passes g h due left a b → Breaks g h fault due a b
+abbrev pub breaks_after : {P S W : Type 0} (g : Ghosts P) (h : Ghosts S) (fault : RunFault) (due left : W → List Member) (a b : Moment P S) → Passes g h due left a b → Breaks g h fault due a b
 breaks_after g h fault due left a b first = record { done = first.done; next = []; front = λ way. ((first.front way).0, (first.front way).1); cut = cut_whole g h fault first.done a b first.did }
 
 pub breaks_none : {P S W : Type 0} (g : Ghosts P) (h : Ghosts S) (fault : RunFault) (due : W → List Member) (a : Moment P S) → Breaks g h fault due a a

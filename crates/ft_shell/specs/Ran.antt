@@ -12,7 +12,7 @@ use Rattle.ft_shell.specs.Effects.{Effects}
 use Rattle.ft_shell.specs.Turns.{Turns}
 use Rattle.ft_shell.specs.Broken.{Broken}
 use Rattle.ft_shell.specs.Runs.{Console, Completes, Stops}
-use Rattle.plain_shell.specs.LinesRead.{LinesRead, members_left}
+use Rattle.plain_shell.specs.LinesRead.{HasNoEnd, LinesRead, Way, at_end, behind, members_left}
 
 -- a shell with the status of its run, and what the two writers hold where that is known
 pub record Moment (P S : Type 0) : Type 0 where
@@ -29,6 +29,10 @@ moment out_of err_of shell outputs = record { shell = shell; status = outputs.st
 -- no unit waits where the session goes on
 abbrev pub NoneWaits : Status → LinesRead → Type 0
 NoneWaits status read = status.quit ≡ false → read.splitting.waiting ≡ []
+
+-- no line ended in what waits where the session goes on
+abbrev pub IsWithinLine : Status → LinesRead → Type 0
+IsWithinLine status read = status.quit ≡ false → HasNoEnd read.line
 
 -- the session goes on, and no unit waits
 abbrev pub GoesOn : Status → LinesRead → Type 0
@@ -80,8 +84,8 @@ module _ {P S : Type 0} (g : Ghosts P) (h : Ghosts S) where
   -- The bytes that were read are taken, as far as there is room. Without any the input is at its
   -- end, and what is left of it is done.
   pub record TakesRead {T : Type 0} (result : Result T RunFault) (room : ℕ) (bytes : List ℕ) (read left : LinesRead) (old new : Moment P S) : Type 0 where
-    pub goes : 0 < length bytes → Runs result (λ (rest : List ℕ). members_left read (take room bytes ++ rest)) (λ rest. members_left left rest) old new
-    pub ends : length bytes ≡ 0 → Runs result (λ (_ : Unit {0}). members_left read []) (λ _. []) old new
+    pub goes : 0 < length bytes → Runs result (λ (way : Way). members_left read (behind (take room bytes) way)) (members_left left) old new
+    pub ends : length bytes ≡ 0 → Runs result (λ (_ : Unit {0}). members_left read at_end) (λ _. []) old new
 
   -- a run, however it ended
   abbrev pub Ends : Result Status RunFault → Console P S → Console P S → Type 0

@@ -172,7 +172,7 @@ fn row_cells(alloc: Global, fields: &[String], columns: usize) -> Result<Vec<Val
     ensures { IfOk result (λ row. views.cells_of row
         ≡ forms.row_cells columns (map string_bytes fields.now)) }
 {
-    let mut row = Vec::new(alloc);
+    let mut row = Vec::with_capacity(alloc, columns)?;
     for field in fitted(alloc, fields, columns)? {
         row.push(field_cell(alloc, field)?)?;
     }
@@ -189,7 +189,7 @@ fn insert_of(
     ensures { IfOk result (λ command. views.command_of command
         ≡ Insert table.now None (map (forms.row_cells columns) (map texts_of records.items))) }
 {
-    let mut rows: Vec<Vec<Value>> = Vec::new(alloc);
+    let mut rows: Vec<Vec<Value>> = Vec::with_capacity(alloc, records.len())?;
     for fields in records {
         rows.push(row_cells(alloc, fields.as_slice(), columns)?)?;
     }

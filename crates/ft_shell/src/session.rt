@@ -2,8 +2,8 @@
 ghost use Rattle.std.specs.Prelude.{◌≡◌, ◌<◌, ◌∷◌, ◌++◌, ℕ, List, [], ⊤, length, OnOk};
 ghost use Rattle.shell_text.specs.Units.{Fault, Member};
 ghost use Rattle.shell_text.specs.Splitting.{member_of_unit};
-ghost use Rattle.plain_shell.specs.LinesRead.{HasNoEnd, members_left, refused_as};
-ghost use Rattle.ft_shell.specs.Ran.{moment, Ends, GoesOn, NoneWaits, Runs, TakesRead};
+ghost use Rattle.plain_shell.specs.LinesRead.{HasNoEnd, Way, at_end, behind, members_left, refused_as};
+ghost use Rattle.ft_shell.specs.Ran.{moment, Ends, GoesOn, IsWithinLine, NoneWaits, Runs, TakesRead};
 ghost use Rattle.ft_shell.specs.Runs.{console_of};
 ghost use Rattle.ft_shell.specs.Promise.{IsAny, IsClean, KeptByRuns, RanAndKept};
 ghost use Rattle.ft_index.specs.Crashes.{IsSettled};
@@ -183,6 +183,8 @@ impl<P: Alter, S: Alter> Session<P, S> {
             (moment O.contents E.contents (shell_with self.new (F.holds source.new)) outputs.new) }
         ensures waiting { OnOk result (0 < length read.now
             → NoneWaits outputs.new.status lines.new) }
+        ensures line { OnOk result (0 < length read.now
+            → IsWithinLine outputs.new.status lines.new) }
         ensures writers { SameWriters outputs.old outputs.new }
     {
         if read.is_empty() {
@@ -202,11 +204,11 @@ impl<P: Alter, S: Alter> Session<P, S> {
     ) -> Result<(), RunFault>
         requires waiting { NoneWaits outputs.old.status lines.old }
         ensures runs { Runs P.Store S.Store result
-            (λ (rest : List ℕ). members_left lines.old (bytes.now ++ rest))
-            (λ (rest : List ℕ). members_left lines.new rest)
+            (λ (way : Way). members_left lines.old (behind bytes.now way)) (members_left lines.new)
             (moment O.contents E.contents (shell_with self.old (F.holds source.old)) outputs.old)
             (moment O.contents E.contents (shell_with self.new (F.holds source.new)) outputs.new) }
         ensures waiting { OnOk result (NoneWaits outputs.new.status lines.new) }
+        ensures line { OnOk result (IsWithinLine outputs.new.status lines.new) }
         ensures writers { SameWriters outputs.old outputs.new }
     {
         let mut rest = bytes;
@@ -232,8 +234,8 @@ impl<P: Alter, S: Alter> Session<P, S> {
         requires goes { GoesOn outputs.old.status lines.old }
         requires whole { HasNoEnd bytes.now }
         ensures runs { Runs P.Store S.Store result
-            (λ (rest : List ℕ). members_left lines.old (bytes.now ++ 10 ∷ rest))
-            (λ (rest : List ℕ). members_left lines.new rest)
+            (λ (way : Way). members_left lines.old (behind bytes.now (behind (10 ∷ []) way)))
+            (members_left lines.new)
             (moment O.contents E.contents (shell_with self.old (F.holds source.old)) outputs.old)
             (moment O.contents E.contents (shell_with self.new (F.holds source.new)) outputs.new) }
         ensures waiting { OnOk result (NoneWaits outputs.new.status lines.new) }
@@ -255,8 +257,8 @@ impl<P: Alter, S: Alter> Session<P, S> {
         source: &mut F,
         outputs: &mut Outputs<'_, O, E>,
     ) -> Result<(), RunFault>
-        ensures runs { Runs P.Store S.Store result (λ (rest : List ℕ). members_left lines.old rest)
-            (λ (rest : List ℕ). members_left lines.new rest)
+        ensures runs { Runs P.Store S.Store result (members_left lines.old)
+            (members_left lines.new)
             (moment O.contents E.contents (shell_with self.old (F.holds source.old)) outputs.old)
             (moment O.contents E.contents (shell_with self.new (F.holds source.new)) outputs.new) }
         ensures waiting { OnOk result (NoneWaits outputs.new.status lines.new) }
@@ -325,8 +327,8 @@ impl<P: Alter, S: Alter> Session<P, S> {
         outputs: &mut Outputs<'_, O, E>,
     ) -> Result<(), RunFault>
         requires goes { GoesOn outputs.old.status lines.old }
-        ensures runs { Runs P.Store S.Store result (λ (_ : ⊤). members_left lines.old [])
-            (λ (_ : ⊤). members_left lines.new [])
+        ensures runs { Runs P.Store S.Store result (λ (_ : ⊤). members_left lines.old at_end)
+            (λ (_ : ⊤). members_left lines.new at_end)
             (moment O.contents E.contents (shell_with self.old (F.holds source.old)) outputs.old)
             (moment O.contents E.contents (shell_with self.new (F.holds source.new)) outputs.new) }
         ensures waiting { OnOk result (NoneWaits outputs.new.status lines.new) }
@@ -347,7 +349,7 @@ impl<P: Alter, S: Alter> Session<P, S> {
         outputs: &mut Outputs<'_, O, E>,
     ) -> Result<(), RunFault>
         requires goes { GoesOn outputs.old.status lines.old }
-        ensures runs { Runs P.Store S.Store result (λ (_ : ⊤). members_left lines.old [])
+        ensures runs { Runs P.Store S.Store result (λ (_ : ⊤). members_left lines.old at_end)
             (λ (_ : ⊤). [])
             (moment O.contents E.contents (shell_with self.old (F.holds source.old)) outputs.old)
             (moment O.contents E.contents (shell_with self.new (F.holds source.new)) outputs.new) }
@@ -369,7 +371,7 @@ impl<P: Alter, S: Alter> Session<P, S> {
     ) -> Result<(), RunFault>
         requires waiting { lines.old.splitting.waiting ≡ [] }
         requires between { lines.old.line ≡ [] }
-        ensures runs { Runs P.Store S.Store result (λ (_ : ⊤). members_left lines.old [])
+        ensures runs { Runs P.Store S.Store result (λ (_ : ⊤). members_left lines.old at_end)
             (λ (_ : ⊤). [])
             (moment O.contents E.contents (shell_with self.old (F.holds source.old)) outputs.old)
             (moment O.contents E.contents (shell_with self.new (F.holds source.new)) outputs.new) }

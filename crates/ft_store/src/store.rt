@@ -10,7 +10,7 @@ ghost use Rattle.sqlite_wal.specs.Files.{image_at};
 ghost use Rattle.sqlite_trees.specs.Tree.{Trees};
 ghost use Rattle.ft_rows.specs.Store.{cell_key_cmp, list_key_cmp, name_cmp, nothing_held, all_applied, AreInOrder};
 ghost use Rattle.ft_rows.specs.Changes.{shown_change, CanApply};
-ghost use Rattle.ft_rows.specs.Shown.{shown_cell, shown_size, shown_note, shown_list, shown_entry, lists_of_term, lists_of_prefix, spot_count, tables_listed, shown_table, last_docid_of, entries_of, AreWhole, AreRead, SomeDamaged, AreNamedApart};
+ghost use Rattle.ft_rows.specs.Shown.{shown_cell, shown_size, shown_note, shown_list, shown_entry, lists_of_term, lists_of_prefix, spot_count, table_listed, tables_listed, shown_table, last_docid_of, entries_of, AreWhole, AreRead, SomeDamaged, AreNamedApart};
 ghost use Rattle.ft_rows.specs.Terms.{lists_by_terms};
 ghost use Rattle.ft_store.specs.Blame.{Blames, AreTableTexts, AreNotedTexts};
 ghost use Rattle.ft_store.specs.Puts.{BlamesPuts};
@@ -255,6 +255,20 @@ impl<S: Alter> Store<S> {
     {
         let found = tables::tables(&mut self.conn, self.alloc)?;
         self.rows_read = self.rows_read.saturating_add(found.len() as u64);
+        Ok(found)
+    }
+
+    /// The table of a number with its columns, under a name that is given.
+    pub fn table(&mut self, id: i64, name: &str) -> Result<TabRow, StoreFault>
+        ensures rows { HasCleanDisk (shows S.Store self.new)
+            → IfOk result (λ found. shown_table found
+            ≡ table_listed (value_in S.Store self.old) (id, name.now)) }
+        ensures read { ReadsRows S.Store self.old self.new result (λ _. 1) IsPlainFault }
+        ensures refused { Blames (shows S.Store self.old) (shows S.Store self.new) result }
+    {
+        let name = String::from_str(self.alloc, name)?;
+        let found = tables::table(&mut self.conn, self.alloc, id, name)?;
+        self.rows_read = self.rows_read.saturating_add(1);
         Ok(found)
     }
 

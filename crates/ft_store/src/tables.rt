@@ -15,7 +15,7 @@ use sqlite::{Alter, Connection, params};
 use std::alloc::Global;
 
 /// A table that is there, with its columns.
-fn table<S: Alter>(
+pub(crate) fn table<S: Alter>(
     conn: &mut Connection<S>,
     alloc: Global,
     id: i64,

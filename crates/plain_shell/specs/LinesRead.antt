@@ -1,5 +1,5 @@
 -- Steps. An input that is read piece by piece (own choice).
-use Rattle.std.specs.Prelude.{ℕ, ◌≡◌, ◌==◌, false, ⊤, List, [], ◌∷◌, ◌++◌, Option, Some, None, Result, Ok, Err}
+use Rattle.std.specs.Prelude.{ℕ, ◌≡◌, ◌==◌, Bool, true, false, ⊤, List, [], ◌∷◌, ◌++◌, Option, Some, None, Result, Ok, Err}
 use Rattle.std.specs.List.{list_any}
 use Rattle.shell_text.specs.Units.{Member, Fault, lines_of}
 use Rattle.shell_text.specs.declared.units.SplitFault.{SplitFault}
@@ -18,9 +18,22 @@ pub record LinesRead : Type 0 where
 abbrev pub HasNoEnd : List ℕ → Type 0
 HasNoEnd bytes = list_any (λ b. b == 10) bytes ≡ false
 
--- the members that are still to come, where the input goes on with these bytes
-abbrev pub members_left : LinesRead → List ℕ → List Member
-members_left read rest = read.splitting.waiting ++ given_by read.splitting.reading (lines_of (read.line ++ rest))
+-- how an input goes on: with these bytes, after which it ends or may go on
+pub record Way : Type 0 where
+  pub rest : List ℕ
+  pub ends : Bool
+
+-- these bytes come first
+abbrev pub behind : List ℕ → Way → Way
+behind bytes way = record way { rest = bytes ++ way.rest }
+
+-- nothing more comes
+abbrev pub at_end : Way
+at_end = record { rest = []; ends = true }
+
+-- the members that are still to come, where the input goes on so
+abbrev pub members_left : LinesRead → Way → List Member
+members_left read way = read.splitting.waiting ++ given_by way.ends read.splitting.reading (lines_of way.ends (read.line ++ way.rest))
 
 abbrev pub refused_as : Option Refusal → List Member
 refused_as None = []

@@ -2,7 +2,7 @@
 ghost use Rattle.std.specs.Prelude.{◌≡◌, true, false, ◌∷◌, ◌++◌, ◌<◌, [], ℕ, List, length, IfOk, OnOk, IfSome, IfNone};
 ghost use Rattle.shell_text.specs.Units.{start};
 ghost use Rattle.shell_text.specs.Splitting.{member_of_unit};
-ghost use Rattle.plain_shell.specs.LinesRead.{EndsWith, HasNoEnd, end_line, members_left, refused_as};
+ghost use Rattle.plain_shell.specs.LinesRead.{EndsWith, HasNoEnd, Way, at_end, behind, end_line, members_left, refused_as};
 
 use memchr::memchr;
 use shell_text::{SplitFault, Splitter, Unit};
@@ -58,9 +58,10 @@ impl LineReader {
     /// More bytes of the line.
     pub fn keep(&mut self, bytes: &[u8]) -> Result<(), AllocError>
         requires { HasNoEnd bytes.now }
-        ensures left { OnOk result ((rest : List ℕ)
-            → members_left self.old (bytes.now ++ rest) ≡ members_left self.new rest) }
+        ensures left { OnOk result ((way : Way)
+            → members_left self.old (behind bytes.now way) ≡ members_left self.new way) }
         ensures waiting { OnOk result (self.new.splitting ≡ self.old.splitting) }
+        ensures line { OnOk result (HasNoEnd self.new.line) }
     {
         let room = (MOST_BYTES + 1).saturating_sub(self.line.len());
         self.line
@@ -73,9 +74,9 @@ impl LineReader {
     pub fn end_line(&mut self, bytes: &[u8]) -> Result<Option<Refusal>, AllocError>
         requires waiting { self.old.splitting.waiting ≡ [] }
         requires whole { HasNoEnd bytes.now }
-        ensures left { IfOk result (λ refused. (rest : List ℕ)
-            → members_left self.old (bytes.now ++ 10 ∷ rest)
-            ≡ refused_as refused ++ members_left self.new rest) }
+        ensures left { IfOk result (λ refused. (way : Way)
+            → members_left self.old (behind bytes.now (behind (10 ∷ []) way))
+            ≡ refused_as refused ++ members_left self.new way) }
         ensures line { OnOk result (self.new.line ≡ []) }
     {
         if self.line.is_empty() {
@@ -91,9 +92,9 @@ impl LineReader {
         requires waiting { self.old.splitting.waiting ≡ [] }
         requires alone { self.old.line ≡ [] }
         requires whole { HasNoEnd line.now }
-        ensures left { IfOk result (λ refused. (rest : List ℕ)
-            → members_left (record self.old { line = line.now }) (10 ∷ rest)
-            ≡ refused_as refused ++ members_left self.new rest) }
+        ensures left { IfOk result (λ refused. (way : Way)
+            → members_left (record self.old { line = line.now }) (behind (10 ∷ []) way)
+            ≡ refused_as refused ++ members_left self.new way) }
         ensures line { OnOk result (self.new.line ≡ []) }
     {
         let refused = match self.splitter.line(line) {
@@ -111,8 +112,8 @@ impl LineReader {
     /// The next unit of the lines that ended.
     pub fn next(&mut self) -> Option<Unit>
         ensures some { IfSome result (λ unit.
-            ((rest : List ℕ)
-            → members_left self.old rest ≡ member_of_unit unit ∷ members_left self.new rest)
+            ((way : Way)
+            → members_left self.old way ≡ member_of_unit unit ∷ members_left self.new way)
             × (length self.new.splitting.waiting < length self.old.splitting.waiting)
             × (self.new.line ≡ self.old.line)) }
         ensures none { IfNone result ((self.old.splitting.waiting ≡ []) × (self.new ≡ self.old)) }
@@ -124,7 +125,7 @@ impl LineReader {
     pub fn is_between_lines(&self) -> bool
         ensures between { result ≡ true → self.now.line ≡ [] }
         ensures within { result ≡ false
-            → members_left self.now [] ≡ members_left self.now (10 ∷ []) }
+            → members_left self.now at_end ≡ members_left self.now (behind (10 ∷ []) at_end) }
     {
         self.line.is_empty()
     }
@@ -133,7 +134,7 @@ impl LineReader {
     pub fn finish(&mut self) -> Result<Option<Unit>, SplitFault>
         requires waiting { self.old.splitting.waiting ≡ [] }
         requires between { self.old.line ≡ [] }
-        ensures { EndsWith result (members_left self.old []) }
+        ensures { EndsWith result (members_left self.old at_end) }
     {
         self.splitter.finish()
     }

@@ -216,7 +216,7 @@ fn row_values(
     ensures { IfOk result (λ row. bound row.items
         ≡ forms.row_values columns (map string_bytes fields.now)) }
 {
-    let mut row = Vec::new(alloc);
+    let mut row = Vec::with_capacity(alloc, columns)?;
     for field in fitted(alloc, fields, columns)? {
         row.push(field_value(field))?;
     }

@@ -23,7 +23,7 @@ pub fn fitted(
     ensures { IfOk result (λ row. map (option_map (λ text. text.now)) row.items
         ≡ forms.fitted columns (map string_bytes fields.now)) }
 {
-    let mut row = Vec::new(alloc);
+    let mut row = Vec::with_capacity(alloc, columns)?;
     for at in 0..columns {
         row.push(field_at(fields, at))?;
     }

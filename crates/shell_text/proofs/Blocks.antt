@@ -9,7 +9,7 @@ use Rattle.std.specs.List.{list_all, list_any, onto_first}
 use Rattle.std.proofs.lemmas.List.{append_assoc, append-nil}
 use Rattle.shell_text.specs.Words.{Piece, first_byte, is_gap, next_is, pieces_from, pieces_of, text_of}
 use Rattle.shell_text.specs.declared.words.Place.TheVariants.{Between}
-use Rattle.shell_text.specs.Units.{Member, Reading, Role, Refused, Command, Joins, after, after_role, closed_by, ended_unit, ended_units, ends_statement, last_member, line_behind, lines_of, member_of, members_from, members_of, most_bytes, numbered, parts_of, role_of, start, tail_in, tail_of, units_in, with_line}
+use Rattle.shell_text.specs.Units.{Member, Reading, Role, Refused, Command, Joins, after, after_role, closed_by, ended_unit, ended_units, ends_statement, last_member, line_behind, lines_of, member_of, members_from, most_bytes, numbered, parts_of, role_of, start, tail_in, tail_of, units_in, with_line}
 use Rattle.shell_text.specs.Splitting.{given_by, without_ended}
 use Rattle.shell_text.proofs.Restart.{Cuts, cut, cuts, uncut, text_of-pieces}
 
@@ -145,32 +145,33 @@ continues : (a u v g h x : List Member) → x ≡ u ++ g → u ≡ a ++ v → g 
 continues a u v g h x is units rest = is ∙ ap (λ y. y ++ g) units ∙ append_assoc a v g ∙ ap (λ y. a ++ (v ++ y)) rest
 
 -- one line, where the lines after it give the same
-one_line : (role : Role) (r : Reading) (line : List ℕ) (lines : List (List ℕ))
-    → members_from (after_role role r line) lines ≡ units_in (after_role role r line) ++ given_by (without_ended (after_role role r line)) lines
-    → (closed_by role r ++ member_of role r line) ++ members_from (after_role role r line) lines
+one_line : (ends : Bool) (role : Role) (r : Reading) (line : List ℕ) (lines : List (List ℕ))
+    → members_from ends (after_role role r line) lines ≡ units_in (after_role role r line) ++ given_by ends (without_ended (after_role role r line)) lines
+    → (closed_by role r ++ member_of role r line) ++ members_from ends (after_role role r line) lines
     ≡ units_in r ++ ((member_of role (without_ended r) line ++ units_in (after_role role (without_ended r) line))
-    ++ given_by (without_ended (after_role role (without_ended r) line)) lines)
-one_line (Refused why) r line lines h =
+    ++ given_by ends (without_ended (after_role role (without_ended r) line)) lines)
+one_line ends (Refused why) r line lines h =
     closes (units_in r) (member_of (Refused why) r line) (units_in (after_role (Refused why) r line))
-    (given_by (without_ended (after_role (Refused why) r line)) lines) (members_from (after_role (Refused why) r line) lines) h
-one_line Command r line lines h =
+    (given_by ends (without_ended (after_role (Refused why) r line)) lines) (members_from ends (after_role (Refused why) r line) lines) h
+one_line ends Command r line lines h =
     closes (units_in r) (member_of Command r line) (units_in (after_role Command r line))
-    (given_by (without_ended (after_role Command r line)) lines) (members_from (after_role Command r line) lines) h
-one_line Joins r line lines h =
+    (given_by ends (without_ended (after_role Command r line)) lines) (members_from ends (after_role Command r line) lines) h
+one_line ends Joins r line lines h =
     let kept = strip_carriage_return line in
     let again : ℕ × List Piece → Reading = λ t. record { line = numbered (r.line + 1); first = t.0; block = Some (text_of t.1) } in
-    continues (units_in r) (units_in (with_line r kept)) (units_in (with_line (without_ended r) kept)) (given_by (without_ended (with_line r kept)) lines)
-    (given_by (without_ended (with_line (without_ended r) kept)) lines) (members_from (with_line r kept) lines)
-    h ((goes_on r).units kept) (ap (λ s. given_by s lines) (ap again ((goes_on r).tails kept)))
+    continues (units_in r) (units_in (with_line r kept)) (units_in (with_line (without_ended r) kept)) (given_by ends (without_ended (with_line r kept)) lines)
+    (given_by ends (without_ended (with_line (without_ended r) kept)) lines) (members_from ends (with_line r kept) lines)
+    h ((goes_on r).units kept) (ap (λ s. given_by ends s lines) (ap again ((goes_on r).tails kept)))
 
-pub members_from-given : (lines : List (List ℕ)) (r : Reading) → members_from r lines ≡ units_in r ++ given_by (without_ended r) lines
-members_from-given [] r = ap (λ t. units_in r ++ last_member t) (sym (goes_on r).tail)
-members_from-given (line ∷ lines) r =
-    one_line (role_of r line) r line lines (members_from-given lines (after r line))
+pub members_from-given : (ends : Bool) (lines : List (List ℕ)) (r : Reading) → members_from ends r lines ≡ units_in r ++ given_by ends (without_ended r) lines
+members_from-given true [] r = ap (λ t. units_in r ++ last_member t) (sym (goes_on r).tail)
+members_from-given false [] r = refl
+members_from-given ends (line ∷ lines) r =
+    one_line ends (role_of r line) r line lines (members_from-given ends lines (after r line))
     ∙ sym (ap (λ role. units_in r ++ ((member_of role (without_ended r) line ++ units_in (after_role role (without_ended r) line))
-    ++ given_by (without_ended (after_role role (without_ended r) line)) lines)) (same_role r line))
+    ++ given_by ends (without_ended (after_role role (without_ended r) line)) lines)) (same_role r line))
 
 -- the members of an input are those that reading only what is pending gives
-pub members_of-given : (input : List ℕ) → members_of input ≡ given_by start (lines_of input)
+pub members-given : (ends : Bool) (input : List ℕ) → members_from ends start (lines_of ends input) ≡ given_by ends start (lines_of ends input)
 unfolding pieces_from
-members_of-given input = members_from-given (lines_of input) start
+members-given ends input = members_from-given ends (lines_of ends input) start

@@ -1,9 +1,9 @@
 -- Fields of a record, by their places.
-use Rattle.std.proofs.Common.{◌≡◌, refl, sym, ap, ◌∙◌, ℕ, zero, suc, ◌<◌, arith, Bool, true, false, List, [], ◌∷◌, ◌++◌, length, map, take, get_or, Some, None}
+use Rattle.std.proofs.Common.{◌≡◌, refl, ap, ◌∙◌, ℕ, zero, suc, ◌<◌, arith, Bool, true, false, List, [], ◌∷◌, ◌++◌, length, take, Some, None}
 use Rattle.std.specs.Prelude.{◌&&◌}
 use Rattle.std.specs.List.{list_all}
 use Rattle.std.specs.Str.{is_utf8}
-use Rattle.csv.specs.Records.{Row, field_at, fields_of}
+use Rattle.csv.specs.Records.{field_at}
 
 -- one field more
 pub take_field : (fields : List (List ℕ)) (i : ℕ) (field : List ℕ) → field_at fields i ≡ Some field → take (suc i) fields ≡ take i fields ++ field ∷ []
@@ -27,9 +27,3 @@ unfolding field_at
 bad_field [] i field e h = cc
 bad_field (f ∷ fields) zero field e h = let same : f ≡ field = cc in ap (λ x. is_utf8 x && list_all is_utf8 fields) same ∙ ap (λ b. b && list_all is_utf8 fields) h
 bad_field (f ∷ fields) (suc i) field e h = ap (λ b. is_utf8 f && b) (bad_field fields i field e h) ∙ and_false (is_utf8 f)
-
-pub bad_row : (rows : List Row) (i : ℕ) (row : Row) → i < length rows → row ≡ get_or rows i row → list_all is_utf8 (fields_of row) ≡ false → list_all (λ r. list_all is_utf8 r) (map fields_of rows) ≡ false
-bad_row [] i row h e b = absurd (omega arith)
-bad_row (r ∷ rows) zero row h e b =
-    ap (λ x. list_all is_utf8 (fields_of x) && list_all (λ r. list_all is_utf8 r) (map fields_of rows)) (sym e) ∙ ap (λ x. x && list_all (λ r. list_all is_utf8 r) (map fields_of rows)) b
-bad_row (r ∷ rows) (suc i) row h e b = ap (λ x. list_all is_utf8 (fields_of r) && x) (bad_row rows i row (omega arith) e b) ∙ and_false (list_all is_utf8 (fields_of r))

@@ -1,7 +1,7 @@
 -- Meaning. Records of CSV, as the `csv` crate reads them: RFC 4180, section 2, with any ASCII
 -- delimiter. "Command Line Shell For SQLite", section "Importing files as CSV or other formats",
 -- reads such files. That they are UTF-8 is our own choice.
-use Rattle.std.specs.Prelude.{ℕ, ◌≡◌, ◌⊎◌, false, true, List, map, Result, IfOk, OnOk, IsErrOf}
+use Rattle.std.specs.Prelude.{ℕ, ◌≡◌, ◌⊎◌, false, true, List, map, Option, Some, None, Result, IfOk, OnOk, IsErrOf}
 use Rattle.std.specs.List.{list_all}
 use Rattle.std.specs.Str.{is_utf8}
 use Rattle.std.proofs.Common.{Vec, String, Global}
@@ -21,6 +21,15 @@ csv_reader delimiter = record default_config { delimiter = delimiter }
 abbrev pub IsNoText : Config → List ℕ → Type 0
 IsNoText cfg bytes = (is_utf8 bytes ≡ false)
     ⊎ ((rows : List (List (List ℕ))) × AreRecords cfg st.StartRecord (strip_bom bytes) rows × (list_all (λ row. list_all is_utf8 row) rows ≡ false))
+
+-- records are read as texts, or one of them has a field that is none
+abbrev pub AreTexts : List (List (List ℕ)) → Option (Vec (Vec (String Global) Global) Global) → Type 0
+AreTexts rows (Some texts) = map bytes_of texts.items ≡ rows
+AreTexts rows None = list_all (λ row. list_all is_utf8 row) rows ≡ false
+
+-- so it is of all records of bytes
+abbrev pub ReadsAs : Config → List ℕ → Option (Vec (Vec (String Global) Global) Global) → Type 0
+ReadsAs cfg bytes found = (rows : List (List (List ℕ))) × AreRecords cfg st.StartRecord (strip_bom bytes) rows × AreTexts rows found
 
 -- the records of a text are read; or bytes are refused in which not all is text
 pub record ReadsRecords (cfg : Config) (bytes : List ℕ) (result : Result (Vec (Vec (String Global) Global) Global) RecordFault) : Type 0 where

@@ -7,7 +7,7 @@ use Rattle.std.specs.Str.{is_utf8}
 use Rattle.shell_text.specs.Words.{pieces_of, text_of}
 use Rattle.shell_text.specs.Lexed.{KeepsPending}
 use Rattle.shell_text.specs.declared.units.Pending.{Pending}
-use Rattle.shell_text.specs.Units.{Member, at_line, ended_units, parts_of, tail_of, Sql, Dot, Fault, Reading, Role, Refused, Command}
+use Rattle.shell_text.specs.Units.{Member, at_line, end_of, ended_units, parts_of, tail_of, Sql, Dot, Fault, Reading, Role, Refused, Command}
 use Rattle.shell_text.specs.Units.{Joins, after, last_member, member_of, role_of, tail_in, units_in}
 use Rattle.shell_text.specs.declared.units.SplitFault.{SplitFault}
 use Rattle.shell_text.specs.declared.units.SplitFault.TheVariants as fault
@@ -75,9 +75,9 @@ Finishes old new (Err (fault.Incomplete line)) = (last_member (tail_in old.readi
 Finishes old new (Err _) = ⊥
 
 -- the members that lines give, where each statement is handed out as its line comes
-abbrev pub given_by : Reading → List (List ℕ) → List Member
-given_by r [] = last_member (tail_in r)
-given_by r (line ∷ lines) = member_of (role_of r line) r line ++ units_in (after r line) ++ given_by (without_ended (after r line)) lines
+abbrev pub given_by : (ends : Bool) → Reading → List (List ℕ) → List Member
+given_by ends r [] = end_of ends r
+given_by ends r (line ∷ lines) = member_of (role_of r line) r line ++ units_in (after r line) ++ given_by ends (without_ended (after r line)) lines
 
 -- the block that is kept, where one is begun
 abbrev pub block_as : Option Pending → List ℕ → Option (List ℕ)

@@ -3,7 +3,7 @@
 -- may go over lines, a dot-command is one line that begins with a full stop, does not stand inside
 -- a statement and knows no comments. Own choice: the largest size of a statement, which lines are
 -- refused, what is left open at the end, and the numbers of lines.
-use Rattle.std.specs.Prelude.{ℕ, ◌+◌, ◌-◌, ◌^◌, min, nat_lt, Bool, not, ◌==◌, ◌&&◌, List, [], ◌∷◌, ◌++◌, length, drop, count_by}
+use Rattle.std.specs.Prelude.{ℕ, ◌+◌, ◌-◌, ◌^◌, min, nat_lt, Bool, not, ◌==◌, ◌&&◌, List, [], ◌∷◌, ◌++◌, length, drop, count_by, true, false}
 use Rattle.std.specs.Prelude.{Option, Some, None, is_some, unwrap_or, if◌then◌else◌}
 use Rattle.std.specs.List.{list_any, list_all, onto_first, prefix_len, take_while}
 use Rattle.std.specs.Str.{is_utf8}
@@ -12,11 +12,16 @@ use Rattle.shell_text.specs.Words.{Piece, first_byte, is_gap, is_open, is_symbol
 use Rattle.shell_text.specs.declared.units.SplitFault.{SplitFault}
 use Rattle.shell_text.specs.declared.units.SplitFault.TheVariants as fault
 
--- the parts that line feeds end, and what follows the last of them, if anything does; a line keeps
--- its carriage return
-abbrev pub lines_of : List ℕ → List (List ℕ)
-lines_of [] = []
-lines_of (b ∷ rest) = if b == 0x0A then [] ∷ lines_of rest else onto_first b (lines_of rest)
+-- a byte before lines; alone it is a line where the input ends there
+abbrev pub onto_line : (ends : Bool) → ℕ → List (List ℕ) → List (List ℕ)
+onto_line ends b [] = if ends then (b ∷ []) ∷ [] else []
+onto_line ends b (line ∷ lines) = (b ∷ line) ∷ lines
+
+-- the parts that line feeds end, and, where the input ends there, what follows the last of them, if
+-- anything does; a line keeps its carriage return
+abbrev pub lines_of : (ends : Bool) → List ℕ → List (List ℕ)
+lines_of ends [] = []
+lines_of ends (b ∷ rest) = if b == 0x0A then [] ∷ lines_of ends rest else onto_line ends b (lines_of ends rest)
 
 -- how many lines end in a text
 abbrev pub line_feeds : List ℕ → ℕ
@@ -192,11 +197,20 @@ last_member tail =
     else if list_any is_word tail.1 then unit_of tail.0 tail.1 ∷ []
     else []
 
+-- what the end of an input gives after a reading, where it ends
+abbrev pub end_of : (ends : Bool) → Reading → List Member
+end_of true r = last_member (tail_in r)
+end_of false r = []
+
 -- the members of the lines that follow a reading
-abbrev pub members_from : Reading → List (List ℕ) → List Member
-members_from r [] = units_in r ++ last_member (tail_in r)
-members_from r (line ∷ lines) = told_by r line ++ members_from (after r line) lines
+abbrev pub members_from : (ends : Bool) → Reading → List (List ℕ) → List Member
+members_from ends r [] = units_in r ++ end_of ends r
+members_from ends r (line ∷ lines) = told_by r line ++ members_from ends (after r line) lines
 
 -- the units and faults of an input, in order
 abbrev pub members_of : List ℕ → List Member
-members_of input = members_from start (lines_of input)
+members_of input = members_from true start (lines_of true input)
+
+-- those of its lines that ended, where it may go on: whatever follows, they come first
+abbrev pub ended_members : List ℕ → List Member
+ended_members input = members_from false start (lines_of false input)

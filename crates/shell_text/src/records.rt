@@ -1,13 +1,11 @@
 //! Records of CSV.
 
-ghost use Rattle.std.specs.Prelude.{◌≡◌, ◌∷◌, [], true, false, map, IfOk};
+ghost use Rattle.std.specs.Prelude.{◌≡◌, ◌∷◌, ◌++◌, ℕ, List, [], true, false, IfOk};
 ghost use Rattle.std.specs.Str.{is_utf8};
 ghost use Rattle.std.specs.List.{list_all};
 ghost use Rattle.shell_text.specs.Print.{bytes_of, is_csv_separator};
-ghost use Rattle.shell_text.specs.Records.{csv_reader, ReadsRecords};
-ghost use Rattle.csv.specs.Reading.{AreRecords, strip_bom};
+ghost use Rattle.shell_text.specs.Records.{AreTexts, ReadsAs, csv_reader, ReadsRecords};
 ghost use Rattle.csv.specs.Records.{fields_of};
-ghost use Rattle.csv.specs.declared.parser.State.TheVariants as st;
 ghost use Rattle.shell_text.specs.declared.records.RecordFault.TheVariants.{Memory};
 ghost use Rattle.shell_text.specs.Calls.{Answers};
 
@@ -40,24 +38,48 @@ impl<T: Drop> From<AllocFailed<T>> for RecordFault {
     }
 }
 
-// The records of bytes, as the `csv` crate reads them with a delimiter and no header row.
-fn byte_records(alloc: Global, bytes: &[u8], delimiter: u8) -> Result<Vec<ByteRecord>, AllocError>
-    ensures { IfOk result (λ rows. AreRecords (csv_reader delimiter) st.StartRecord
-        (strip_bom bytes.now) (map fields_of rows.items)) }
+// The records of bytes, as the `csv` crate reads them with a delimiter and no header row, or none
+// where a field is not UTF-8. Each becomes texts as it is read, so that none is held twice.
+fn text_records(
+    alloc: Global,
+    bytes: &[u8],
+    delimiter: u8,
+) -> Result<Option<Vec<Vec<String>>>, AllocError>
+    ensures { IfOk result (λ found. ReadsAs (csv_reader delimiter) bytes.now found) }
 {
     let rdr = ReaderBuilder::new()
         .has_headers(false)
         .flexible(true)
         .delimiter(delimiter)
         .from_reader(alloc, bytes);
-    let mut rows = Vec::new(alloc);
+    let mut records = Some(Vec::new(alloc));
     for row in rdr.into_byte_records() {
         match row {
-            Ok(row) => rows.push(row)?,
+            Ok(row) => records = with_record(alloc, records, &row)?,
             Err(_) => return Err(AllocError),
         }
     }
-    Ok(rows)
+    Ok(records)
+}
+
+// The records so far with one more, or none where a field is not UTF-8.
+fn with_record(
+    alloc: Global,
+    so_far: Option<Vec<Vec<String>>>,
+    row: &ByteRecord,
+) -> Result<Option<Vec<Vec<String>>>, AllocError>
+    ensures { (rows : List (List (List ℕ))) → AreTexts rows so_far
+        → IfOk result (AreTexts (rows ++ fields_of row.now ∷ [])) }
+{
+    let Some(mut records) = so_far else {
+        return Ok(None);
+    };
+    match field_texts(alloc, row) {
+        Ok(texts) => records.push(texts)?,
+        Err(RecordFault::NotUtf8) => return Ok(None),
+        Err(RecordFault::Memory) => return Err(AllocError),
+    }
+    Ok(Some(records))
 }
 
 // The texts of a record's fields.
@@ -65,7 +87,7 @@ fn field_texts(alloc: Global, row: &ByteRecord) -> Result<Vec<String>, RecordFau
     ensures { Answers result (λ texts. bytes_of texts ≡ fields_of row.now)
         (λ e. e ≡ RecordFault.NotUtf8 → list_all is_utf8 (fields_of row.now) ≡ false) }
 {
-    let mut texts = Vec::new(alloc);
+    let mut texts = Vec::with_capacity(alloc, row.len())?;
     for i in 0..row.len() {
         if let Some(field) = row.get(i) {
             let Ok(text) = str::from_utf8(field) else {
@@ -92,13 +114,8 @@ pub fn read_records(
     let Ok(_) = str::from_utf8(bytes) else {
         return Err(RecordFault::NotUtf8);
     };
-    let rows = byte_records(alloc, bytes, delimiter)?;
-    let mut records = Vec::new(alloc);
-    for row in &rows {
-        match field_texts(alloc, row) {
-            Ok(texts) => records.push(texts)?,
-            Err(fault) => return Err(fault),
-        }
+    match text_records(alloc, bytes, delimiter)? {
+        Some(records) => Ok(records),
+        None => Err(RecordFault::NotUtf8),
     }
-    Ok(records)
 }

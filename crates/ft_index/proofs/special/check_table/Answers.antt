@@ -6,7 +6,7 @@ use Rattle.ft_content.specs.declared.command.Reply.{Reply}
 use Rattle.ft_content.specs.Command as plain
 use Rattle.ft_content.specs.Views.{shown_info, answer_of}
 use Rattle.ft_index.specs.Kept.{Executes}
-use Rattle.ft_index.specs.Opened.{IsNamed}
+use Rattle.ft_index.specs.Opened.{HasState}
 use Rattle.ft_index.specs.Changed.{with_tables}
 use Rattle.ft_index.proofs.Acting.{executes_read}
 use Rattle.ft_index.proofs.CheckLemmas.{told_here, check_missing, check_right, check_wrong}
@@ -37,11 +37,9 @@ returns-then-is_sound-clause-looks g c = record {
       let tables = map shown_info c.args.tables.now in
       let known = shown_info c.in_ok-known.known.now in
       let v = value_in g.S.Store c.args.store.now in
-      let fits : FitsSigned w64 known.id = search rules in
-      executes_read g.S.Store c.args.store.now c.state_under.new.store tables (plain.Check c.args.table.now) _ c.in_ok-state.ensures.looks.only (λ up first holds.
+      executes_read g.S.Store c.args.store.now c.known_state.new.store tables (plain.Check c.args.table.now) _ c.in_ok-state.ensures.asks.only (λ up first holds.
       let t = told_here v tables first c.args.table.now known c.is_in_order.ensures.order holds c.in_ok-known.ensures in
-      let named = subst (λ k. IsNamed v k (t.table.0, t.table.1.name)) (sym (to_z-of_z fits)) t.named in
-      let stands = c.in_ok-state.ensures.looks.told (t.table.0, t.table.1.name) t.table.1.held up.clean named t.stands in
+      let stands = c.in_ok-state.ensures.asks.told t.table.1.held up.clean (subst (λ k. HasState v k t.table.1.held) t.told t.stands) in
       inr (check_right first c.args.table.now t.table t.found (sym (c.is_sound.ensures t.table.1.held stands) ∙ c.if-is_sound.true)));
   only = search rules;
   live = search rules;
@@ -53,20 +51,18 @@ returns-else-is_sound-clause-looks g c = record {
       let tables = map shown_info c.args.tables.now in
       let known = shown_info c.in_ok-known.known.now in
       let v = value_in g.S.Store c.args.store.now in
-      let fits : FitsSigned w64 known.id = search rules in
-      executes_read g.S.Store c.args.store.now c.state_under.new.store tables (plain.Check c.args.table.now) _ c.in_ok-state.ensures.looks.only (λ up first holds.
+      executes_read g.S.Store c.args.store.now c.known_state.new.store tables (plain.Check c.args.table.now) _ c.in_ok-state.ensures.asks.only (λ up first holds.
       let t = told_here v tables first c.args.table.now known c.is_in_order.ensures.order holds c.in_ok-known.ensures in
-      let named = subst (λ k. IsNamed v k (t.table.0, t.table.1.name)) (sym (to_z-of_z fits)) t.named in
-      let stands = c.in_ok-state.ensures.looks.told (t.table.0, t.table.1.name) t.table.1.held up.clean named t.stands in
+      let stands = c.in_ok-state.ensures.asks.told t.table.1.held up.clean (subst (λ k. HasState v k t.table.1.held) t.told t.stands) in
       inr (check_wrong first c.args.table.now t.table t.found (sym (c.is_sound.ensures t.table.1.held stands) ∙ c.if-is_sound.false)));
   only = search rules;
   live = search rules;
 }
 
 pub returns-in_err-state-clause-refused : goal.returns-in_err-state-clause-refused
-returns-in_err-state-clause-refused g c = λ texts clean told.
+returns-in_err-state-clause-refused g c = λ clean told.
     let fault = c.in_err-state.field-0.0 in
     let is : c.from_residual-in_err-state.result ≡ Err (fault_of_read fault) = search rules in
     let why = is_refused fault c.from_residual-in_err-state.result is (search rules) told in
-    let refused : c.state_under.result ≡ Err causes.Refused = search rules in
-    c.state_under.ensures.refused texts clean refused
+    let refused : c.known_state.result ≡ Err causes.Refused = search rules in
+    c.known_state.ensures.refused clean refused

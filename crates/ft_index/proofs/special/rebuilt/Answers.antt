@@ -10,7 +10,7 @@ use Rattle.ft_documents.specs.Rewrite.{shown_rewrite}
 use Rattle.ft_documents.specs.Tables.{table_rows}
 use Rattle.ft_index.specs.DocumentsRead.{HasRows}
 use Rattle.ft_index.specs.Kept.{PlansFrom}
-use Rattle.ft_index.specs.Opened.{IsNamed}
+use Rattle.ft_index.specs.Opened.{HasState}
 use Rattle.ft_index.proofs.Acting.{looks_up}
 use Rattle.ft_index.proofs.CheckLemmas.{told_here}
 use Rattle.ft_index.proofs.LookLemmas.{rows_then}
@@ -23,9 +23,7 @@ returns-in-Sound g c = record {
       let v = value_in g.S.Store c.args.store.now in
       let known = shown_info c.args.table.now in
       let t = told_here v tables contents name known c.is_in_order.ensures.order held is in
-      let fits : FitsSigned w64 known.id = search rules in
-      let named = subst (λ k. IsNamed v k (t.table.0, t.table.1.name)) (sym (to_z-of_z fits)) t.named in
-      let stands = c.in_ok-state.ensures.looks.told (t.table.0, t.table.1.name) t.table.1.held up.clean named t.stands in
+      let stands = c.in_ok-state.ensures.asks.told t.table.1.held up.clean (subst (λ k. HasState v k t.table.1.held) t.told t.stands) in
       subst (λ (cs : List Change). PlansFrom contents (plain.Rebuild name) v (Ok cs)) (sym are) (plan_right v tables contents name known c.is_in_order.ensures.order held t (sym c.in-Sound.is ∙ stands));
   only = search rules;
   live = search rules;
@@ -38,13 +36,12 @@ returns-in_ok-rewrites-in-Stale g c = record {
       let known = shown_info c.args.table.now in
       let t = told_here v tables contents name known c.is_in_order.ensures.order held is in
       let fits : FitsSigned w64 known.id = search rules in
-      let named = subst (λ k. IsNamed v k (t.table.0, t.table.1.name)) (sym (to_z-of_z fits)) t.named in
       let old = c.args.store.now in
-      let mid = c.state_under.new.store in
+      let mid = c.known_state.new.store in
       let new = c.all_documents.new.store in
-      let one = c.in_ok-state.ensures.looks.only in
+      let one = c.in_ok-state.ensures.asks.only in
       let two = c.in_ok-documents-in-Stale.ensures.looks.only in
-      let stands = c.in_ok-state.ensures.looks.told (t.table.0, t.table.1.name) t.table.1.held (looks_up g.S.Store mid new tables tables two up).clean named t.stands in
+      let stands = c.in_ok-state.ensures.asks.told t.table.1.held (looks_up g.S.Store mid new tables tables two up).clean (subst (λ k. HasState v k t.table.1.held) t.told t.stands) in
       let rewrites = map shown_rewrite c.in_ok-rewrites-in-Stale.rewrites.items in
       let id : to_z w64 (of_z w64 known.id) ≡ t.table.0 = to_z-of_z fits ∙ ap (λ (k : TableInfo). k.id) (sym t.told) in
       let all : (content : Content) → IsContent t.table.1.name content → table_rows t.table.0 v ≡ content_rows content → rewrites ≡ map new_rewrite content.documents =
@@ -63,9 +60,7 @@ returns-in-Loose g c = record {
       let v = value_in g.S.Store c.args.store.now in
       let known = shown_info c.args.table.now in
       let t = told_here v tables contents name known c.is_in_order.ensures.order held is in
-      let fits : FitsSigned w64 known.id = search rules in
-      let named = subst (λ k. IsNamed v k (t.table.0, t.table.1.name)) (sym (to_z-of_z fits)) t.named in
-      let stands = c.in_ok-state.ensures.looks.told (t.table.0, t.table.1.name) t.table.1.held up.clean named t.stands in
+      let stands = c.in_ok-state.ensures.asks.told t.table.1.held up.clean (subst (λ k. HasState v k t.table.1.held) t.told t.stands) in
       plan_loose v tables contents name known c.is_in_order.ensures.order held t (sym c.in-Loose.is ∙ stands);
   only = search rules;
   live = search rules;

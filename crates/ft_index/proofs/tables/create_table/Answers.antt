@@ -12,6 +12,7 @@ use Rattle.ft_index.specs.Planned.{Makes, table_change}
 use Rattle.ft_documents.specs.Found.{with_info}
 use Rattle.ft_values.specs.declared.fault.Fault.TheVariants as faults
 use Rattle.ft_index.specs.Changed.{Changed, with_tables}
+use Rattle.ft_index.proofs.OtherRows.{makes_table}
 use Rattle.ft_index.proofs.Executing.{create_refused, create_nothing, create_adds, executes_refused}
 use Rattle.ft_store.specs.Kept.{StoreState, value_in}
 use Rattle.ft_index.specs.Crashes.{CommandSurvives}
@@ -56,7 +57,7 @@ returns-in_err-add_table g c = record {
       λ contents told. subst (λ o. Makes contents c.args.creation.now (Ok o)) c.in-Some.is
       (subst (Makes contents c.args.creation.now) made (c.made_table.ensures contents (ap (map shown_info) c.as_slice.ensures.value ∙ told))) in
       crash_changed g.S.Store c.args.store.now c.add_table.new.store tables (map shown_info c.add_table.new.tables.items) command (table_change c.in-Some.made ∷ [])
-      (λ up first holds. ((makes first holds.told).0, (made_is_held first c.args.creation.now c.in-Some.made (value_in g.S.Store c.args.store.now) tables (makes first holds.told) c.is_in_order.ensures.order holds).held, refl))
+      (λ up first holds. ((makes first holds.told).0, (made_is_held first c.args.creation.now c.in-Some.made (value_in g.S.Store c.args.store.now) tables (makes first holds.told) c.is_in_order.ensures.order holds).held, makes_table c.in-Some.made (value_in g.S.Store c.args.store.now)))
       c.add_table.ensures.makes.crash;
   live = search rules;
 }
@@ -96,7 +97,7 @@ returns g c = record {
             (subst (Makes contents c.args.creation.now) made (c.made_table.ensures contents (ap (map shown_info) c.as_slice.ensures.value ∙ told))) in
             subst (λ (s : StoreState g.row.S.Denot). CommandSurvives g.S.Store (with_tables c.args.store.now tables) command (with_tables s after)) (sym w.store-is)
             (crash_changed g.S.Store c.args.store.now w.add_table.new.store tables after command (table_change w.in-Some.made ∷ [])
-            (λ up first holds. ((makes first holds.told).0, (made_is_held first c.args.creation.now w.in-Some.made (value_in g.S.Store c.args.store.now) tables (makes first holds.told) c.is_in_order.ensures.order holds).held, refl))
+            (λ up first holds. ((makes first holds.told).0, (made_is_held first c.args.creation.now w.in-Some.made (value_in g.S.Store c.args.store.now) tables (makes first holds.told) c.is_in_order.ensures.order holds).held, makes_table w.in-Some.made (value_in g.S.Store c.args.store.now)))
             w.add_table.ensures.makes.crash)
         | in_default w ↦
             subst (λ (s : StoreState g.row.S.Denot). CommandSurvives g.S.Store (with_tables c.args.store.now tables) command (with_tables s after)) (sym w.store-is)

@@ -1,6 +1,6 @@
 -- nothing is left of a line, or a line ends
 use Rattle.std.proofs.Common.{rules, ◌≡◌, ◌∷◌, ◌++◌, [], ℕ, List, refl}
-use Rattle.plain_shell.specs.LinesRead.{members_left}
+use Rattle.plain_shell.specs.LinesRead.{Way, at_end, behind, members_left}
 use Rattle.ft_shell.proofs.RanLemmas.{passes_none, runs_as}
 use Rattle.ft_shell.proofs.session.Session.finish_line.Goals as goal
 
@@ -9,6 +9,6 @@ returns-then-is_between_lines-clause-runs g c = passes_none g.P.Store g.S.Store 
 
 pub returns-clause-runs : goal.returns-clause-runs
 returns-clause-runs g c =
-    let within : members_left c.args.lines.now [] ≡ members_left c.args.lines.now (10 ∷ []) = search rules in
-    runs_as g.P.Store g.S.Store c.end_line.result (λ (rest : List ℕ). members_left c.args.lines.now ([] ++ 10 ∷ rest)) (λ rest. members_left c.end_line.new.lines rest) (λ (_ : Unit {0}). members_left c.args.lines.now []) (λ _. members_left c.end_line.new.lines []) (λ _. []) _ _
+    let within : members_left c.args.lines.now at_end ≡ members_left c.args.lines.now (behind (10 ∷ []) at_end) = search rules in
+    runs_as g.P.Store g.S.Store c.end_line.result (λ (way : Way). members_left c.args.lines.now (behind [] (behind (10 ∷ []) way))) (members_left c.end_line.new.lines) (λ (_ : Unit {0}). members_left c.args.lines.now at_end) (λ _. members_left c.end_line.new.lines at_end) (λ _. at_end) _ _
     (λ _. within) (λ _ goes. refl) c.end_line.ensures.runs

@@ -1,27 +1,29 @@
 -- piece by piece, up to the end of the input
-use Rattle.std.proofs.Common.{rules, ◌≡◌, ◌<◌, ◌^◌, Err, length, ap, refl, arith}
+use Rattle.std.proofs.Common.{rules, ◌≡◌, ◌==◌, ◌<◌, ◌^◌, Err, length, ap, refl, arith}
+use Rattle.std.specs.List.{list_any}
 use Rattle.plain_shell.specs.declared.run.RunFault.TheVariants as causes
 use Rattle.plain_shell.specs.LinesRead.{LinesRead}
-use Rattle.ft_shell.proofs.PieceLemmas.{chunk_kept, has_read, interrupted_taking, interrupted_unread}
-use Rattle.ft_shell.proofs.RunLemmas.{completes, ends_err, so_far_kept, so_far_more, so_far_none, some_or_none, stops_at_flush, stops_first, stops_in_piece, stops_too_much, stops_unflushed}
+use Rattle.ft_shell.proofs.PieceLemmas.{chunk_kept, has_read, interrupted_taking}
+use Rattle.ft_shell.proofs.RunLemmas.{completes, ends_err, so_far_kept, so_far_more, so_far_none, some_or_none, stops_at_flush, stops_first, stops_in_piece, stops_too_much, stops_unflushed, stops_unread}
 use Rattle.plain_shell.proofs.WriteLemmas.{same_then}
 use Rattle.ft_shell.proofs.session.Session.run_pieces.Goals as goal
 
 pub returns-in_err-lines-clause-runs : goal.returns-in_err-lines-clause-runs
 returns-in_err-lines-clause-runs g c =
     let is : c.from_residual.result ≡ Err causes.Memory = search (rules, c.from_residual.ensures) in
-    ends_err g.P.Store g.S.Store c.from_residual.result causes.Memory _ _ is (stops_first g.P.Store g.S.Store causes.Memory _ _ _ _ (λ much. absurd (let wrong = much in cc)))
+    ends_err g.P.Store g.S.Store c.from_residual.result causes.Memory _ _ is (stops_first g.P.Store g.S.Store _ _ _ _)
 
 pub returns-in_err-chunk-clause-runs : goal.returns-in_err-chunk-clause-runs
 returns-in_err-chunk-clause-runs g c =
     let is : c.from_residual-in_err-chunk.result ≡ Err causes.Memory = search (rules, c.from_residual-in_err-chunk.ensures) in
-    ends_err g.P.Store g.S.Store c.from_residual-in_err-chunk.result causes.Memory _ _ is (stops_first g.P.Store g.S.Store causes.Memory _ _ _ _ (λ much. absurd (let wrong = much in cc)))
+    ends_err g.P.Store g.S.Store c.from_residual-in_err-chunk.result causes.Memory _ _ is (stops_first g.P.Store g.S.Store _ _ _ _)
 
 pub loop-total-init : goal.loop-total-init
 loop-total-init g c = record {
   run = so_far_none g.P.Store g.S.Store (2 ^ 30) _ _ _ c.blocks_read_whole.ensures c.in_ok-lines.ensures;
   size = omega (arith, c.in_ok-chunk.chunk.ok.0, c.in_ok-chunk.ensures.len);
   waits = ap (λ (f : LinesRead). f.splitting.waiting) c.in_ok-lines.ensures;
+  within = ap (λ (f : LinesRead). list_any (λ b. b == 10) f.line) c.in_ok-lines.ensures;
   goes = refl;
   writers = (refl, refl);
 }
@@ -37,8 +39,8 @@ pub returns-in_err-bytes-clause-runs : goal.returns-in_err-bytes-clause-runs
 returns-in_err-bytes-clause-runs g c =
     let is : c.from_residual-in_err-bytes.result ≡ Err c.in_err-bytes.field-0.0 = search (rules, c.from_residual-in_err-bytes.ensures) in
     ends_err g.P.Store g.S.Store c.from_residual-in_err-bytes.result c.in_err-bytes.field-0.0 _ _ is
-    (stops_in_piece g.P.Store g.S.Store c.in_err-bytes.field-0.0 (2 ^ 30) c.loop-total.total _ _ _ _ _ _ _ _ _ _ refl (so_far_kept g.P.Store g.S.Store (2 ^ 30) c.loop-total.total _ _ _ _ _ _ c.loop-total.invariant.run c.flush.ensures.bytes) c.loop-total.invariant.goes c.loop-total-test.true refl
-    (interrupted_unread g.P.Store g.S.Store c.in_err-bytes.field-0.0 _ _ _ _ _ c.in_err-bytes.ensures.fault c.in_err-bytes.ensures.kept))
+    (stops_unread g.P.Store g.S.Store c.in_err-bytes.field-0.0 (2 ^ 30) c.loop-total.total _ _ _ _ _ _ _ _ refl (so_far_kept g.P.Store g.S.Store (2 ^ 30) c.loop-total.total _ _ _ _ _ _ c.loop-total.invariant.run c.flush.ensures.bytes) c.loop-total.invariant.goes c.loop-total.invariant.waits c.loop-total.invariant.within c.loop-total-test.true
+    c.in_err-bytes.ensures.kept c.in_err-bytes.ensures.fault)
 
 pub returns-in_err-take_read-clause-runs : goal.returns-in_err-take_read-clause-runs
 returns-in_err-take_read-clause-runs g c =
@@ -73,9 +75,10 @@ loop-total-preserved g c =
           let some : 0 < c.loop-total.chunk.len = omega (arith, full, c.loop-total.invariant.size) in
           chunk_kept c.loop-total.chunk.len _ c.loop-total.chunk.items full some;
       waits = c.in_ok-take_read.ensures.waiting goes.0 goes.1;
+      within = c.in_ok-take_read.ensures.line goes.0 goes.1;
       goes = goes.1;
       writers = same_then c.args.outputs.now c.loop-total.outputs c.take_read.new.outputs c.loop-total.invariant.writers c.in_ok-take_read.ensures.writers;
     }
 
 pub returns-clause-runs : goal.returns-clause-runs
-returns-clause-runs g c = ends_err g.P.Store g.S.Store _ causes.TooMuch _ _ refl (stops_too_much g.P.Store g.S.Store (2 ^ 30) c.loop-total.total _ _ _ _ _ _ _ refl c.loop-total.invariant.run c.loop-total-test.false)
+returns-clause-runs g c = ends_err g.P.Store g.S.Store _ causes.TooMuch _ _ refl (stops_too_much g.P.Store g.S.Store (2 ^ 30) c.loop-total.total _ _ _ _ _ _ _ refl c.loop-total.invariant.run c.loop-total.invariant.goes c.loop-total.invariant.waits c.loop-total.invariant.within c.loop-total-test.false)

@@ -13,7 +13,7 @@ pub record Kept (run_far has_line are_same : Type 0) : Type 0 where
 
 abbrev pub invariant-loop-outputs : goal.invariant-loop-outputs
 invariant-loop-outputs g l = Kept
-    (Passes g.P.Store g.S.Store (λ (rest : List ℕ). members_left l.fn.lines rest) (λ rest. members_left l.lines rest)
+    (Passes g.P.Store g.S.Store (members_left l.fn.lines) (members_left l.lines)
     (moment g.O.Write.contents g.E.Write.contents (shell_with l.fn.self (g.F.Source.holds l.fn.source)) l.fn.outputs)
     (moment g.O.Write.contents g.E.Write.contents (shell_with l.self (g.F.Source.holds l.source)) l.outputs))
     (l.lines.line ≡ l.fn.lines.line) (SameWriters l.fn.outputs l.outputs)

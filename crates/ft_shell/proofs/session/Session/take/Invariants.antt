@@ -1,6 +1,6 @@
 -- the lines so far were taken, and no unit waits between two of them
 use Rattle.std.proofs.Common.{◌≡◌, ℕ, List, [], ◌++◌, false, length}
-use Rattle.plain_shell.specs.LinesRead.{members_left}
+use Rattle.plain_shell.specs.LinesRead.{Way, behind, members_left}
 use Rattle.plain_shell.specs.Writing.{SameWriters}
 use Rattle.ft_shell.specs.Shell.{shell_with}
 use Rattle.ft_shell.specs.Ran.{Passes, moment}
@@ -13,7 +13,7 @@ pub record Kept (run_far is_waiting are_same : Type 0) : Type 0 where
 
 abbrev pub invariant-loop-outputs : goal.invariant-loop-outputs
 invariant-loop-outputs g l = Kept
-    (Passes g.P.Store g.S.Store (λ (more : List ℕ). members_left l.fn.lines (l.bytes ++ more)) (λ more. members_left l.lines (l.rest ++ more))
+    (Passes g.P.Store g.S.Store (λ (way : Way). members_left l.fn.lines (behind l.bytes way)) (λ way. members_left l.lines (behind l.rest way))
     (moment g.O.Write.contents g.E.Write.contents (shell_with l.fn.self (g.F.Source.holds l.fn.source)) l.fn.outputs)
     (moment g.O.Write.contents g.E.Write.contents (shell_with l.self (g.F.Source.holds l.source)) l.outputs))
     (l.outputs.status.quit ≡ false → l.lines.splitting.waiting ≡ []) (SameWriters l.fn.outputs l.outputs)

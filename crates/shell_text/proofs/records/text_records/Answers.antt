@@ -1,12 +1,12 @@
-use Rattle.std.proofs.Common.{Bor, List, ℕ, ◌∙◌, sym, refl, inl, inr, map, Some, ◌∷◌, [], ap}
-use Rattle.std.proofs.lemmas.List.{map-append}
+use Rattle.std.proofs.Common.{Bor, List, ℕ, ◌∙◌, sym, refl, inl, inr, map, Some, ◌∷◌, ◌++◌, [], ap}
 use Rattle.csv.specs.Reading.{Reached, strip_bom}
 use Rattle.csv.specs.Records.{fields_of}
 use Rattle.csv.specs.declared.parser.Config.{Config}
 use Rattle.csv.specs.declared.parser.State.TheVariants as st
 use Rattle.csv.proofs.ReadFacts.{rows-end, rows-more}
+use Rattle.shell_text.specs.Print.{bytes_of}
 use Rattle.shell_text.specs.Records.{csv_reader}
-use Rattle.shell_text.proofs.records.byte_records.Goals as goal
+use Rattle.shell_text.proofs.records.text_records.Goals as goal
 
 pub loop-row-init : goal.loop-row-init
 unfolding Reached
@@ -19,26 +19,27 @@ loop-row-init c =
     let start = c.into_iter-row-iterator.ensures.into_iter_gives ∙ refl in
     let rdr = c.into_byte_records-row-items.ensures.rdr in
     let left = c.into_byte_records-row-items.ensures.left in
-    rw (start, rdr, c.new-rows.ensures.items) (
+    rw (start, rdr) (
       rw (e3, e2, e1) at fr.trim ∙ c.new.ensures.trim,
       inr (inr (rw (e3, e2, e1) at fr.has_headers, fr.headers)),
       left,
       rw (e3, e2, e1) at fr.config ∙ ap delimited c.new.ensures.config,
       strip_bom c.args.bytes.now,
       fr.source,
+      [],
       (sym fr.state, refl),
+      ap (map bytes_of) c.new-2.ensures.items,
     )
 
 pub loop-row-preserved : goal.loop-row-preserved
 loop-row-preserved c =
     let inv = c.loop-row.invariant in
     let s = rw (c.in-Some.is, c.in-Ok.is) at ((c.next.ensures.steps inv.2 inv.0).0 inv.1) in
-    let items = c.in_ok-push-in-Ok.ensures.items in
-    let m = rows-more (λ (s : Bor (List ℕ)). Some s.now) c.loop-row.row-iterator.rdr c.next.new.self.rdr (fields_of c.in-Ok.row) (csv_reader c.args.delimiter) st.StartRecord (strip_bom c.args.bytes.now) inv.4 (map fields_of c.loop-row.rows.items) inv.3 inv.5 inv.6 s.0 in
-    (s.0.3 ∙ inv.0, inl s.1, s.2, s.0.2 ∙ inv.3, m.0, m.1, rw (items, map-append fields_of c.loop-row.rows.items (c.in-Ok.row ∷ [])) m.2)
+    let m = rows-more (λ (s : Bor (List ℕ)). Some s.now) c.loop-row.row-iterator.rdr c.next.new.self.rdr (fields_of c.in-Ok.row) (csv_reader c.args.delimiter) st.StartRecord (strip_bom c.args.bytes.now) inv.4 inv.6 inv.3 inv.5 inv.7 s.0 in
+    (s.0.3 ∙ inv.0, inl s.1, s.2, s.0.2 ∙ inv.3, m.0, m.1, inv.6 ++ fields_of c.in-Ok.row ∷ [], m.2, c.in_ok-records-in-Ok.ensures inv.6 inv.8)
 
 pub returns : goal.returns
 returns c =
     let inv = c.loop-row.invariant in
     let s = rw c.in-None.is at ((c.next.ensures.steps inv.2 inv.0).0 inv.1) in
-    (c.loop-row.row-iterator.rdr.state, inv.4, inv.6, rows-end (λ (s : Bor (List ℕ)). Some s.now) c.loop-row.row-iterator.rdr c.next.new.self.rdr [] (csv_reader c.args.delimiter) inv.4 inv.3 inv.5 s)
+    (inv.6, (c.loop-row.row-iterator.rdr.state, inv.4, inv.7, rows-end (λ (s : Bor (List ℕ)). Some s.now) c.loop-row.row-iterator.rdr c.next.new.self.rdr [] (csv_reader c.args.delimiter) inv.4 inv.3 inv.5 s), inv.8)

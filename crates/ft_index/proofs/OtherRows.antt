@@ -1,0 +1,142 @@
+-- What commands leave under ids that no table has.
+use Rattle.std.proofs.Common.{◌≡◌, ℕ, Bool, true, false, cond, not, List, [], ◌∷◌, map, Some, None, ℤ, string_bytes, refl, sym, ap, ◌∙◌}
+use Rattle.std.specs.Prelude.{is_some, unwrap_or}
+use Rattle.std.specs.declared.cmp.Ordering.{Ordering}
+use Rattle.std.specs.Ordering.{int_cmp, int_eq, is_eq}
+use Rattle.std.specs.Cmp.{int_cmp_total, eq_by_cmp_equiv, tied_itself}
+use Rattle.std.specs.FinMap.Entries.{put, find, where_key, find-put, find-where_key}
+use Rattle.std.proofs.lemmas.Map.Lookups.{exact_signed}
+use Rattle.ft_values.specs.Cells.{Cell}
+use Rattle.ft_rows.specs.Store.{StoreValue, CellKey, ColumnKey, ListKey, cell_key_cmp, list_key_cmp, column_key_cmp, AddTable, DropTable, applied}
+use Rattle.ft_values.specs.declared.table.TableInfo.{TableInfo as RustTableInfo}
+use Rattle.ft_content.specs.Content.{names_of, same_name, skipped_from}
+use Rattle.ft_content.specs.Views.{column_of}
+use Rattle.ft_content.specs.Deserved.{Table, Contents, table_named}
+use Rattle.ft_content.specs.Index.{StoredSpot}
+use Rattle.ft_documents.specs.Tables.{table_rows, table_index}
+use Rattle.ft_documents.proofs.KeyedRows.{same_int}
+use Rattle.ft_index.specs.Kept.{KeepsOthers, names_table, no_index, no_rows}
+use Rattle.ft_index.specs.Planned.{table_change}
+use Rattle.ft_index.proofs.Lifting.{LeavesRest}
+use Rattle.ft_index.proofs.OneTable.{AreHeldIn, SparesAllBut}
+use Rattle.ft_index.proofs.TableChanges.{add_spares, drop_spares}
+
+pub keeps_same : (store : StoreValue) → KeepsOthers store store
+keeps_same store = record {
+  noted = refl;
+  rows = λ id none. ap (λ b. cond b no_rows (table_rows id store)) (sym none);
+  index = λ id none. ap (λ b. cond b no_index (table_index id store)) (sym none);
+}
+
+-- a table that contents have is named by their store
+pub names_held : (name : List ℕ) (t : ℤ × Table) (store : StoreValue) (tables : List (ℤ × List ℕ)) (contents : Contents) → AreHeldIn store tables contents → table_named contents name ≡ Some t → is_some (find int_cmp t.0 tables) ≡ true
+names_held name t store [] [] h found = absurd (let no = found in cc)
+names_held name t store [] (x ∷ xs) h found = absurd h
+names_held name t store (n ∷ ns) [] h found = absurd h
+names_held name t store (n ∷ ns) (x ∷ xs) h found = go (same_name x.1.name name) found (names_held name t store ns xs h.1)
+  where
+    here : x ≡ t → is_some (cond (int_eq t.0 n.0) (Some n.1) (find int_cmp t.0 ns)) ≡ true
+    here same =
+        let id : t.0 ≡ n.0 = ap (λ (y : ℤ × Table). y.0) (sym same) ∙ h.0.id in
+        let tied : int_eq t.0 n.0 ≡ true = ap (int_eq t.0) (sym id) ∙ ap is_eq (tied_itself int_cmp_total t.0) in
+        ap (λ b. is_some (cond b (Some n.1) (find int_cmp t.0 ns))) tied
+
+    later : (b : Bool) → is_some (find int_cmp t.0 ns) ≡ true → is_some (cond b (Some n.1) (find int_cmp t.0 ns)) ≡ true
+    later true rest = refl
+    later false rest = rest
+
+    go : (b : Bool) → cond b (Some x) (table_named xs name) ≡ Some t → (table_named xs name ≡ Some t → is_some (find int_cmp t.0 ns) ≡ true) → is_some (cond (int_eq t.0 n.0) (Some n.1) (find int_cmp t.0 ns)) ≡ true
+    go true found rest = here (ap (λ o. unwrap_or o x) found)
+    go false found rest = later (int_eq t.0 n.0) (rest found)
+
+-- where the rows of all tables but one stay, and this one is named afterwards
+keeps_spared : (id : ℤ) (old new : StoreValue) → SparesAllBut id old new → new.noted ≡ old.noted → names_table new id ≡ true → ((other : ℤ) → int_eq id other ≡ false → names_table new other ≡ names_table old other) → KeepsOthers old new
+keeps_spared id old new spares noted named others = record {
+  noted = noted;
+  rows = λ other none. by (table_rows other new ≡ cond (names_table old other) no_rows (table_rows other old)) other none (λ apart. spares.rows other apart ∙ ap (λ b. cond b no_rows (table_rows other old)) (sym none ∙ others other apart));
+  index = λ other none. by (table_index other new ≡ cond (names_table old other) no_index (table_index other old)) other none (λ apart. spares.index other apart ∙ ap (λ b. cond b no_index (table_index other old)) (sym none ∙ others other apart));
+}
+  where
+    by : (Goal : Type 0) (other : ℤ) → names_table new other ≡ false → (int_eq id other ≡ false → Goal) → Goal
+    by Goal other none apart = go (int_eq id other) refl
+      where
+        go : (b : Bool) → int_eq id other ≡ b → Goal
+        go true same = absurd (let no = sym named ∙ ap (names_table new) (same_int id other same) ∙ none in cc)
+        go false e = apart e
+
+-- changes of documents of a table
+pub keeps_changed : (id : ℤ) (old new : StoreValue) → LeavesRest id old new → names_table old id ≡ true → KeepsOthers old new
+keeps_changed id old new leaves named =
+    keeps_spared id old new leaves.others leaves.noted (ap (λ ts. is_some (find int_cmp id ts)) leaves.tables ∙ named) (λ other apart. ap (λ ts. is_some (find int_cmp other ts)) leaves.tables)
+
+-- other tables are named as before, without this one and with it
+named_without : (id other : ℤ) (tables : List (ℤ × List ℕ)) → int_eq id other ≡ false → find int_cmp other (where_key int_cmp (λ k. not (int_eq id k)) tables) ≡ find int_cmp other tables
+named_without id other tables apart =
+    find-where_key int_cmp (λ k. not (int_eq id k)) other (λ x e. ap (λ k. not (int_eq id k)) (sym (exact_signed other x e))) tables ∙ ap (λ b. cond (not b) (find int_cmp other tables) None) apart
+
+-- a table that is made
+keeps_added : (id : ℤ) (name : List ℕ) (columns : List (List ℕ)) (skipped : List ℤ) (store : StoreValue) → KeepsOthers store (applied (AddTable id name columns skipped) store)
+keeps_added id name columns skipped store =
+    keeps_spared id store (applied (AddTable id name columns skipped) store) (add_spares id name columns skipped store) refl
+    (ap is_some (put_found id) ∙ ap (λ b. is_some (cond b (Some name) (find int_cmp id others))) (ap is_eq (tied_itself int_cmp_total id)))
+    (λ other apart. ap is_some (put_found other ∙ ap (λ b. cond b (Some name) (find int_cmp other others)) ((eq_by_cmp_equiv int_cmp_total).symm other id ∙ apart) ∙ named_without id other store.tables apart))
+  where
+    others : List (ℤ × List ℕ)
+    others = where_key int_cmp (λ k. not (int_eq id k)) store.tables
+
+    put_found : (q : ℤ) → find int_cmp q (put int_cmp id name others) ≡ cond (int_eq q id) (Some name) (find int_cmp q others)
+    put_found q = find-put int_cmp int_cmp_total q id name others
+
+pub makes_table : (made : RustTableInfo) (store : StoreValue) → KeepsOthers store (applied (table_change made) store)
+makes_table made store = keeps_added made.id (string_bytes made.name) (names_of (map column_of made.columns.items)) (skipped_from 0 (map column_of made.columns.items)) store
+
+none_twice : {K V : Type 0} (R : K → K → Ordering) (p : K → Bool) (rows : List (K × V)) → where_key R p (where_key R (λ k. not (p k)) rows) ≡ []
+none_twice R p [] = refl
+none_twice R p (row ∷ rows) = go (p row.0) refl (none_twice R p rows)
+  where
+    go : (b : Bool) → p row.0 ≡ b → where_key R p (where_key R (λ k. not (p k)) rows) ≡ [] → where_key R p (cond (not (p row.0)) (row ∷ where_key R (λ k. not (p k)) rows) (where_key R (λ k. not (p k)) rows)) ≡ []
+    go true is rest = ap (λ b. where_key R p (cond (not b) (row ∷ where_key R (λ k. not (p k)) rows) (where_key R (λ k. not (p k)) rows))) is ∙ rest
+    go false is rest =
+        ap (λ b. where_key R p (cond (not b) (row ∷ where_key R (λ k. not (p k)) rows) (where_key R (λ k. not (p k)) rows))) is
+        ∙ ap (λ b. cond b (row ∷ where_key R p (where_key R (λ k. not (p k)) rows)) (where_key R p (where_key R (λ k. not (p k)) rows))) is ∙ rest
+
+-- a table that goes
+pub keeps_dropped : (id : ℤ) (store : StoreValue) → names_table store id ≡ true → KeepsOthers store (applied (DropTable id) store)
+keeps_dropped id store named = record {
+  noted = refl;
+  rows = λ other none. go_rows other (int_eq id other) refl none;
+  index = λ other none. go_index other (int_eq id other) refl none;
+}
+  where
+    new : StoreValue
+    new = applied (DropTable id) store
+
+    spares : SparesAllBut id store new
+    spares = drop_spares id store
+
+    there : (other : ℤ) → int_eq id other ≡ true → names_table store other ≡ true
+    there other same = ap (names_table store) (sym (same_int id other same)) ∙ named
+
+    names : (other : ℤ) → int_eq id other ≡ false → names_table new other ≡ names_table store other
+    names other apart = ap is_some (named_without id other store.tables apart)
+
+    rows_gone : table_rows id new ≡ no_rows
+    rows_gone = λ i. record {
+      columns = map (λ (c : ColumnKey × List ℕ). (c.0.1, c.1)) (none_twice column_key_cmp (λ k. int_eq id k.0) store.columns i);
+      skipped = map (λ (s : ColumnKey × Unit {0}). s.0.1) (none_twice column_key_cmp (λ k. int_eq id k.0) store.skipped i);
+      cells = map (λ (c : CellKey × Cell). record { docid = c.0.1; column = c.0.2; value = c.1 }) (none_twice cell_key_cmp (λ k. int_eq id k.0) store.cells i);
+    }
+
+    index_gone : table_index id new ≡ no_index
+    index_gone = λ i. record {
+      lists = map (λ (l : ListKey × List StoredSpot). ((l.0.1, l.0.2), l.1)) (none_twice list_key_cmp (λ k. int_eq id k.0) store.lists i);
+      sizes = map (λ (z : CellKey × ℤ). record { docid = z.0.1; column = z.0.2; n = z.1 }) (none_twice cell_key_cmp (λ k. int_eq id k.0) store.sizes i);
+    }
+
+    go_rows : (other : ℤ) (b : Bool) → int_eq id other ≡ b → names_table new other ≡ false → table_rows other new ≡ cond (names_table store other) no_rows (table_rows other store)
+    go_rows other true same none = ap (λ k. table_rows k new) (sym (same_int id other same)) ∙ rows_gone ∙ ap (λ b. cond b no_rows (table_rows other store)) (sym (there other same))
+    go_rows other false apart none = spares.rows other apart ∙ ap (λ b. cond b no_rows (table_rows other store)) (sym none ∙ names other apart)
+
+    go_index : (other : ℤ) (b : Bool) → int_eq id other ≡ b → names_table new other ≡ false → table_index other new ≡ cond (names_table store other) no_index (table_index other store)
+    go_index other true same none = ap (λ k. table_index k new) (sym (same_int id other same)) ∙ index_gone ∙ ap (λ b. cond b no_index (table_index other store)) (sym (there other same))
+    go_index other false apart none = spares.index other apart ∙ ap (λ b. cond b no_index (table_index other store)) (sym none ∙ names other apart)
