@@ -1,6 +1,6 @@
 -- Why the row of a new table's name is refused.
-use Rattle.std.proofs.Common.{◌≡◌, ◌≢◌, ◌∙◌, ◌∷◌, ◌⊎◌, ◌<◌, ◌+◌, ◌^◌, ◌/◌, ℕ, ℤ, pos, negsuc, Bool, true, false, not, nat_lt, List, [], length, map, cond, Option, Some, None, Ok, Err, inl, inr, refl, sym, ap, subst, arith, IsTrue, true≢false, FitsSigned, w64, Ordering, Equal, ◌&&◌, is_eq}
-use Rattle.std.specs.List.{AllByRecursion, list_all}
+use Rattle.std.proofs.Common.{◌≡◌, ◌∙◌, ◌∷◌, ◌⊎◌, ◌^◌, ℕ, ℤ, pos, negsuc, Bool, true, false, not, List, [], length, map, cond, Some, None, Ok, inl, inr, refl, sym, ap, subst, arith, IsTrue, true≢false, FitsSigned, w64, Ordering, Equal, ◌&&◌, is_eq}
+use Rattle.std.specs.List.{AllByRecursion}
 use Rattle.std.specs.Ordering.{eq_by_cmp, int_cmp, int_eq}
 use Rattle.std.specs.Cmp.{IsTotalOrder}
 use Rattle.std.specs.FinMap.Entries.{find, where_key, find-where_key}
@@ -9,8 +9,8 @@ use Rattle.std.proofs.lemmas.Cmp.{int_cmp_total}
 use Rattle.std.proofs.lemmas.Bool.{and_parts, both_ways, ltb-false, true_from_ne_false}
 use Rattle.sqlite.specs.declared.types.Value.TheVariants.{Null, Int, Text}
 use Rattle.sqlite.specs.Order.{Row, column}
-use Rattle.sqlite_value.specs.Order.{bytes, value_cmp}
-use Rattle.sqlite_value.specs.Keys.{first_key, without_case}
+use Rattle.sqlite_value.specs.Order.{value_cmp}
+use Rattle.sqlite_value.specs.Keys.{first_key}
 use Rattle.sqlite_value.proofs.OrderLemmas.{value_cmp-Int}
 use Rattle.sqlite.specs.Tree.{Trees}
 use Rattle.sqlite_trees.specs.Tree.{with_tree, put_row, rowid}
@@ -25,7 +25,7 @@ use Rattle.sqlite_schema.specs.declared.schema.Keys.TheVariants.{Enforced}
 use Rattle.sqlite_schema.specs.Rules.{agree, clashes, differ}
 use Rattle.sqlite_rules.specs.Lists.{Has}
 use Rattle.sqlite_rules.specs.Keys.{are_unique}
-use Rattle.sqlite_rules.specs.Edit.{id_in, is_taken, are_fresh, IsRefused, IsOversized}
+use Rattle.sqlite_rules.specs.Edit.{is_taken, are_fresh, IsRefused, IsOversized}
 use Rattle.sqlite_rules.specs.declared.error.Refusal.{Refusal}
 use Rattle.sqlite_rules.specs.declared.error.Refusal.TheVariants.{Violates, Mismatch, NoRowid, BadReference, TooDeep}
 use Rattle.sqlite_rules.proofs.RuleLemmas.{unique_kept}
@@ -36,20 +36,18 @@ use Rattle.sqlite_typed.proofs.RowLemmas.{int_is_number, zero_is_number}
 use Rattle.ft_store.specs.Tables.{store_schema, tab_table, case_order}
 use Rattle.ft_store.specs.Rows.{table_entry, value_of}
 use Rattle.ft_store.specs.Calls.{IsStore, HasOwnRowids}
-use Rattle.ft_store.specs.Blame.{IsBlamed}
 use Rattle.ft_store.specs.Puts.{IsGrown, AreGrown, IsTooBig, IsOthers}
 use Rattle.ft_store.proofs.Texts.{add_name_text}
 use Rattle.ft_store.proofs.TextLemmas.{add_name_terms, add_name_is, add_name_plain}
 use Rattle.ft_store.proofs.TypedLemmas.{IsNameRow, are_names, int_is}
 use Rattle.ft_store.proofs.AnswerLemmas.{sound_of}
 use Rattle.ft_store.proofs.AskedLemmas.{is_whole}
-use Rattle.ft_store.proofs.KeyedLemmas.{AreApart, find-keyed, some_first, none_from, equal_from, itself, apart_back, respects}
+use Rattle.ft_store.proofs.KeyedLemmas.{AreApart, find-keyed, some_first, equal_from, itself, apart_back, respects}
 use Rattle.ft_store.proofs.OrderLemmas.{tied_ints, tied_names}
 use Rattle.ft_store.proofs.RowidLemmas.{IsInt}
 use Rattle.ft_store.proofs.ApartLemmas.{names_apart}
 use Rattle.ft_store.proofs.ChangeLemmas.{inserts, cast_null, cast_int}
 use Rattle.ft_store.proofs.WriteLemmas.{turned_case}
-use Rattle.ft_store.proofs.GoneLemmas.{wrote_grown}
 use Rattle.ft_store.proofs.RiseLemmas.{grown_same}
 use Rattle.ft_store.proofs.AddedLemmas.{RunBlamed, oversized_why}
 use Rattle.ft_store.proofs.InsertLemmas.{CantAdd, put_in, made_rows, insert_blamed, turned, never_bad, same_not_differ, too_big}

@@ -1,20 +1,18 @@
 -- What the statements that put rows leave room for, and why they are refused.
-use Rattle.std.proofs.Common.{◌≡◌, ◌≢◌, ◌∙◌, ◌∷◌, ◌⊎◌, ◌≤◌, ◌<◌, ◌+◌, ◌^◌, ◌/◌, ℕ, ℤ, Bool, true, false, not, nat_eq, List, [], length, map, drop, Option, Some, None, Ok, Err, inl, inr, refl, sym, ap, subst, arith, IsTrue, true≢false, slice_get}
+use Rattle.std.proofs.Common.{◌≡◌, ◌≢◌, ◌∙◌, ◌∷◌, ◌⊎◌, ◌+◌, ℕ, ℤ, Bool, true, false, List, [], length, map, Option, Some, None, Ok, Err, inl, inr, refl, sym, ap, subst, arith, IsTrue, true≢false, slice_get}
 use Rattle.std.specs.Prelude.{Any, MatchBool, if◌then◌else◌}
 use Rattle.std.specs.List.{AllByRecursion, list_all, flat_map}
 use Rattle.std.specs.FinMap.Entries.{find}
 use Rattle.std.specs.Ordering.{eq_by_cmp}
-use Rattle.std.proofs.lemmas.Bool.{eqb-true, eqb-false, both_ways}
+use Rattle.std.proofs.lemmas.Bool.{both_ways}
 use Rattle.sqlite.specs.declared.types.Value.TheVariants.{Null, Int, Text, Blob}
-use Rattle.sqlite.specs.Order.{Row, column}
+use Rattle.sqlite.specs.Order.{Row}
 use Rattle.sqlite.specs.Tree.{Trees}
 use Rattle.sqlite.specs.Table.{Table}
-use Rattle.sqlite.specs.Term.{Term, holds}
-use Rattle.sqlite.specs.Program.{overlay}
-use Rattle.sqlite.specs.Command.TheVariants.{Insert, Delete}
+use Rattle.sqlite.specs.Term.{Term}
+use Rattle.sqlite.specs.Command.TheVariants.{Insert}
 use Rattle.sqlite.specs.Source.TheVariants.{Values}
 use Rattle.sqlite.specs.Effect.{Database, RefusesSource, edit_error}
-use Rattle.sqlite.specs.Rows.{stamped}
 use Rattle.sqlite_value.specs.Order.{bytes, value_cmp}
 use lib.Ieee
 use Rattle.sqlite_sql.specs.Ops.{binary}
@@ -37,7 +35,7 @@ use Rattle.sqlite_schema.specs.Rules.{agree, passes, table_reals, index_reals}
 use Rattle.sqlite_value.specs.declared.keys.Order.{Order}
 use Rattle.sqlite_rules.specs.Lists.{Has}
 use Rattle.sqlite_rules.specs.Keys.{are_unique}
-use Rattle.sqlite_rules.specs.Edit.{with_rowid, next_rowid, numbered, put_all, id_in, IsOversized}
+use Rattle.sqlite_rules.specs.Edit.{with_rowid, next_rowid, numbered, IsOversized}
 use Rattle.sqlite_rules.proofs.ListLemmas.{all_has, contains_had}
 use Rattle.sqlite_trees.specs.Tree.{with_tree, put_row}
 use Rattle.sqlite_trees.specs.View.{IsStorable, IsStorableRow}
@@ -50,7 +48,7 @@ use Rattle.ft_store.specs.Tables.{store_schema, a_table, col_table, cell_table, 
 use Rattle.ft_store.specs.Rows.{num_of, txt_of, column_entry, skip_entry, cell_entry, list_entry, size_entry, note_entry, value_of}
 use Rattle.ft_store.specs.Calls.{IsStore, HasOwnRowids}
 use Rattle.ft_store.specs.Blame.{IsBlamed}
-use Rattle.ft_store.specs.Puts.{IsFull, IsGrown, AreGrown, IsTooBig, IsBigEntry}
+use Rattle.ft_store.specs.Puts.{IsFull, AreGrown, IsTooBig, IsBigEntry}
 use Rattle.ft_store.specs.Groups.{Entry, entry_values}
 use Rattle.ft_store.proofs.GroupLemmas.{all_eight}
 use Rattle.ft_store.proofs.Texts.{add_column_text, add_skip_text, add_cell_text, add_list_text, add_lists_text, add_size_text, add_note_text}
@@ -60,7 +58,7 @@ use Rattle.ft_store.proofs.AnswerLemmas.{sound_of}
 use Rattle.ft_store.proofs.AskedLemmas.{is_whole}
 use Rattle.ft_store.proofs.KeyedLemmas.{find-keyed}
 use Rattle.ft_store.proofs.OrderLemmas.{tied_column_keys, column_key_total, tied_cell_keys, cell_key_total, tied_list_keys, list_key_total, tied_names, name_total}
-use Rattle.ft_store.proofs.ChangeLemmas.{Wrote, deletes, inserts_all, cast_null, cast_int}
+use Rattle.ft_store.proofs.ChangeLemmas.{inserts_all, cast_null, cast_int}
 use Rattle.ft_store.proofs.WriteLemmas.{then_tie, turned, turned_text, turned_case, cast_num, cast_txt, cast_lists, list_row}
 use Rattle.ft_store.proofs.GoneLemmas.{wrote_grown}
 use Rattle.ft_store.proofs.RiseLemmas.{IsUnnumbered, numbered_grown, trees_same}

@@ -1,5 +1,5 @@
 -- Why changes are refused, told by the rows that there were before all of them.
-use Rattle.std.proofs.Common.{◌≡◌, ◌∙◌, ◌∷◌, ◌++◌, ◌⊎◌, ◌≤◌, ◌<◌, ◌+◌, ℕ, ℤ, Bool, true, false, List, [], length, map, take, drop, get_or, All, Result, Ok, inl, inr, refl, sym, ap, ap₂, subst, arith, IsTrue, append_assoc, true≢false}
+use Rattle.std.proofs.Common.{◌≡◌, ◌∙◌, ◌∷◌, ◌++◌, ◌⊎◌, ◌≤◌, ◌<◌, ◌+◌, ℕ, Bool, true, false, List, [], length, map, take, drop, get_or, All, Result, Ok, inl, inr, refl, sym, ap, subst, arith, append_assoc, true≢false}
 use Rattle.std.specs.Prelude.{Any, String, string_bytes}
 use Rattle.std.specs.List.{AllByRecursion, sum_by, between}
 use Rattle.std.specs.Borrow.{MutBor}

@@ -1,32 +1,27 @@
 -- Why an INSERT into a table of a store is refused.
-use Rattle.std.proofs.Common.{◌≡◌, ◌≢◌, ◌∙◌, ◌∷◌, ◌++◌, ◌||◌, ◌&&◌, ◌⊎◌, ◌≤◌, ◌<◌, ◌+◌, ◌*◌, ◌/◌, ◌^◌, ℕ, zero, suc, ℤ, Bool, true, false, not, nat_lt, List, [], length, map, drop, Option, Some, None, Ok, Err, inl, inr, refl, sym, ap, subst, arith, IsTrue, true≢false, slice_get, length-append, eq-eqb, ne_eqb, is_eq, Ordering}
+use Rattle.std.proofs.Common.{◌≡◌, ◌≢◌, ◌∙◌, ◌∷◌, ◌||◌, ◌&&◌, ◌⊎◌, ◌≤◌, ◌<◌, ◌+◌, ◌/◌, ◌^◌, ℕ, zero, suc, ℤ, Bool, true, false, not, nat_lt, List, [], length, map, drop, Option, Some, None, Err, inl, inr, refl, sym, ap, subst, arith, IsTrue, true≢false, slice_get, length-append, eq-eqb, ne_eqb, is_eq, Ordering}
 use Rattle.std.specs.Prelude.{IsSome, option_map}
-use Rattle.std.specs.List.{AllByRecursion, list_all, list_any, sum_by}
+use Rattle.std.specs.List.{AllByRecursion, list_all, sum_by}
 use Rattle.std.specs.Int.{bit_at}
 use Rattle.std.specs.Ordering.{int_cmp, eq_by_cmp}
 use Rattle.std.specs.Cmp.{tied_itself}
 use Rattle.std.proofs.lemmas.Cmp.{int_cmp_total}
 use Rattle.std.specs.FinMap.Entries.{find}
 use Rattle.std.specs.Float.{NotNan}
-use Rattle.std.proofs.lemmas.Bool.{ltb-false, ltb-true, and_parts, false_from_ne_true, both_ways, not-true}
+use Rattle.std.proofs.lemmas.Bool.{ltb-false, ltb-true, and_parts, false_from_ne_true, both_ways}
 use Rattle.std.proofs.lemmas.List.Elements.{All-from_recursion}
 use Rattle.std.proofs.lemmas.Nat.Bits.{bit_at-zero}
 use Rattle.sqlite.specs.declared.types.Value.{Value}
-use Rattle.sqlite.specs.declared.types.Value.TheVariants.{Null, Int, Text, Blob}
-use Rattle.sqlite.specs.Order.{Row, column}
+use Rattle.sqlite.specs.declared.types.Value.TheVariants.{Int}
+use Rattle.sqlite.specs.Order.{Row}
 use Rattle.sqlite_value.specs.Order.{bytes, number}
 use Rattle.sqlite_value.specs.declared.keys.Order.{Order}
 use Rattle.sqlite.specs.Tree.{Trees}
 use Rattle.sqlite.specs.Table.{Table}
 use Rattle.sqlite.specs.Term.{Term}
-use Rattle.sqlite_trees.specs.Tree.{IsAscending, with_tree, rowid, put_row}
-use Rattle.sqlite_trees.specs.View.{is_int, IsStorable, IsStorableRow}
-use Rattle.sqlite_sql.specs.Ops.{fits_i64, binary, is_true}
-use Rattle.sqlite_sql.specs.declared.ops.BinaryOp.TheVariants.{Compare}
+use Rattle.sqlite_trees.specs.Tree.{with_tree, rowid, put_row}
+use Rattle.sqlite_trees.specs.View.{IsStorable, IsStorableRow}
 use Rattle.sqlite_sql.specs.declared.ops.CompareOp.TheVariants.{Ne}
-use Rattle.sqlite.specs.Collation.TheVariants.{Binary}
-use Rattle.sqlite_sql.specs.Catalog.{entry_of}
-use Rattle.sqlite.specs.Command.{Command}
 use Rattle.sqlite.specs.Command.TheVariants.{Insert}
 use Rattle.sqlite.specs.Source.TheVariants.{Values}
 use Rattle.sqlite.specs.Effect.{Database, RefusesSource, value_rows, edit_error}
@@ -40,14 +35,13 @@ use Rattle.sqlite.specs.declared.error.ErrorCode.TheVariants as code
 use Rattle.ft_store.specs.Blame.{IsBlamed}
 use Rattle.sqlite.specs.declared.error.Error.{Error}
 use Rattle.sqlite_schema.specs.declared.schema.Column.{Column}
-use Rattle.sqlite_schema.specs.declared.schema.Index.{Index}
 use Rattle.sqlite_schema.specs.declared.schema.Constraint.TheVariants.{Datatype, NotNull, Check, PrimaryKey, Unique, ForeignKey}
 use Rattle.sqlite_schema.specs.declared.schema.Keys.TheVariants.{Enforced}
-use Rattle.sqlite_schema.specs.Rules.{agree, clashes, differ, passes, Keeps, table_reals, index_reals}
+use Rattle.sqlite_schema.specs.Rules.{agree, clashes, differ, passes}
 use Rattle.sqlite_rules.specs.Cast.{cast_row}
 use Rattle.sqlite_rules.specs.Lists.{Has}
 use Rattle.sqlite_rules.specs.Keys.{are_unique}
-use Rattle.sqlite_rules.specs.Edit.{Edit, edit_of, edited, are_fresh, numbered, put_all, have_rowids, is_referred, IsRefused, IsOversized}
+use Rattle.sqlite_rules.specs.Edit.{Edit, are_fresh, numbered, put_all, have_rowids, IsRefused, IsOversized}
 use Rattle.sqlite.specs.Rowids.TheVariants.{Chosen}
 use Rattle.sqlite_rules.specs.declared.error.Refusal.{Refusal}
 use Rattle.sqlite_rules.specs.declared.error.Refusal.TheVariants.{Violates, Mismatch, NoRowid, BadReference, TooDeep}
@@ -59,7 +53,7 @@ use Rattle.sqlite_catalog.specs.Listing.{IsSound}
 use Rattle.sqlite_typed.proofs.TestLemmas.{at_ints}
 use Rattle.ft_store.specs.Tables.{store_schema, a_table}
 use Rattle.ft_store.specs.Calls.{IsStore, HasOwnRowids}
-use Rattle.ft_store.specs.Puts.{IsFull, IsTooBig}
+use Rattle.ft_store.specs.Puts.{IsFull}
 use Rattle.ft_store.proofs.KeyedLemmas.{some_first}
 use Rattle.ft_store.proofs.RowidLemmas.{IsInt}
 use Rattle.ft_store.proofs.AskedLemmas.{is_whole}

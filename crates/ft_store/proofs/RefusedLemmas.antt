@@ -37,11 +37,7 @@ use Rattle.sqlite_rules.proofs.TableLemmas.{without_all_has}
 use Rattle.sqlite_catalog.specs.Listing.{IsSound}
 use Rattle.sqlite_keyed.proofs.ListLemmas.{all_of}
 use Rattle.ft_store.specs.Tables.{store_schema, tab_table, col_table, cell_table, posting_table, sizes_table, skip_table}
-use Rattle.ft_values.specs.declared.rows.RowChange.{RowChange}
-use Rattle.ft_values.specs.declared.rows.RowChange.TheVariants as row
-use Rattle.std.proofs.Common.{All}
-use Rattle.ft_store.specs.Groups.{PutsList}
-use Rattle.ft_store.specs.Blame.{IsBlamed, TakesOut}
+use Rattle.ft_store.specs.Blame.{IsBlamed}
 use Rattle.ft_store.specs.Calls.{IsStore}
 use Rattle.ft_store.proofs.TextLemmas.{table_query, no_limit, no_offset, drop_name_terms, drop_name_is, drop_name_plain, drop_columns_terms, drop_columns_is, drop_columns_plain, drop_contents_terms, drop_contents_is, drop_contents_plain, drop_cells_terms, drop_cells_is, drop_cells_plain, drop_lists_terms, drop_lists_is, drop_lists_plain, drop_list_terms, drop_list_is, drop_list_plain, drop_sizes_terms, drop_sizes_is, drop_sizes_plain, drop_size_terms, drop_size_is, drop_size_plain, drop_skips_terms, drop_skips_is, drop_skips_plain}
 use Rattle.ft_store.proofs.Texts.{drop_name_text, drop_columns_text, drop_contents_text, drop_cells_text, drop_lists_text, drop_list_text, drop_sizes_text, drop_size_text, drop_skips_text}

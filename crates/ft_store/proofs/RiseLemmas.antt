@@ -1,11 +1,10 @@
 -- How the rowids of a table go on when rows are put and taken out.
-use Rattle.std.proofs.Common.{◌≡◌, ◌≢◌, ◌⊎◌, ◌≤◌, ◌<◌, ◌+◌, ◌-◌, ◌^◌, ◌≤ℤ◌, ◌<ℤ◌, ◌+ℤ◌, ℕ, ℤ, pos, negsuc, zero, suc, Bool, true, false, not, ◌&&◌, cond, drop, List, [], ◌∷◌, ◌++◌, fold, filter, length, Ordering, Less, Equal, Greater, refl, sym, ap, ◌∙◌, subst, arith, IsTrue, inl, inr, true≢false}
+use Rattle.std.proofs.Common.{◌≡◌, ◌⊎◌, ◌≤◌, ◌+◌, ◌-◌, ◌^◌, ◌≤ℤ◌, ◌<ℤ◌, ◌+ℤ◌, ℕ, ℤ, pos, negsuc, suc, Bool, true, false, ◌&&◌, cond, drop, List, [], ◌∷◌, ◌++◌, fold, filter, length, Less, Equal, Greater, refl, sym, ap, ◌∙◌, subst, arith, inl, inr, true≢false}
 use Rattle.std.specs.List.{AllByRecursion, list_all}
-use Rattle.std.specs.Ordering.{int_cmp, match_ordering}
+use Rattle.std.specs.Ordering.{match_ordering}
 use Rattle.std.proofs.lemmas.Int.{ints}
 use Rattle.std.proofs.lemmas.Bool.{ltb-false}
 use Rattle.std.proofs.lemmas.List.Sums.{fold_push}
-use Rattle.sqlite.specs.declared.types.Value.{Value}
 use Rattle.sqlite.specs.declared.types.Value.TheVariants.{Null, Int}
 use Rattle.sqlite.specs.Order.{Row}
 use Rattle.sqlite.specs.Tree.{Trees}
@@ -111,8 +110,7 @@ grown_put : (new : Row) (rows : List Row) → AllByRecursion IsInt rows → rowi
 grown_put new rows keyed is ok =
     let lower = all_both (λ r. id_in (rowid r) <ℤ next_rowid rows) IsInt (λ r. value_cmp (rowid r) (rowid new) ≡ Less) (less_than_new new (next_rowid rows) is) rows (below rows ok.rise keyed) keyed in
     let behind = put_last new rows lower in
-    let id : id_in (rowid new) ≡ next_rowid rows = ap id_in is in
-    (
+    let id : id_in (rowid new) ≡ next_rowid rows = ap id_in is in (
       record {
         rise = subst IsTable (sym behind) (ascending_push _ rows new ok.rise lower);
         fit = subst (AllByRecursion (λ r. negsuc (2 ^ 63 - 1) ≤ℤ id_in (rowid r))) (sym behind) (all_push _ rows new ok.fit (subst (λ z. negsuc (2 ^ 63 - 1) ≤ℤ z) (sym id) (next_fit rows (pos 1) least ok.fit)));

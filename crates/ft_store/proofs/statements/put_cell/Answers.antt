@@ -46,7 +46,7 @@ returns-clause-grown g c = λ clean inside kept.
     let store = kept gone.1.1.was_open in
     let one = does_drop_cell old mid store gone.1.1 c.args.tab c.args.docid c.args.column gone.0 gone.1.0 in
     on_ok_weaker c.run-2.result (λ (ran : (count : ℕ) × ExecutesInside 0 add_cell_text (Int c.args.tab ∷ Int c.args.docid ∷ Int c.args.column ∷ num_of (shown_value c.args.value.now) ∷ txt_of (shown_value c.args.value.now) ∷ []) mid new (Ok count)).
-        trees_then 0 1 old.now.trees mid.now.trees new.now.trees (drop_cell_grown c.args.tab c.args.docid c.args.column old mid gone.0 store gone.1.0) (add_cell_grown c.args.tab c.args.docid c.args.column (shown_value c.args.value.now) mid new ran.0 one.store ran.1.0))
+    trees_then 0 1 old.now.trees mid.now.trees new.now.trees (drop_cell_grown c.args.tab c.args.docid c.args.column old mid gone.0 store gone.1.0) (add_cell_grown c.args.tab c.args.docid c.args.column (shown_value c.args.value.now) mid new ran.0 one.store ran.1.0))
     ((simp (to_z-of_z, c.ranges.tab, c.ranges.docid, c.ranges.column, bound_num, bound_txt) at (rw (c.beside_value-4.ensures, c.beside_value-5.ensures, c.beside_value-6.ensures, c.number_of.ensures, c.text_of.ensures.value) at c.run-2.ensures.done.steps)) clean one.shown.mode)
 
 pub returns-in_err-run-clause-refused : goal.returns-in_err-run-clause-refused

@@ -43,7 +43,7 @@ returns-clause-grown g c = λ clean inside kept.
     let one = (simp (to_z-of_z, c.ranges.tab, c.ranges.docid) at c.in_ok-drop_list.ensures.done.steps) clean_1 inside kept in
     let first = c.in_ok-drop_list.ensures.grown clean_1 inside kept in
     on_ok_weaker c.run.result (λ (ran : (count : ℕ) × ExecutesInside 0 add_list_text (Int c.args.tab ∷ Text c.args.term.now ∷ Int c.args.docid ∷ Blob c.args.list.now ∷ []) mid new (Ok count)).
-        trees_then 0 1 old.now.trees mid.now.trees new.now.trees first (add_list_grown c.args.tab c.args.term.now c.args.docid c.args.list.now mid new ran.0 one.store ran.1.0))
+    trees_then 0 1 old.now.trees mid.now.trees new.now.trees first (add_list_grown c.args.tab c.args.term.now c.args.docid c.args.list.now mid new ran.0 one.store ran.1.0))
     ((simp (to_z-of_z, c.ranges.tab, c.ranges.docid) at (rw (c.beside.ensures, c.to_sql.ensures, c.beside-2.ensures, c.to_sql-2.ensures) at c.run.ensures.done.steps)) clean one.shown.mode)
 
 pub returns-in_err-drop_list-clause-refused : goal.returns-in_err-drop_list-clause-refused

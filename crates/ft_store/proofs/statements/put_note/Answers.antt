@@ -45,7 +45,7 @@ returns-clause-grown g c = λ clean inside kept.
     let store = kept gone.1.1.was_open in
     let one = does_drop_note old mid store gone.1.1 c.args.name.now gone.0 gone.1.0 in
     on_ok_weaker c.run-2.result (λ (ran : (count : ℕ) × ExecutesInside 0 add_note_text (Text c.args.name.now ∷ []) mid new (Ok count)).
-        trees_then 0 1 old.now.trees mid.now.trees new.now.trees (drop_note_grown c.args.name.now old mid gone.0 store gone.1.0) (add_note_grown c.args.name.now mid new ran.0 one.store ran.1.0))
+    trees_then 0 1 old.now.trees mid.now.trees new.now.trees (drop_note_grown c.args.name.now old mid gone.0 store gone.1.0) (add_note_grown c.args.name.now mid new ran.0 one.store ran.1.0))
     ((rw c.to_sql-2.ensures at c.run-2.ensures.done.steps) clean one.shown.mode)
 
 pub returns-in_err-run-clause-refused : goal.returns-in_err-run-clause-refused

@@ -41,7 +41,7 @@ returns-clause-grown g c = λ clean inside kept.
     let one = (simp (to_z-of_z, c.ranges.tab, c.ranges.docid, c.ranges.column) at c.in_ok-drop_size.ensures.done.steps) clean_1 inside kept in
     let first = c.in_ok-drop_size.ensures.grown clean_1 inside kept in
     on_ok_weaker c.run.result (λ (ran : (count : ℕ) × ExecutesInside 0 add_size_text (Int c.args.tab ∷ Int c.args.docid ∷ Int c.args.column ∷ Int c.args.n ∷ []) mid new (Ok count)).
-        trees_then 0 1 old.now.trees mid.now.trees new.now.trees first (add_size_grown c.args.tab c.args.docid c.args.column c.args.n mid new ran.0 one.store ran.1.0))
+    trees_then 0 1 old.now.trees mid.now.trees new.now.trees first (add_size_grown c.args.tab c.args.docid c.args.column c.args.n mid new ran.0 one.store ran.1.0))
     ((simp (to_z-of_z, c.ranges.tab, c.ranges.docid, c.ranges.column, c.ranges.n) at (rw (c.to_sql.ensures, c.to_sql-2.ensures, c.to_sql-3.ensures, c.to_sql-4.ensures) at c.run.ensures.done.steps)) clean one.shown.mode)
 
 pub returns-in_err-drop_size-clause-refused : goal.returns-in_err-drop_size-clause-refused

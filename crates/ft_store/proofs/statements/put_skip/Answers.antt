@@ -43,7 +43,7 @@ returns-clause-grown g c = λ clean inside kept.
     let store = kept gone.1.1.was_open in
     let one = does_drop_skip old mid store gone.1.1 c.args.tab c.args.column gone.0 gone.1.0 in
     on_ok_weaker c.run-2.result (λ (ran : (count : ℕ) × ExecutesInside 0 add_skip_text (Int c.args.tab ∷ Int c.args.column ∷ []) mid new (Ok count)).
-        trees_then 0 1 old.now.trees mid.now.trees new.now.trees (drop_skip_grown c.args.tab c.args.column old mid gone.0 store gone.1.0) (add_skip_grown c.args.tab c.args.column mid new ran.0 one.store ran.1.0))
+    trees_then 0 1 old.now.trees mid.now.trees new.now.trees (drop_skip_grown c.args.tab c.args.column old mid gone.0 store gone.1.0) (add_skip_grown c.args.tab c.args.column mid new ran.0 one.store ran.1.0))
     ((simp (to_z-of_z, c.ranges.tab, c.ranges.column) at (rw (c.to_sql-3.ensures, c.to_sql-4.ensures) at c.run-2.ensures.done.steps)) clean one.shown.mode)
 
 pub returns-in_err-run-clause-refused : goal.returns-in_err-run-clause-refused

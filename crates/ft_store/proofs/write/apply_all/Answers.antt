@@ -35,13 +35,12 @@ loop-at-preserved g c =
       survives_then old was now _ _ _ (λ _ db none. none) (λ _ db none. none) c.loop-at.invariant.1 c.apply_group.ensures.done.stays.survives,
       λ clean. keeps_then old was now (c.loop-at.invariant.2 (omega (arith, c.apply_group.ensures.done.stays.survives.clean))) (c.apply_group.ensures.done.stays.kept clean),
       λ clean inside kept.
-          let before = c.loop-at.invariant.3 (omega (arith, c.apply_group.ensures.done.stays.survives.clean)) inside kept in
-          (
+          let before = c.loop-at.invariant.3 (omega (arith, c.apply_group.ensures.done.stays.survives.clean)) inside kept in (
             group_goes changes at end le old was now (value_of old.now.trees) before.0
-            (c.in_ok-apply_group.ensures.done.steps clean before.0.inside (λ is_open. (before.0.going (before.0.was_open is_open)).1)),
+                (c.in_ok-apply_group.ensures.done.steps clean before.0.inside (λ is_open. (before.0.going (before.0.was_open is_open)).1)),
             grown_count _ _ old.now.trees now.now.trees (more_rows changes at end le)
-            (trees_then (sum_by rows_of (map shown_change (take at changes))) (sum_by rows_of (map shown_change (between at end changes))) old.now.trees was.now.trees now.now.trees before.1
-            (c.in_ok-apply_group.ensures.grown clean before.0.inside (λ is_open. (before.0.going (before.0.was_open is_open)).1))),
+                (trees_then (sum_by rows_of (map shown_change (take at changes))) (sum_by rows_of (map shown_change (between at end changes))) old.now.trees was.now.trees now.now.trees before.1
+                (c.in_ok-apply_group.ensures.grown clean before.0.inside (λ is_open. (before.0.going (before.0.was_open is_open)).1))),
           ),
     )
 

@@ -31,13 +31,12 @@ loop-change-preserved g c =
       survives_then old was now _ _ _ (λ _ db none. none) (λ _ db none. none) c.loop-change.invariant.1 c.apply.ensures.done.stays.survives,
       λ clean. keeps_then old was now (c.loop-change.invariant.2 (omega (arith, c.apply.ensures.done.stays.survives.clean))) (c.apply.ensures.done.stays.kept clean),
       λ clean inside kept.
-          let before = c.loop-change.invariant.3 (omega (arith, c.apply.ensures.done.stays.survives.clean)) inside kept in
-          (
+          let before = c.loop-change.invariant.3 (omega (arith, c.apply.ensures.done.stays.survives.clean)) inside kept in (
             goes_on old was now c.args.changes.now at c.change-item.result (value_of old.now.trees) c.loop-change-test.true c.change-item.is before.0
-            (c.in_ok-apply.ensures.done.steps clean before.0.inside (λ is_open. (before.0.going (before.0.was_open is_open)).1)),
+                (c.in_ok-apply.ensures.done.steps clean before.0.inside (λ is_open. (before.0.going (before.0.was_open is_open)).1)),
             grown_count _ _ old.now.trees now.now.trees (one_more_rows c.args.changes.now at c.change-item.result c.loop-change-test.true c.change-item.is)
-            (trees_then (sum_by rows_of (map shown_change (take at c.args.changes.now))) (rows_of (shown_change c.change-item.result)) old.now.trees was.now.trees now.now.trees before.1
-            (c.in_ok-apply.ensures.grown clean before.0.inside (λ is_open. (before.0.going (before.0.was_open is_open)).1))),
+                (trees_then (sum_by rows_of (map shown_change (take at c.args.changes.now))) (rows_of (shown_change c.change-item.result)) old.now.trees was.now.trees now.now.trees before.1
+                (c.in_ok-apply.ensures.grown clean before.0.inside (λ is_open. (before.0.going (before.0.was_open is_open)).1))),
           ),
     )
 

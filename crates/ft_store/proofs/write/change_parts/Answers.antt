@@ -1,4 +1,4 @@
-use Rattle.std.proofs.Common.{[], ◌⊎◌, inl, inr, refl}
+use Rattle.std.proofs.Common.{[], ◌⊎◌, refl}
 use Rattle.sqlite.specs.State.{HasCleanDisk}
 use Rattle.ft_store.specs.declared.fault.StoreFault.TheVariants as fault
 use Rattle.ft_store.specs.Blame.{IsBlamed}
@@ -68,10 +68,10 @@ loop-tx-preserved g c =
             let before = c.loop-tx.invariant.2.3 (omega (arith, c.apply_all.ensures.done.stays.survives.clean)) in
             let kept : IsTrue was.is_open → IsStore was.now = λ is_open. (before.0.going (before.0.was_open is_open)).1 in (
               part_goes old was now (value_of old.now.trees) done (map shown_change part.items) before.0
-              (subst (λ l. Goes was now (all_applied (map shown_change l) (value_of was.now.trees))) c.as_slice.ensures.value (c.in_ok-apply_all.ensures.done.steps clean before.0.inside kept)),
+                  (subst (λ l. Goes was now (all_applied (map shown_change l) (value_of was.now.trees))) c.as_slice.ensures.value (c.in_ok-apply_all.ensures.done.steps clean before.0.inside kept)),
               grown_count _ _ old.now.trees now.now.trees (sym (sum_by-append rows_of done (map shown_change part.items)))
-              (trees_then (sum_by rows_of done) (sum_by rows_of (map shown_change part.items)) old.now.trees was.now.trees now.now.trees before.1
-              (subst (λ (l : List RowChange). AreGrown (sum_by rows_of (map shown_change l)) was.now.trees now.now.trees) c.as_slice.ensures.value (c.in_ok-apply_all.ensures.grown clean before.0.inside kept))),
+                  (trees_then (sum_by rows_of done) (sum_by rows_of (map shown_change part.items)) old.now.trees was.now.trees now.now.trees before.1
+                  (subst (λ (l : List RowChange). AreGrown (sum_by rows_of (map shown_change l)) was.now.trees now.now.trees) c.as_slice.ensures.value (c.in_ok-apply_all.ensures.grown clean before.0.inside kept))),
             ),
       ),
     )
@@ -98,9 +98,9 @@ returns-in_err-apply_all-clause-refused g c = λ clean is.
     let next : left ≡ map shown_change part.items ∷ rest = subst (λ r. IsNext left r rest) (c.in_ok-changes.was ∙ ap Ok c.in-Some.is) c.next.ensures in
     let refused : c.apply_all.result ≡ Err fault.Refused = search rules in
     let inside : HasCleanDisk now → IsBlamed old now ⊎ CantPutAll old.now.trees whole = λ clean_now.
-        let clean_was : HasCleanDisk was = omega (arith, clean_now, c.apply_all.ensures.done.stays.survives.clean) in
-        let before = c.loop-tx.invariant.2.3 clean_was in
-        let kept : IsTrue was.is_open → IsStore was.now = λ is_open. (before.0.going (before.0.was_open is_open)).1 in
-        let why = subst (λ (l : List RowChange). IsBlamed was now ⊎ CantPutAll was.now.trees (map shown_change l)) c.as_slice.ensures.value (c.apply_all.ensures.refused clean_now before.0.inside kept refused) in
-        part_why old was now _ _ done (map shown_change part.items) (changes_in rest) whole (one_part whole done left rest part.items c.loop-tx.invariant.2.1 next) clean_was c.loop-tx.invariant.1 c.apply_all.ensures.done.stays.survives before.0 before.1 why in
+    let clean_was : HasCleanDisk was = omega (arith, clean_now, c.apply_all.ensures.done.stays.survives.clean) in
+    let before = c.loop-tx.invariant.2.3 clean_was in
+    let kept : IsTrue was.is_open → IsStore was.now = λ is_open. (before.0.going (before.0.was_open is_open)).1 in
+    let why = subst (λ (l : List RowChange). IsBlamed was now ⊎ CantPutAll was.now.trees (map shown_change l)) c.as_slice.ensures.value (c.apply_all.ensures.refused clean_now before.0.inside kept refused) in
+    part_why old was now _ _ done (map shown_change part.items) (changes_in rest) whole (one_part whole done left rest part.items c.loop-tx.invariant.2.1 next) clean_was c.loop-tx.invariant.1 c.apply_all.ensures.done.stays.survives before.0 before.1 why in
     first_of (search (rules, inside, blamed_at), grind (arith, inside))

@@ -28,12 +28,11 @@ loop-at-preserved g c =
       survives_then old was now _ _ _ (λ _ db none. none) (λ _ db none. none) c.loop-at.invariant.1 c.put_column.ensures.done.stays.survives,
       λ clean. keeps_then old was now (c.loop-at.invariant.2 (omega (arith, c.put_column.ensures.done.stays.survives.clean))) (c.put_column.ensures.done.stays.kept clean),
       λ clean inside is_open store.
-          let before = c.loop-at.invariant.3 (omega (arith, c.put_column.ensures.done.stays.survives.clean)) inside is_open store in
-          (
+          let before = c.loop-at.invariant.3 (omega (arith, c.put_column.ensures.done.stays.survives.clean)) inside is_open store in (
             column_step old was now _ _ c.args.columns.now c.loop-at.at c.index-columns-at.result c.loop-at-test.true c.index-columns-at.is (omega (arith, ints)) before.0
-            ((rw c.as_str.ensures.value at c.in_ok-put_column.ensures.done.steps) clean before.0.shown.mode (λ _. before.0.store)),
+                ((rw c.as_str.ensures.value at c.in_ok-put_column.ensures.done.steps) clean before.0.shown.mode (λ _. before.0.store)),
             subst (λ n. AreGrown n old.now.trees now.now.trees) (sym (take_one c.args.columns.now c.loop-at.at c.loop-at-test.true))
-            (trees_then (length (take c.loop-at.at c.args.columns.now)) 1 old.now.trees was.now.trees now.now.trees before.1 (c.in_ok-put_column.ensures.grown clean before.0.shown.mode (λ _. before.0.store))),
+                (trees_then (length (take c.loop-at.at c.args.columns.now)) 1 old.now.trees was.now.trees now.now.trees before.1 (c.in_ok-put_column.ensures.grown clean before.0.shown.mode (λ _. before.0.store))),
           ),
     )
 

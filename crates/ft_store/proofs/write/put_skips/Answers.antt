@@ -22,11 +22,10 @@ loop-column-preserved g c =
       survives_then old was now _ _ _ (λ _ db none. none) (λ _ db none. none) c.loop-column.invariant.1 c.put_skip.ensures.done.stays.survives,
       λ clean. keeps_then old was now (c.loop-column.invariant.2 (omega (arith, c.put_skip.ensures.done.stays.survives.clean))) (c.put_skip.ensures.done.stays.kept clean),
       λ clean inside is_open store.
-          let before = c.loop-column.invariant.3 (omega (arith, c.put_skip.ensures.done.stays.survives.clean)) inside is_open store in
-          (
+          let before = c.loop-column.invariant.3 (omega (arith, c.put_skip.ensures.done.stays.survives.clean)) inside is_open store in (
             skip_step old was now _ _ c.args.skipped.now c.loop-column.column-index c.loop-column-test.true (to_z-of_z fits) before.0 (c.in_ok-put_skip.ensures.done.steps clean before.0.shown.mode (λ _. before.0.store)),
             subst (λ n. AreGrown n old.now.trees now.now.trees) (sym (take_one c.args.skipped.now c.loop-column.column-index c.loop-column-test.true))
-            (trees_then (length (take c.loop-column.column-index c.args.skipped.now)) 1 old.now.trees was.now.trees now.now.trees before.1 (c.in_ok-put_skip.ensures.grown clean before.0.shown.mode (λ _. before.0.store))),
+                (trees_then (length (take c.loop-column.column-index c.args.skipped.now)) 1 old.now.trees was.now.trees now.now.trees before.1 (c.in_ok-put_skip.ensures.grown clean before.0.shown.mode (λ _. before.0.store))),
           ),
     )
 
