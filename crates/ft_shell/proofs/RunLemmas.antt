@@ -323,10 +323,10 @@ stops_in_piece g h fault most total room before mid after left shell out err b c
         stops_inside g h fault most before after (so.read ++ piece.bytes) shell out err c size
         (breaks_then g h fault _ (λ way. members_left left (behind (take room piece.bytes) way)) (opening shell out err) b c (run_before g h most total room before mid left (opening shell out err) b so fits is piece.bytes) goes within)
         (consumes_then before mid after so.read piece.bytes so.consumed piece.consumed) piece.cause
-    go (inr (none, at_end, last)) =
+    go (inr (none, is_at_end, last)) =
         stops_at_end g h fault before after so.read shell out err c
         (breaks_then g h fault _ (λ _. members_left left at_end) (opening shell out err) b c (run_to_end g h most total before mid left (opening shell out err) b so fits) goes last)
-        (consumes_to_end before mid after so.read piece.bytes so.consumed piece.consumed none) at_end piece.cause
+        (consumes_to_end before mid after so.read piece.bytes so.consumed piece.consumed none) is_at_end piece.cause
 
 -- what was run was not flushed
 pub stops_unflushed : {P S : Type 0} (g : Ghosts P) (h : Ghosts S) (fault : RunFault) (most total : ℕ) (before after : Option (List ℕ)) (left : LinesRead) (shell : Shell P S) (out err out' : Option (List ℕ)) (b : Moment P S) → most ≡ 2 ^ 30 → SoFar g h most total before after left (opening shell out err) b → Keeps b.out out' → fault ≡ causes.Write →

@@ -1,5 +1,5 @@
 -- the refusal, and then the units
-use Rattle.std.proofs.Common.{rules, ◌≡◌, ◌∷◌, ◌++◌, ℕ, List, Err, false, refl}
+use Rattle.std.proofs.Common.{rules, ◌≡◌, [], ◌∷◌, ◌++◌, List, Err, false, refl}
 use Rattle.shell_text.specs.Units.{Member}
 use Rattle.plain_shell.specs.declared.run.RunFault.TheVariants as causes
 use Rattle.plain_shell.specs.LinesRead.{Way, behind, members_left, refused_as}
