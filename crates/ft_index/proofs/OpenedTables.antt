@@ -1,8 +1,7 @@
 -- Tables that are told as they are read.
-use Rattle.std.proofs.Common.{◌≡◌, ℕ, Bool, true, false, cond, Some, List, [], ◌∷◌, ◌++◌, map, ℤ, refl, sym, ap, subst, ◌∙◌, arith}
-use Rattle.std.specs.Prelude.{IsTrue, unwrap_or}
-use Rattle.std.specs.List.{AllZip, find}
-use Rattle.std.specs.Ordering.{int_eq}
+use Rattle.std.proofs.Common.{◌≡◌, ℕ, List, [], ◌∷◌, ◌++◌, map, ℤ, refl, sym, ap, subst, ◌∙◌, arith}
+use Rattle.std.specs.Prelude.{IsTrue}
+use Rattle.std.specs.List.{AllZip}
 use Rattle.sqlite.specs.State.{HasCleanDisk}
 use Rattle.sqlite.specs.Effect.{Database}
 use Rattle.sqlite.specs.Store.{Ghosts}
@@ -10,7 +9,7 @@ use Rattle.ft_store.specs.Rows.{value_of}
 use Rattle.ft_store.specs.Kept.{StoreState, shows, value_in}
 use Rattle.ft_values.specs.declared.rows.TabRow.{TabRow}
 use Rattle.ft_rows.specs.Store.{StoreValue}
-use Rattle.ft_rows.specs.Shown.{Listed, shown_table, table_listed, AreNamedApart}
+use Rattle.ft_rows.specs.Shown.{shown_table, table_listed, AreNamedApart}
 use Rattle.ft_content.specs.Content.{repeats_name}
 use Rattle.ft_content.specs.Views.{TableInfo}
 use Rattle.ft_content.specs.Deserved.{Table, Contents}

@@ -4,7 +4,7 @@ use Rattle.std.specs.List.{list_any, flat_map}
 use Rattle.sqlite.specs.Effect.{Database}
 use Rattle.sqlite.specs.Store.{Ghosts}
 use Rattle.ft_query.specs.Trees.{Tree}
-use Rattle.ft_rows.specs.Store.{StoreValue, AreInOrder}
+use Rattle.ft_rows.specs.Store.{AreInOrder}
 use Rattle.ft_store.specs.Rows.{value_of as value_of_trees}
 use Rattle.ft_store.specs.Kept.{StoreState, value_in, more_rows}
 use Rattle.ft_values.specs.declared.fault.Fault.{Fault}

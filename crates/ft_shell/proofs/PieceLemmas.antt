@@ -1,10 +1,9 @@
 -- Pieces of an input that are read.
 use Rattle.std.proofs.Common.{◌≡◌, ◌≢◌, ◌⊎◌, ℕ, ◌-◌, ◌<◌, min, List, [], ◌++◌, length, take, drop, Option, Result, Ok, Err, refl, sym, ap, ◌∙◌, arith, length-append, inl, inr}
-use Rattle.std.specs.Io.KnownBytes.{Consumes, IsAtEnd, Keeps}
+use Rattle.std.specs.Io.KnownBytes.{Consumes, IsAtEnd}
 use Rattle.std.proofs.lemmas.List.{length-drop, length-take-le, take_all}
 use Rattle.sqlite.specs.Store.{Ghosts}
 use Rattle.plain_shell.specs.declared.run.RunFault.{RunFault}
-use Rattle.plain_shell.specs.declared.run.RunFault.TheVariants as causes
 use Rattle.plain_shell.specs.LinesRead.{LinesRead, Way, at_end, behind, members_left}
 use Rattle.ft_shell.specs.Ran.{Moment, Runs, TakesRead}
 use Rattle.ft_shell.proofs.RanLemmas.{runs_as}

@@ -265,8 +265,8 @@ ended_done : {P S : Type 0} (g : Ghosts P) (h : Ghosts S) (most total : ℕ) (be
 ended_done g h most total before after left a b so goes waits within =
     let front = so.passes.front going_on in
     let all : ended_members (take most so.read) ≡ so.passes.done =
-        ap (λ xs. members_from false start (lines_of false xs)) (sym (append-nil (take most so.read))) ∙ front.1
-        ∙ ap (λ ms. so.passes.done ++ ms) (front.2 goes ∙ none_left left waits within) ∙ append-nil so.passes.done in
+    ap (λ xs. members_from false start (lines_of false xs)) (sym (append-nil (take most so.read))) ∙ front.1
+    ∙ ap (λ ms. so.passes.done ++ ms) (front.2 goes ∙ none_left left waits within) ∙ append-nil so.passes.done in
     subst (λ ms. Turns g h ms a.shell b.shell so.passes.did.effects) (sym all) so.passes.did.turns
 
 stops_within : {P S : Type 0} (g : Ghosts P) (h : Ghosts S) (fault : RunFault) (most : ℕ) (before after : Option (List ℕ)) (read : List ℕ) (shell : Shell P S) (out err : Option (List ℕ)) (b : Moment P S) → most ≡ 2 ^ 30 → (p : Breaks g h fault (members_by (take most read)) (opening shell out err) b) →

@@ -79,7 +79,8 @@ module _ {P S : Type 0} (g : Ghosts P) (h : Ghosts S) where
   -- The turn of a Select among all calls, of which it is the one of its turn. What it writes is the
   -- reply by the settings that are in force there, or that it lacks memory for it, and stands on
   -- both outputs between what the turns before it and those after it write.
-  pub record Lists (old : Parts P S) (reads : List (List ℕ)) (all : Effects) (before : List Call) (select : Command) (reply : Reply) (more : List Call) (new : Parts P S) : Type 0 where
+  pub record Lists (old : Parts P S) (reads : List (List ℕ)) (all : Effects) (before : List Call) (select : Command) (reply : Reply) (more : List Call)
+      (new : Parts P S) : Type 0 where
     pub line : ℕ
     pub text : List ℕ
     pub was : Shell P S
@@ -117,8 +118,8 @@ module _ {P S : Type 0} (g : Ghosts P) (h : Ghosts S) where
   -- After any runs the full-text tables are what the accepted commands make of them, where the disk
   -- returned what was written.
   abbrev pub KeptByRuns : (FullText S → Type 0) → Type 0
-  KeptByRuns IsClean = (first : Contents) (old new : Parts P S) (reads : List (List ℕ)) (all : Effects) → Holds h old.full_text first → IsSettled h old.full_text
-      → AllRan g h old reads all new → IsClean new.full_text → PromiseKept first old reads all new
+  KeptByRuns IsClean = (first : Contents) (old new : Parts P S) (reads : List (List ℕ)) (all : Effects) → Holds h old.full_text first
+      → IsSettled h old.full_text → AllRan g h old reads all new → IsClean new.full_text → PromiseKept first old reads all new
 
   -- So it is after one run.
   abbrev pub RanAndKept : Result Status RunFault → Console P S → Console P S → Type 0

@@ -1,5 +1,6 @@
 -- Steps. How the tables of a store are made.
-use Rattle.std.specs.Prelude.{◌≡◌, None, Result, Ok, Err, ℕ, ◌+◌, ◌-◌, ◌*◌, ◌^◌, ◌<◌, ◌&&◌, Bool, true, false, not, nat_lt, nat_eq, List, [], length, take, codes, IsTrue, IsUtf8, OnOk}
+use Rattle.std.specs.Prelude.{◌≡◌, None, Result, Ok, Err, ℕ, ◌+◌, ◌-◌, ◌*◌, ◌^◌, ◌<◌, ◌&&◌, Bool, true, false, not, nat_lt, nat_eq}
+use Rattle.std.specs.Prelude.{List, [], length, take, codes, IsTrue, IsUtf8, OnOk}
 use Rattle.std.specs.List.{AllByRecursion}
 use Rattle.sqlite.specs.declared.types.Value.TheVariants.{Text}
 use Rattle.sqlite.specs.Tree.{Trees}

@@ -1,7 +1,8 @@
 -- Meaning. Why the database refuses rows that are put. The database gives a row the rowid after the
 -- last one of its table, a number of 64 bits, and takes no row of more than a billion bytes, with 18
 -- for each value.
-use Rattle.std.specs.Prelude.{Bool, if◌then◌else◌, IfOk, ◌≡◌, ◌≢◌, ◌⊎◌, ◌≤◌, ◌<◌, ◌+◌, ◌-◌, ◌*◌, ◌^◌, ◌≤ℤ◌, ◌++◌, ℕ, ℤ, pos, negsuc, List, [], ◌∷◌, length, fold, Any, Some, Result, Err, IsTrue, OnOk}
+use Rattle.std.specs.Prelude.{Bool, if◌then◌else◌, IfOk, ◌≡◌, ◌≢◌, ◌⊎◌, ◌≤◌, ◌<◌, ◌+◌, ◌-◌, ◌*◌, ◌^◌, ◌≤ℤ◌, ◌++◌, ℕ, ℤ, pos, negsuc}
+use Rattle.std.specs.Prelude.{List, [], ◌∷◌, length, fold, Any, Some, Result, Err, IsTrue, OnOk}
 use Rattle.std.specs.List.{AllByRecursion, sum_by}
 use Rattle.std.specs.Ordering.{int_cmp}
 use Rattle.std.specs.FinMap.Entries.{find}
@@ -130,7 +131,8 @@ BlamesIfOpen g old new result Why =
 abbrev pub RefusesAdd : {S X : Type 0} → Ghosts S → Held S → Held S → Result X StoreFault → List ℕ → Row → Type 0
 RefusesAdd g old new result sql params =
     HasCleanDisk (state g new) → IsTrue (state g old).in_transaction → result ≡ Err fault.Refused
-    → (e : Error) × (e ≢ SqliteFailure code.OutOfMemory) × ((rule : Constraint) → e ≢ SqliteFailure (code.ConstraintViolation rule)) × ExecutesInside 0 sql params (state g old) (state g new) (Err e)
+    → (e : Error) × (e ≢ SqliteFailure code.OutOfMemory) × ((rule : Constraint) → e ≢ SqliteFailure (code.ConstraintViolation rule))
+    × ExecutesInside 0 sql params (state g old) (state g new) (Err e)
 
 -- a list that is added is too big
 abbrev pub IsBigEntry : Entry → Type 0

@@ -1,5 +1,5 @@
 -- by the table of the name, and its rows as they are read
-use Rattle.std.proofs.Common.{rules, ◌≡◌, inr, map, Err, Result, sym, subst, ◌∙◌, FitsSigned, w64, to_z-of_z}
+use Rattle.std.proofs.Common.{rules, ◌≡◌, inr, map, Err, Result, sym, subst, ◌∙◌}
 use Rattle.ft_store.specs.Kept.{value_in}
 use Rattle.ft_values.specs.declared.fault.Fault.{Fault}
 use Rattle.ft_content.specs.declared.command.Reply.{Reply}

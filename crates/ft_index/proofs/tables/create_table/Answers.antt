@@ -1,5 +1,5 @@
 -- by what is made, and what the store does
-use Rattle.std.proofs.Common.{rules, ◌≡◌, ◌⊎◌, ◌∷◌, [], map, cond, Ok, Err, None, Some, Result, Vec, Global, refl, sym, ap, subst, ◌∙◌}
+use Rattle.std.proofs.Common.{rules, ◌≡◌, ◌⊎◌, ◌∷◌, [], map, cond, Ok, Err, None, Some, Result, Vec, Global, sym, ap, subst, ◌∙◌}
 use Rattle.std.specs.Prelude.{is_ok}
 use Rattle.ft_values.specs.declared.fault.Fault.{Fault}
 use Rattle.ft_content.specs.declared.command.Reply.{Reply}

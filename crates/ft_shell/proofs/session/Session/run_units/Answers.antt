@@ -1,5 +1,5 @@
 -- one unit after the other
-use Rattle.std.proofs.Common.{rules, ◌≡◌, ◌∷◌, ◌∙◌, ℕ, List, Err, false, sym, ap, refl}
+use Rattle.std.proofs.Common.{rules, ◌≡◌, ◌∷◌, ◌∙◌, List, Err, false, sym, ap, refl}
 use Rattle.shell_text.specs.Units.{Member}
 use Rattle.shell_text.specs.Splitting.{member_of_unit}
 use Rattle.plain_shell.specs.LinesRead.{LinesRead, Way, members_left}

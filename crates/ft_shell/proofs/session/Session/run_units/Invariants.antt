@@ -1,5 +1,5 @@
 -- the units that waited so far were run, and those that wait are ever fewer
-use Rattle.std.proofs.Common.{◌≡◌, ℕ, List, length}
+use Rattle.std.proofs.Common.{◌≡◌, length}
 use Rattle.plain_shell.specs.LinesRead.{members_left}
 use Rattle.plain_shell.specs.Writing.{SameWriters}
 use Rattle.ft_shell.specs.Shell.{shell_with}

@@ -1,5 +1,5 @@
 -- the lines so far were taken, and no unit waits between two of them
-use Rattle.std.proofs.Common.{◌≡◌, ℕ, List, [], ◌++◌, false, length}
+use Rattle.std.proofs.Common.{◌≡◌, [], false, length}
 use Rattle.plain_shell.specs.LinesRead.{Way, behind, members_left}
 use Rattle.plain_shell.specs.Writing.{SameWriters}
 use Rattle.ft_shell.specs.Shell.{shell_with}

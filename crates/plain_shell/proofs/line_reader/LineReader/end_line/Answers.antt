@@ -10,7 +10,7 @@ returns-clause-left c =
     let line : c.as_slice.result.now ≡ c.self-2.inside.line.items = c.as_slice.ensures.value ∙ ap vec_items c.replace-line.ensures.value in
     IfOk-weaker c.take_line-2.result _ _
     (λ refused left way.
-        let rest = behind (10 ∷ []) way in
-        c.in_ok-keep.ensures.left rest ∙ ap (λ (a : LinesRead). members_left a rest) (sym c.self-2.view_is)
-        ∙ ap (λ l. members_left (record { splitting = c.self-2.inside.splitter; line = l }) rest) (sym line) ∙ left way)
+    let rest = behind (10 ∷ []) way in
+    c.in_ok-keep.ensures.left rest ∙ ap (λ (a : LinesRead). members_left a rest) (sym c.self-2.view_is)
+    ∙ ap (λ l. members_left (record { splitting = c.self-2.inside.splitter; line = l }) rest) (sym line) ∙ left way)
     c.take_line-2.ensures.left
