@@ -126,7 +126,7 @@ run_read g h (Err fault) old new all ran = ran.0.consumed
 all_ran : {P S : Type 0} (g : Ghosts P) (h : Ghosts S) (inputs : List (Option (List ℕ))) (cause : Option RunFault) (old new : Stage P S) (all : Effects) → InTurn g h inputs cause old new all → RanInputs g h inputs old new all
 all_ran {P} {S} g h [] cause old new all (is_none, same, nothing) =
     subst (λ (s : Stage P S). RanInputs g h [] old s all) (sym same) (subst (RanInputs g h [] old old) (sym nothing) (record { reads = []; read = tt; ran = none_ran old.parts }))
-all_ran {P} {S} g h (input ∷ inputs) cause old new all (ended, mid, own, (left, ran), goes) = by_end ended ran goes
+all_ran {P} {S} g h (input ∷ inputs) cause old new all (ended, mid, own, (left, ran), goes) = by_end (λ rest later. all_ran g h inputs cause mid new rest later) ended ran goes
   where
     only : (ended : Result Status RunFault) → Ran g h ended (console old input) (console mid left) own → new ≡ mid → all ≡ own → RanInputs g h (input ∷ inputs) old new all
     only ended ran same whole =
@@ -137,15 +137,15 @@ all_ran {P} {S} g h (input ∷ inputs) cause old new all (ended, mid, own, (left
           ran = last_ran ended (console old input) (console mid left) own ran;
         }))
 
-    by_end : (ended : Result Status RunFault) → Ran g h ended (console old input) (console mid left) own → MatchResult ended
+    by_end : ((rest : Effects) → InTurn g h inputs cause mid new rest → RanInputs g h inputs mid new rest) → (ended : Result Status RunFault) → Ran g h ended (console old input) (console mid left) own → MatchResult ended
         (λ status. MatchBool own.ends ((cause ≡ None) × (new ≡ mid) × (all ≡ own)) ((rest : Effects) × InTurn g h inputs cause mid new rest × (all ≡ and_then own rest)))
         (λ fault. (cause ≡ Some fault) × (new ≡ mid) × (all ≡ own)) → RanInputs g h (input ∷ inputs) old new all
-    by_end (Err fault) ran (is, same, whole) = only (Err fault) ran same whole
-    by_end (Ok status) ran goes = go (λ rest later. all_ran g h inputs cause mid new rest later) own.ends goes
+    by_end left_ran (Err fault) ran (is, same, whole) = only (Err fault) ran same whole
+    by_end left_ran (Ok status) ran goes = go own.ends goes
       where
-        go : ((rest : Effects) → InTurn g h inputs cause mid new rest → RanInputs g h inputs mid new rest) → (e : Bool) → MatchBool e ((cause ≡ None) × (new ≡ mid) × (all ≡ own)) ((rest : Effects) × InTurn g h inputs cause mid new rest × (all ≡ and_then own rest)) → RanInputs g h (input ∷ inputs) old new all
-        go left_ran true (is, same, whole) = only (Ok status) ran same whole
-        go left_ran false (rest, later, whole) =
+        go : (e : Bool) → MatchBool e ((cause ≡ None) × (new ≡ mid) × (all ≡ own)) ((rest : Effects) × InTurn g h inputs cause mid new rest × (all ≡ and_then own rest)) → RanInputs g h (input ∷ inputs) old new all
+        go true (is, same, whole) = only (Ok status) ran same whole
+        go false (rest, later, whole) =
             let behind = left_ran rest later in
             subst (RanInputs g h (input ∷ inputs) old new) (sym whole) (record {
               reads = read_by g h (Ok status) (console old input) (console mid left) own ran ∷ behind.reads;
