@@ -117,7 +117,7 @@ pub record Fits (s : Spot) : Type 0 where
   pub place : s.place < 1000000
   pub size : s.size ≤ 1000000
 
-is_spot-fits : (s : Spot) → is_spot s ≡ true → Fits s
+pub is_spot-fits : (s : Spot) → is_spot s ≡ true → Fits s
 is_spot-fits s h =
     let a = and_parts (nat_le s.column 99 && nat_lt s.pos 1000000 && nat_lt s.place 1000000 && nat_lt 0 s.size) (nat_le s.size 1000000) h in
     let b = and_parts (nat_le s.column 99 && nat_lt s.pos 1000000 && nat_lt s.place 1000000) (nat_lt 0 s.size) a.0 in

@@ -1,16 +1,15 @@
 -- How the functions that pack and unpack go through numbers and places.
-use Rattle.std.proofs.Common.{◌≡◌, ℕ, zero, suc, ◌+◌, ◌-◌, ◌*◌, ◌/◌, ◌%◌, ◌^◌, ◌<◌, ◌≤◌, Bool, true, false, ◌&&◌, ◌==◌, List, [], ◌∷◌, ◌++◌, length, drop, map, get_or, Some, None, Option, sym, ap, subst, ◌∙◌, arith, nat_lt, append_assoc, drop-cons, refl, ◌≢◌, true≢false}
-use Rattle.std.specs.Prelude.{slice_index, unwrap_or, option_map, if◌then◌else◌}
-use Rattle.std.proofs.Math.Seq.{drop-length}
+use Rattle.std.proofs.Common.{◌≡◌, ℕ, zero, suc, ◌+◌, ◌-◌, ◌*◌, ◌/◌, ◌%◌, ◌^◌, ◌<◌, ◌≤◌, Bool, true, false, ◌&&◌, ◌||◌, ◌==◌, List, [], ◌∷◌, ◌++◌, length, map, get_or, Some, None, Option, sym, ap, subst, ◌∙◌, arith, nat_lt, append_assoc, append-nil, ltb-true, refl, ◌≢◌, true≢false}
+use Rattle.std.specs.Prelude.{unwrap_or, option_map, if◌then◌else◌, IsTrue}
 use Rattle.std.specs.Option.{option_and_then}
-use Rattle.std.proofs.lemmas.List.{map-append, drop-drop}
+use Rattle.std.proofs.lemmas.List.{map-append}
 use Rattle.std.proofs.lemmas.Option.{option_and_then_some, cond_some}
-use Rattle.std.proofs.lemmas.Bool.{eqb-true, eqb-false}
+use Rattle.std.proofs.lemmas.Bool.{eqb-true, eqb-false, and_parts}
 use Rattle.std.proofs.lemmas.Bool.Decides.{nat_tests}
-use Rattle.ft_rows.specs.Packed.{Spot, leb128_within, leb128, going_on, numbers_in, is_spot, origin, numbers_after, spots_after, rise_after, are_spots, unpacked, plain_spot, stored_spot, spots_in}
+use Rattle.ft_rows.specs.Packed.{Spot, leb128_within, leb128, going_on, numbers_in, is_spot, is_after, origin, spots_after, rise_after, are_spots, unpacked, plain_spot, stored_spot, spots_in}
 use Rattle.ft_values.specs.declared.rows.Spot.{Spot as StoredSpot}
-use Rattle.ft_rows.specs.Unpacking.{next_numbers, spot_from, passes, checked}
-use Rattle.ft_rows.proofs.PackedLemmas.{reach, more_fuel, last_byte, AllFit, writes_spots, fits_all, same_some}
+use Rattle.ft_rows.specs.Unpacking.{spot_from, passes, checked, read_after, BeginsWith, BeginsWithSpot, HasNoNumber}
+use Rattle.ft_rows.proofs.PackedLemmas.{reach, more_fuel, last_byte, is_spot-fits, same_some}
 
 -- a number from 128 on is its low seven bits and the rest
 pub leb128-low : (n : ℕ) → 128 ≤ n → n < 2 ^ 64 → leb128 n ≡ (n % 128 + 128) ∷ leb128 (n / 128)
@@ -28,79 +27,162 @@ last_byte_more bytes rest n small h = ap (λ bs. bytes ++ bs) (sym (last_byte n 
 
 -- ---- reading
 
-drop-at : (bytes : List ℕ) (at : ℕ) → 0 < at → at ≤ length bytes → drop (at - 1) bytes ≡ get_or bytes (at - 1) 0 ∷ drop at bytes
-drop-at bytes at some inside =
-    let within : at - 1 < length bytes = omega arith in
-    drop-cons bytes (at - 1) 0 within ∙ ap (λ n. get_or bytes (at - 1) 0 ∷ drop n bytes) (let e : suc (at - 1) ≡ at = omega arith in e)
-
-pub numbers_none : (bytes : List ℕ) → numbers_in (drop (length bytes) bytes) ≡ Some []
+low_byte : (b : ℕ) (rest : List ℕ) → b < 128 → numbers_in (b ∷ rest) ≡ option_and_then (λ ns. Some (b ∷ ns)) (numbers_in rest)
 unfolding numbers_in
-numbers_none bytes = ap numbers_in (drop-length bytes)
+low_byte b rest low =
+    let ends : nat_lt b 128 ≡ true = grind (arith, nat_tests) in
+    ap (λ t. option_and_then (λ ns. if t then Some (b ∷ ns) else going_on b ns) (numbers_in rest)) ends
 
--- one byte less of what is left, and one more number or part of it
-pub numbers_next : (bytes : List ℕ) (at : ℕ) (ns ms : List ℕ) → 0 < at → at ≤ length bytes → numbers_in (drop at bytes) ≡ Some ns → next_numbers (get_or bytes (at - 1) 0) ns ≡ Some ms → numbers_in (drop (at - 1) bytes) ≡ Some ms
+high_byte : (b : ℕ) (bs : List ℕ) → 128 ≤ b → numbers_in (b ∷ bs) ≡ option_and_then (going_on b) (numbers_in bs)
 unfolding numbers_in
-numbers_next bytes at ns ms some inside read next =
-    ap numbers_in (drop-at bytes at some inside) ∙ ap (option_and_then (λ (xs : List ℕ). next_numbers (get_or bytes (at - 1) 0) xs)) read ∙ next
+high_byte b bs high =
+    let more : nat_lt b 128 ≡ false = grind (arith, nat_tests) in
+    ap (λ t. option_and_then (λ ns. if t then Some (b ∷ ns) else going_on b ns) (numbers_in bs)) more
 
--- ---- what is refused
+behind_first : (bytes rest : List ℕ) (b : ℕ) → bytes ≡ b ∷ rest → length rest < length bytes
+behind_first bytes rest b is = let l : length bytes ≡ suc (length rest) = ap length is in omega arith
 
--- each number is within every limit
-abbrev pub AreLow : List ℕ → Type 0
-AreLow [] = Unit {0}
-AreLow (n ∷ ns) = (n ≤ 1000000) × AreLow ns
+-- a byte below 128 is a number of its own
+pub ends_number : (bytes rest : List ℕ) (b : ℕ) → bytes ≡ b ∷ rest → b < 128 → BeginsWith bytes b rest
+ends_number bytes rest b is low = record { numbers = ap numbers_in is ∙ low_byte b rest low; shorter = behind_first bytes rest b is }
 
-low_numbers : (last : Spot) (ss : List Spot) → AllFit ss → AreLow (numbers_after last ss)
-low_numbers last [] f = tt
-low_numbers last (s ∷ ss) f =
-    let fits = f.0 in
-    (omega (arith, fits.column), (omega (arith, fits.pos), (omega (arith, fits.place), (fits.size, low_numbers s ss f.1))))
-
-unpacked_low : (bytes : List ℕ) (ss : List Spot) → unpacked bytes ≡ Some ss → (ns : List ℕ) × (numbers_in bytes ≡ Some ns) × AreLow ns
-unfolding unpacked
-unpacked_low bytes ss h =
-    option_and_then_some (λ (xs : List Spot). if are_spots xs then Some xs else None) (option_and_then (spots_after origin) (numbers_in bytes)) ss h
-    (λ xs read kept. let test = cond_some (are_spots xs) xs ss kept in
-    option_and_then_some (spots_after origin) (numbers_in bytes) xs read
-    (λ ns spelt spots. (ns, spelt, subst AreLow (writes_spots origin ns xs spots) (low_numbers origin xs (fits_all xs test.0)))))
-
-low_rest : (b : ℕ) (ms ns : List ℕ) → next_numbers b ms ≡ Some ns → AreLow ns → AreLow ms
-low_rest b ms ns h low =
-    elim (nat_lt b 128) as (λ t. (if t then Some (b ∷ ms) else going_on b ms) ≡ Some ns → AreLow ms) [
-      | true ↦ λ is. (subst AreLow (sym (same_some (b ∷ ms) ns is)) low).1
-      | false ↦ λ is. goes ms is
-    ] h
+-- any other one is the low end of a number, whose upper part isn't 0
+pub begins_number : (bytes bs rest : List ℕ) (b n : ℕ) → bytes ≡ b ∷ bs → 128 ≤ b → 0 < n → BeginsWith bs n rest → BeginsWith bytes (b - 128 + 128 * n) rest
+begins_number bytes bs rest b zero is high some h = absurd (omega (arith, some))
+begins_number bytes bs rest b (suc n) is high some h =
+    let l = behind_first bytes bs b is in
+    record { numbers = ap numbers_in is ∙ high_byte b bs high ∙ ap (option_and_then (going_on b)) h.numbers ∙ both (numbers_in rest); shorter = omega (arith, l, h.shorter) }
   where
-    goes : (ms : List ℕ) → going_on b ms ≡ Some ns → AreLow ms
-    goes [] is = absurd (let no = is in cc)
-    goes (zero ∷ ms) is = absurd (let no = is in cc)
-    goes (suc high ∷ ms) is = let l = subst AreLow (sym (same_some ((b - 128 + 128 * suc high) ∷ ms) ns is)) low in (omega (arith, l.0), l.1)
+    both : (o : Option (List ℕ)) → option_and_then (going_on b) (option_and_then (λ ns. Some (suc n ∷ ns)) o) ≡ option_and_then (λ ns. Some ((b - 128 + 128 * suc n) ∷ ns)) o
+    both None = refl
+    both (Some ns) = refl
 
--- the numbers of what is left are low too
-low_suffix : (i : ℕ) (bytes ns : List ℕ) → numbers_in bytes ≡ Some ns → AreLow ns → (ms : List ℕ) × (numbers_in (drop i bytes) ≡ Some ms) × AreLow ms
+pub no_numbers : (bytes : List ℕ) (n : ℕ) (ns : List ℕ) → bytes ≡ [] → numbers_in bytes ≡ Some (n ∷ ns) → ⊥
 unfolding numbers_in
-low_suffix zero bytes ns h low = (ns, h, low)
-low_suffix (suc i) [] ns h low = (ns, h, low)
-low_suffix (suc i) (b ∷ bytes) ns h low =
-    option_and_then_some (λ (xs : List ℕ). next_numbers b xs) (numbers_in bytes) ns h (λ ms read next. low_suffix i bytes ms read (low_rest b ms ns next low))
+no_numbers bytes n ns none is = let e = sym (ap numbers_in none) ∙ is in cc
 
-not_high : (ms : List ℕ) → AreLow ms → ¬ (1000000 < slice_index ms 0)
-not_high [] low h = omega arith
-not_high (m ∷ ms) low h = omega (arith, low.0)
+pub number_is : (bytes rest : List ℕ) (b n : ℕ) (ns : List ℕ) → bytes ≡ b ∷ rest → b < 128 → numbers_in bytes ≡ Some (n ∷ ns) → n ≡ b
+number_is bytes rest b n ns first low is = go (numbers_in rest) (sym (low_byte b rest low) ∙ sym (ap numbers_in first) ∙ is)
+  where
+    go : (o : Option (List ℕ)) → option_and_then (λ ms. Some (b ∷ ms)) o ≡ Some (n ∷ ns) → n ≡ b
+    go None k = absurd (let no = k in cc)
+    go (Some ms) k = ap (λ l. get_or l 0 0) (sym (same_some (b ∷ ms) (n ∷ ns) k))
 
--- where a byte has no number or too great a one, no list has the bytes
-pub damaged_at : (bytes : List ℕ) (at : ℕ) (ns : List ℕ) → 0 < at → at ≤ length bytes → numbers_in (drop at bytes) ≡ Some ns
-    → ((ms : List ℕ) → next_numbers (get_or bytes (at - 1) 0) ns ≡ Some ms → 1000000 < slice_index ms 0) → unpacked bytes ≡ None
+-- what stands above the low end of a number
+pub upper_of : (bytes bs : List ℕ) (b n : ℕ) (ns : List ℕ) → bytes ≡ b ∷ bs → 128 ≤ b → numbers_in bytes ≡ Some (n ∷ ns) → (h : ℕ) × (ms : List ℕ) × (numbers_in bs ≡ Some (suc h ∷ ms)) × (n ≡ b - 128 + 128 * suc h)
+upper_of bytes bs b n ns first high is = go (numbers_in bs) refl (sym (high_byte b bs high) ∙ sym (ap numbers_in first) ∙ is)
+  where
+    go : (o : Option (List ℕ)) → numbers_in bs ≡ o → option_and_then (going_on b) o ≡ Some (n ∷ ns) → (h : ℕ) × (ms : List ℕ) × (numbers_in bs ≡ Some (suc h ∷ ms)) × (n ≡ b - 128 + 128 * suc h)
+    go None e k = absurd (let no = k in cc)
+    go (Some []) e k = absurd (let no = k in cc)
+    go (Some (zero ∷ ms)) e k = absurd (let no = k in cc)
+    go (Some (suc h ∷ ms)) e k = (h, ms, e, ap (λ l. get_or l 0 0) (sym (same_some ((b - 128 + 128 * suc h) ∷ ms) (n ∷ ns) k)))
+
+-- bytes have a number
+some_number : (bytes : List ℕ) → 0 < length bytes → numbers_in bytes ≢ Some []
 unfolding numbers_in
-damaged_at bytes at ns some inside read high =
-    elim (unpacked bytes) as (λ o. unpacked bytes ≡ o → o ≡ None) [
-      | None ↦ λ e. refl
-      | Some ss ↦ λ e.
-          let all = unpacked_low bytes ss e in
-          let here = low_suffix (at - 1) bytes all.0 all.1 all.2 in
-          let next = sym (ap (option_and_then (λ (xs : List ℕ). next_numbers (get_or bytes (at - 1) 0) xs)) read) ∙ sym (ap numbers_in (drop-at bytes at some inside)) ∙ here.1 in
-          absurd (not_high here.0 here.2 (high here.0 next))
+some_number [] some is = omega (arith, some)
+some_number (b ∷ bytes) some is =
+    option_and_then_some (λ (ms : List ℕ). if nat_lt b 128 then Some (b ∷ ms) else going_on b ms) (numbers_in bytes) [] is
+    (λ ms read next. elim (nat_lt b 128) as (λ t. (if t then Some (b ∷ ms) else going_on b ms) ≡ Some [] → ⊥) [ true ↦ λ e. cc | false ↦ λ e. none ms e ] next)
+  where
+    none : (ms : List ℕ) → going_on b ms ≡ Some [] → ⊥
+    none [] e = cc
+    none (zero ∷ ms) e = cc
+    none (suc high ∷ ms) e = cc
+
+-- ---- the first place
+
+-- no place has a number above all limits
+low_numbers : (first : Bool) (last : Spot) (c p l z : ℕ) → passes first last (spot_from last c p l z) ≡ true → (c ≤ 1000000) × (p ≤ 1000000) × (l ≤ 1000000) × (z ≤ 1000000)
+low_numbers first last c p l z h =
+    let s = spot_from last c p l z in
+    let fits = is_spot-fits s (and_parts (is_spot s) (first || is_after last s) h).0 in
+    (omega (arith, fits.column), omega (arith, fits.pos), omega (arith, fits.place), fits.size)
+
+refused : (first : Bool) (last : Spot) (c p l z : ℕ) (ns : List ℕ) → ((c ≤ 1000000) × (p ≤ 1000000) × (l ≤ 1000000) × (z ≤ 1000000) → ⊥) → checked first last (c ∷ p ∷ l ∷ z ∷ ns) ≡ None
+refused first last c p l z ns high =
+    let s = spot_from last c p l z in
+    elim (passes first last s) as (λ t. passes first last s ≡ t → (if t then option_and_then (λ (ss : List Spot). Some (s ∷ ss)) (checked false s ns) else None) ≡ None) [
+      | true ↦ λ is. absurd (high (low_numbers first last c p l z is))
+      | false ↦ λ is. refl
     ] refl
+
+none_tested : (t : Bool) → ◌≡◌ {A = Option (List Spot)} None (if t then None else None)
+none_tested true = refl
+none_tested false = refl
+
+-- numbers that end before there are four of them, or go on with one that is too great, say no place
+cut : (first : Bool) (last : Spot) (pre : List ℕ) (o : Option (List ℕ)) → length pre < 4 → (o ≡ Some [] → pre ≢ []) → ((n : ℕ) (ns : List ℕ) → o ≡ Some (n ∷ ns) → 1000000 < n)
+    → option_and_then (checked first last) (option_and_then (λ ns. Some (pre ++ ns)) o) ≡ None
+cut first last pre None few some high = refl
+cut first last [] (Some []) few some high = absurd (some refl refl)
+cut first last [] (Some (c ∷ [])) few some high = refl
+cut first last [] (Some (c ∷ p ∷ [])) few some high = refl
+cut first last [] (Some (c ∷ p ∷ l ∷ [])) few some high = refl
+cut first last [] (Some (c ∷ p ∷ l ∷ z ∷ ns)) few some high = refused first last c p l z ns (λ low. let great = high c (p ∷ l ∷ z ∷ ns) refl in omega (arith, great, low.0))
+cut first last (c ∷ []) (Some []) few some high = refl
+cut first last (c ∷ []) (Some (p ∷ [])) few some high = refl
+cut first last (c ∷ []) (Some (p ∷ l ∷ [])) few some high = refl
+cut first last (c ∷ []) (Some (p ∷ l ∷ z ∷ ns)) few some high = refused first last c p l z ns (λ low. let great = high p (l ∷ z ∷ ns) refl in omega (arith, great, low.1))
+cut first last (c ∷ p ∷ []) (Some []) few some high = refl
+cut first last (c ∷ p ∷ []) (Some (l ∷ [])) few some high = refl
+cut first last (c ∷ p ∷ []) (Some (l ∷ z ∷ ns)) few some high = refused first last c p l z ns (λ low. let great = high l (z ∷ ns) refl in omega (arith, great, low.2))
+cut first last (c ∷ p ∷ l ∷ []) (Some []) few some high = refl
+cut first last (c ∷ p ∷ l ∷ []) (Some (z ∷ ns)) few some high = refused first last c p l z ns (λ low. let great = high z ns refl in omega (arith, great, low.3))
+cut first last (c ∷ p ∷ l ∷ z ∷ pre) o few some high = absurd (omega (arith, few))
+
+-- the numbers of bytes are these and those of what is left
+pub record Begins (bytes pre left : List ℕ) : Type 0 where
+  pub numbers : numbers_in bytes ≡ option_and_then (λ ns. Some (pre ++ ns)) (numbers_in left)
+  pub shorter : length left ≤ length bytes
+
+pub begins : (bytes : List ℕ) → Begins bytes [] bytes
+begins bytes = record { numbers = same (numbers_in bytes); shorter = omega arith }
+  where
+    same : (o : Option (List ℕ)) → o ≡ option_and_then (λ ns. Some ns) o
+    same None = refl
+    same (Some ns) = refl
+
+pub one_more : {bytes pre left rest : List ℕ} {n : ℕ} → Begins bytes pre left → BeginsWith left n rest → Begins bytes (pre ++ n ∷ []) rest
+one_more {bytes} {pre} {left} {rest} {n} h k = record {
+  numbers = h.numbers ∙ ap (option_and_then (λ ns. Some (pre ++ ns))) k.numbers ∙ longer (numbers_in rest);
+  shorter = omega (arith, h.shorter, k.shorter);
+}
+  where
+    longer : (o : Option (List ℕ)) → option_and_then (λ ns. Some (pre ++ ns)) (option_and_then (λ ns. Some (n ∷ ns)) o) ≡ option_and_then (λ ns. Some ((pre ++ n ∷ []) ++ ns)) o
+    longer None = refl
+    longer (Some ns) = ap Some (sym (append_assoc pre (n ∷ []) ns))
+
+pub no_spot : {bytes pre left : List ℕ} → (first : Bool) (last : Spot) → length pre < 4 → Begins bytes pre left → HasNoNumber left → IsTrue (nat_lt 0 (length bytes)) → read_after first last bytes ≡ None
+no_spot {bytes} {pre} {left} first last few h none some =
+    ap (option_and_then (checked first last)) h.numbers
+    ∙ cut first last pre (numbers_in left) few (λ e no. some_number bytes (ltb-true 0 (length bytes) some) (h.numbers ∙ ap (option_and_then (λ ns. Some (pre ++ ns))) e ∙ ap Some (ap (λ xs. xs ++ []) no))) none
+
+first_spot : (first : Bool) (last : Spot) (c p l z : ℕ) (bytes rest : List ℕ) (t : Bool) → Begins bytes (c ∷ p ∷ l ∷ z ∷ []) rest → passes first last (spot_from last c p l z) ≡ t
+    → read_after first last bytes ≡ (if t then option_and_then (λ ss. Some (spot_from last c p l z ∷ ss)) (read_after false (spot_from last c p l z) rest) else None)
+first_spot first last c p l z bytes rest t h is = ap (option_and_then (checked first last)) h.numbers ∙ go (numbers_in rest)
+  where
+    s : Spot
+    s = spot_from last c p l z
+
+    go : (o : Option (List ℕ)) → option_and_then (checked first last) (option_and_then (λ ns. Some (c ∷ p ∷ l ∷ z ∷ ns)) o) ≡ (if t then option_and_then (λ ss. Some (s ∷ ss)) (option_and_then (checked false s) o) else None)
+    go None = none_tested t
+    go (Some ns) = ap (λ b. if b then option_and_then (λ (ss : List Spot). Some (s ∷ ss)) (checked false s ns) else None) is
+
+-- bytes whose first place fails a test
+pub no_place : {c p l z : ℕ} {bytes rest : List ℕ} → (first : Bool) (last : Spot) → Begins bytes (c ∷ p ∷ l ∷ z ∷ []) rest → passes first last (spot_from last c p l z) ≡ false → read_after first last bytes ≡ None
+no_place {c} {p} {l} {z} {bytes} {rest} first last h is = first_spot first last c p l z bytes rest false h is
+
+pub a_place : {c p l z : ℕ} {bytes left rest : List ℕ} → (first : Bool) (last : Spot) (spot : StoredSpot) → Begins bytes (c ∷ p ∷ l ∷ []) left → BeginsWith left z rest
+    → (passes first last (spot_from last c p l z) ≡ true) × (spot ≡ stored_spot (spot_from last c p l z)) → BeginsWithSpot first last bytes spot rest
+a_place {c} {p} {l} {z} {bytes} {left} {rest} first last spot h k found =
+    let same : plain_spot spot ≡ spot_from last c p l z = ap plain_spot found.1 in
+    record {
+      places = first_spot first last c p l z bytes rest true (one_more h k) found.0 ∙ (λ i. option_and_then (λ ss. Some (sym same i ∷ ss)) (read_after false (sym same i) rest));
+      stored = found.1 ∙ ap stored_spot (sym same);
+      shorter = omega (arith, h.shorter, k.shorter);
+    }
 
 -- ---- places that are tested as they come
 
@@ -115,10 +197,6 @@ one_tested : (t u : Bool) (s : Spot) (ss : List Spot) → (if t && u then Some (
 one_tested true true s ss = refl
 one_tested true false s ss = refl
 one_tested false u s ss = refl
-
-none_tested : (t : Bool) → ◌≡◌ {A = Option (List Spot)} None (if t then None else None)
-none_tested true = refl
-none_tested false = refl
 
 tested : (t : Bool) (s : Spot) (o : Option (List Spot)) (own : Option (List Spot)) → option_and_then (risen s) o ≡ own → (last : List Spot → Bool) → ((ss : List Spot) → last (s ∷ ss) ≡ (t && rise_after s ss))
     → option_and_then (λ ss. if last ss then Some ss else None) (option_and_then (λ ss. Some (s ∷ ss)) o) ≡ (if t then option_and_then (λ ss. Some (s ∷ ss)) own else None)
@@ -156,62 +234,42 @@ pub unpacked-empty : (bytes : List ℕ) → bytes ≡ [] → unpacked bytes ≡ 
 unfolding unpacked numbers_in
 unpacked-empty bytes e = ap unpacked e
 
-four_first : (rest : List ℕ) → 4 ≤ length rest → rest ≡ get_or rest 0 0 ∷ get_or rest 1 0 ∷ get_or rest 2 0 ∷ get_or rest 3 0 ∷ drop 4 rest
-four_first [] h = absurd (omega (arith, h))
-four_first (a ∷ []) h = absurd (omega (arith, h))
-four_first (a ∷ b ∷ []) h = absurd (omega (arith, h))
-four_first (a ∷ b ∷ c ∷ []) h = absurd (omega (arith, h))
-four_first (a ∷ b ∷ c ∷ d ∷ rest) h = refl
-
-checked_four : (first : Bool) (last : Spot) (rest : List ℕ) (t : Bool) → 4 ≤ length rest → passes first last (spot_from last (get_or rest 0 0) (get_or rest 1 0) (get_or rest 2 0) (get_or rest 3 0)) ≡ t
-    → checked first last rest ≡ (if t then option_and_then (λ ss. Some (spot_from last (get_or rest 0 0) (get_or rest 1 0) (get_or rest 2 0) (get_or rest 3 0) ∷ ss))
-    (checked false (spot_from last (get_or rest 0 0) (get_or rest 1 0) (get_or rest 2 0) (get_or rest 3 0)) (drop 4 rest)) else None)
-checked_four first last rest t four is =
-    let s = spot_from last (get_or rest 0 0) (get_or rest 1 0) (get_or rest 2 0) (get_or rest 3 0) in
-    ap (checked first last) (four_first rest four) ∙ ap (λ b. if b then option_and_then (λ (ss : List Spot). Some (s ∷ ss)) (checked false s (drop 4 rest)) else None) is
-
 joined : (xs ys : List Spot) (s : Spot) (o : Option (List Spot)) → ys ≡ xs ++ s ∷ [] → option_and_then (λ ss. Some (xs ++ ss)) (option_and_then (λ ss. Some (s ∷ ss)) o) ≡ option_and_then (λ ss. Some (ys ++ ss)) o
 joined xs ys s None e = refl
 joined xs ys s (Some ss) e = ap Some (sym (append_assoc xs (s ∷ []) ss) ∙ ap (λ l. l ++ ss) (sym e))
 
 -- one place more
-pub one_passed : (numbers : List ℕ) (at : ℕ) (first : Bool) (last : Spot) (xs : List StoredSpot) (spot : StoredSpot) (all : Option (List Spot)) → 4 ≤ length (drop at numbers)
-    → passes first last (spot_from last (get_or (drop at numbers) 0 0) (get_or (drop at numbers) 1 0) (get_or (drop at numbers) 2 0) (get_or (drop at numbers) 3 0)) ≡ true
-    → spot ≡ stored_spot (spot_from last (get_or (drop at numbers) 0 0) (get_or (drop at numbers) 1 0) (get_or (drop at numbers) 2 0) (get_or (drop at numbers) 3 0))
-    → all ≡ option_and_then (λ ss. Some (map plain_spot xs ++ ss)) (checked first last (drop at numbers))
-    → all ≡ option_and_then (λ ss. Some (map plain_spot (xs ++ spot ∷ []) ++ ss)) (checked false (plain_spot spot) (drop (at + 4) numbers))
-one_passed numbers at first last xs spot all four passed is h =
-    let rest = drop at numbers in
-    let s = spot_from last (get_or rest 0 0) (get_or rest 1 0) (get_or rest 2 0) (get_or rest 3 0) in
-    let same : plain_spot spot ≡ s = ap plain_spot is in
-    h ∙ ap (option_and_then (λ ss. Some (map plain_spot xs ++ ss))) (checked_four first last rest true four passed)
-    ∙ joined (map plain_spot xs) (map plain_spot (xs ++ spot ∷ [])) s (checked false s (drop 4 rest)) (map-append plain_spot xs (spot ∷ []) ∙ ap (λ x. map plain_spot xs ++ x ∷ []) same)
-    ∙ (λ i. option_and_then (λ ss. Some (map plain_spot (xs ++ spot ∷ []) ++ ss)) (checked false (sym same i) (drop-drop 4 at numbers i)))
+pub one_passed : (first : Bool) (last : Spot) (bytes rest : List ℕ) (xs : List StoredSpot) (spot : StoredSpot) (all : Option (List Spot)) → BeginsWithSpot first last bytes spot rest
+    → all ≡ option_and_then (λ ss. Some (map plain_spot xs ++ ss)) (read_after first last bytes) → all ≡ option_and_then (λ ss. Some (map plain_spot (xs ++ spot ∷ []) ++ ss)) (read_after false (plain_spot spot) rest)
+one_passed first last bytes rest xs spot all begins h =
+    h ∙ ap (option_and_then (λ ss. Some (map plain_spot xs ++ ss))) begins.places
+    ∙ joined (map plain_spot xs) (map plain_spot (xs ++ spot ∷ [])) (plain_spot spot) (read_after false (plain_spot spot) rest) (map-append plain_spot xs (spot ∷ []))
 
-pub stored_more : (xs : List StoredSpot) (s : Spot) (spot : StoredSpot) → spot ≡ stored_spot s → xs ≡ map stored_spot (map plain_spot xs) → xs ++ spot ∷ [] ≡ map stored_spot (map plain_spot (xs ++ spot ∷ []))
-stored_more xs s spot is h =
-    let back : spot ≡ stored_spot (plain_spot spot) = is ∙ ap (λ (x : StoredSpot). stored_spot (plain_spot x)) (sym is) in
-    (λ i. h i ++ back i ∷ []) ∙ sym (map-append stored_spot (map plain_spot xs) (plain_spot spot ∷ [])) ∙ ap (map stored_spot) (sym (map-append plain_spot xs (spot ∷ [])))
+pub stored_more : (xs : List StoredSpot) (spot : StoredSpot) → spot ≡ stored_spot (plain_spot spot) → xs ≡ map stored_spot (map plain_spot xs) → xs ++ spot ∷ [] ≡ map stored_spot (map plain_spot (xs ++ spot ∷ []))
+stored_more xs spot is h = (λ i. h i ++ is i ∷ []) ∙ sym (map-append stored_spot (map plain_spot xs) (plain_spot spot ∷ [])) ∙ ap (map stored_spot) (sym (map-append plain_spot xs (spot ∷ [])))
 
 pub unpacked-no_length : (bytes : List ℕ) → (length bytes == 0) ≡ true → unpacked bytes ≡ None
 unpacked-no_length [] h = unpacked-empty [] refl
 unpacked-no_length (b ∷ bytes) h = absurd (let none : suc (length bytes) ≡ 0 = eqb-true (suc (length bytes)) 0 h in omega (arith, none))
 
-some_numbers : (bytes ns : List ℕ) → (length bytes == 0) ≡ false → numbers_in bytes ≡ Some ns → if_some ns ≡ checked true origin ns
-unfolding numbers_in
-some_numbers [] ns h is = absurd (let e = eqb-false 0 0 h in e refl)
-some_numbers (b ∷ bytes) [] h is =
-    absurd (option_and_then_some (λ (ms : List ℕ). next_numbers b ms) (numbers_in bytes) [] is
-    (λ ms read next. elim (nat_lt b 128) as (λ t. (if t then Some (b ∷ ms) else going_on b ms) ≡ Some [] → ⊥) [ true ↦ λ e. cc | false ↦ λ e. none ms e ] next))
+pub unpacked-is_read : (bytes : List ℕ) → (length bytes == 0) ≡ false → unpacked bytes ≡ read_after true origin bytes
+unfolding unpacked
+unpacked-is_read bytes some = go (numbers_in bytes) refl
   where
-    none : (ms : List ℕ) → going_on b ms ≡ Some [] → ⊥
-    none [] e = cc
-    none (zero ∷ ms) e = cc
-    none (suc high ∷ ms) e = cc
-some_numbers (b ∷ bytes) (n ∷ ns) h is = refl
+    go : (o : Option (List ℕ)) → numbers_in bytes ≡ o → unpacked bytes ≡ option_and_then (checked true origin) (numbers_in bytes)
+    go None e = ap (λ o. option_and_then (λ ss. if are_spots ss then Some ss else None) (option_and_then (spots_after origin) o)) e ∙ sym (ap (option_and_then (checked true origin)) e)
+    go (Some []) e = absurd (some_number bytes (let more : length bytes ≢ 0 = eqb-false (length bytes) 0 some in omega arith) e)
+    go (Some (n ∷ ns)) e = unpacked-checked bytes (n ∷ ns) e ∙ sym (ap (option_and_then (checked true origin)) e)
 
-pub unpacked-is_checked : (bytes ns : List ℕ) → (length bytes == 0) ≡ false → numbers_in bytes ≡ Some ns → unpacked bytes ≡ checked true origin ns
-unpacked-is_checked bytes ns some is = unpacked-checked bytes ns is ∙ some_numbers bytes ns some is
+pub whole : (o : Option (List Spot)) → o ≡ option_and_then (λ ss. Some ([] ++ ss)) o
+whole None = refl
+whole (Some ss) = refl
+
+-- the places of all bytes, where nothing is left
+pub nothing_left : (first : Bool) (last : Spot) (left : List ℕ) (xs : List Spot) → (length left == 0) ≡ true → option_and_then (λ ss. Some (xs ++ ss)) (read_after first last left) ≡ Some xs
+unfolding numbers_in
+nothing_left first last [] xs h = ap Some (append-nil xs)
+nothing_left first last (b ∷ left) xs h = absurd (let none : suc (length left) ≡ 0 = eqb-true (suc (length left)) 0 h in omega (arith, none))
 
 -- no list of places is empty
 no_spots : (bytes : List ℕ) → unpacked bytes ≢ Some []

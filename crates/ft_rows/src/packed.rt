@@ -1,10 +1,9 @@
 //! The packed list: where one term stands in one document, as bytes.
-ghost use Rattle.std.specs.Prelude.{◌≡◌, ◌↔◌, ℕ, [], ◌∷◌, ◌++◌, ◌+◌, ◌<◌, ◌&&◌, ◌||◌, ◌==◌, map, reverse, true, false, if◌then◌else◌, Some, None, IfOk, IfSome, IfNone, OnOk, MatchOption, slice_index, IsTrue};
+ghost use Rattle.std.specs.Prelude.{◌≡◌, ◌↔◌, ℕ, [], ◌∷◌, ◌++◌, ◌+◌, ◌<◌, ◌&&◌, ◌||◌, ◌==◌, map, length, nat_lt, true, false, if◌then◌else◌, Some, None, IfOk, IfSome, IfNone, OnOk, MatchOption, IsTrue};
 ghost use Rattle.std.specs.List.{flat_map};
-ghost use Rattle.std.specs.Option.{option_and_then};
-ghost use Rattle.ft_rows.specs.Packed.{CanPack, is_natural, PackedIsRead, PackedIsExact, OnlyPackedIsRead, packed_spots, spots_in, stored_spot, plain_spot, leb128, natural, numbers_after, numbers_in, unpacked, is_spot, is_after, origin};
+ghost use Rattle.ft_rows.specs.Packed.{CanPack, is_natural, PackedIsRead, PackedIsExact, OnlyPackedIsRead, packed_spots, spots_in, stored_spot, plain_spot, leb128, natural, numbers_after, is_spot, is_after};
 ghost use Rattle.ft_rows.specs.Terms.{spot_of};
-ghost use Rattle.ft_rows.specs.Unpacking.{next_numbers, spot_from, passes, checked, Follows};
+ghost use Rattle.ft_rows.specs.Unpacking.{spot_from, passes, read_after, Follows, BeginsWith, BeginsWithSpot, HasNoNumber, HasNoUpper};
 
 use crate::terms::Posting;
 use ft_values::Spot;
@@ -184,41 +183,47 @@ pub fn is_list_of(bytes: &[u8], postings: &[Posting]) -> bool
 
 // ---- unpacking
 
-/// Takes a byte before the numbers so far, the first of which is at the end. False where no list
-/// has them.
-fn add_byte(numbers: &mut Vec<u32>, byte: u8) -> Result<bool, AllocError>
-    ensures goes { IfOk result (λ more. more ≡ true
-        → next_numbers byte (reverse numbers.old.items) ≡ Some (reverse numbers.new.items)) }
-    ensures ends { IfOk result (λ more. more ≡ false → (ns : _)
-        → next_numbers byte (reverse numbers.old.items) ≡ Some ns → 1000000 < slice_index ns 0) }
+/// The first byte, and what comes behind it.
+fn first_byte(bytes: &[u8]) -> Option<(u32, &[u8])>
+    ensures { MatchOption result (bytes.now ≡ []) (λ byte. (bytes.now ≡ byte.0 ∷ byte.1.now)
+        × (byte.0 < 256)) }
 {
-    if byte < 128 {
-        numbers.push(u32::from(byte))?;
-        return Ok(true);
-    }
-    let high = numbers.pop().unwrap_or(0);
-    if high == 0 || high >= 0x4000 {
-        return Ok(false);
-    }
-    numbers.push(u32::from(byte) - 128 + 128 * high)?;
-    Ok(true)
+    let (first, rest) = bytes.split_first()?;
+    Some((u32::from(*first), rest))
 }
 
-/// The numbers of a list. None where no list has them.
-fn numbers_in(alloc: Global, bytes: &[u8]) -> Result<Option<Vec<u32>>, AllocError>
-    ensures { IfOk result (λ o. MatchOption o (unpacked bytes.now ≡ None)
-        (λ ns. numbers_in bytes.now ≡ Some ns.items)) }
+/// What a number has above its lowest seven bits, in at most two bytes. None where it is 0 or needs
+/// more: no number of a list does.
+fn upper_part(bytes: &[u8]) -> Option<(u32, &[u8])>
+    ensures found { IfSome result (λ part. (0 < part.0) × (part.0 < 16384)
+        × BeginsWith bytes.now part.0 part.1.now) }
+    ensures none { IfNone result (HasNoUpper bytes.now) }
 {
-    let mut numbers = Vec::with_capacity(alloc, bytes.len())?;
-    let mut at = bytes.len();
-    while at > 0 {
-        at -= 1;
-        if !add_byte(&mut numbers, bytes[at])? {
-            return Ok(None);
-        }
+    let (low, rest) = first_byte(bytes)?;
+    if low == 0 {
+        return None;
     }
-    numbers.reverse();
-    Ok(Some(numbers))
+    if low < 128 {
+        return Some((low, rest));
+    }
+    let (high, rest) = first_byte(rest)?;
+    if high == 0 || high >= 128 {
+        return None;
+    }
+    Some((low - 128 + 128 * high, rest))
+}
+
+/// The first number of bytes, and what comes behind it. None where no list has it.
+fn first_number(bytes: &[u8]) -> Option<(u32, &[u8])>
+    ensures found { IfSome result (λ number. BeginsWith bytes.now number.0 number.1.now) }
+    ensures none { IfNone result (HasNoNumber bytes.now) }
+{
+    let (low, rest) = first_byte(bytes)?;
+    if low < 128 {
+        return Some((low, rest));
+    }
+    let (upper, rest) = upper_part(rest)?;
+    Some((low - 128 + 128 * upper, rest))
 }
 
 fn is_spot(column: u64, pos: u64, place: u64, size: u64) -> bool
@@ -277,28 +282,25 @@ fn spot_at(last: &Spot, is_first: bool, c: u32, p: u32, l: u32, z: u32) -> Optio
     Some(stored(column, pos, place, size))
 }
 
-/// The places that numbers say, if a posting may have them.
-fn spots_from(alloc: Global, numbers: &[u32]) -> Result<Option<Vec<Spot>>, AllocError>
-    ensures { IfOk result (λ o. MatchOption o (checked true origin numbers.now ≡ None)
-        (λ spots. (checked true origin numbers.now ≡ Some (map plain_spot spots.items))
-        × (spots.items ≡ map stored_spot (map plain_spot spots.items)))) }
+/// The place that bytes begin with, after the last one, and what comes behind it; if a posting may
+/// have it.
+fn first_spot<'a>(bytes: &'a [u8], last: &Spot, is_first: bool) -> Option<(Spot, &'a [u8])>
+    ensures found { IfSome result (λ spot. BeginsWithSpot is_first (plain_spot last.now) bytes.now
+        spot.0 spot.1.now) }
+    ensures none { IfNone result (IsTrue (nat_lt 0 (length bytes.now))
+        → read_after is_first (plain_spot last.now) bytes.now ≡ None) }
 {
-    let mut spots = Vec::with_capacity(alloc, numbers.len() / 4)?;
-    let mut last = ORIGIN;
-    let mut at = 0;
-    while at < numbers.len() {
-        let (_, rest) = numbers.split_at(at);
-        if rest.len() < 4 {
-            return Ok(None);
-        }
-        let Some(spot) = spot_at(&last, at == 0, rest[0], rest[1], rest[2], rest[3]) else {
-            return Ok(None);
-        };
-        spots.push(spot)?;
-        last = spot;
-        at += 4;
-    }
-    Ok(Some(spots))
+    let (column, rest) = first_number(bytes)?;
+    let (pos, rest) = first_number(rest)?;
+    let (place, rest) = first_number(rest)?;
+    let (size, rest) = first_number(rest)?;
+    let spot = spot_at(last, is_first, column, pos, place, size)?;
+    Some((spot, rest))
+}
+
+/// How many numbers bytes have.
+fn count_numbers(bytes: &[u8]) -> usize {
+    bytes.iter().filter(|byte| **byte < 128).count()
 }
 
 /// The places that a packed list stands for. None for any bytes that are no packed list.
@@ -309,9 +311,18 @@ pub fn unpack(alloc: Global, bytes: &[u8]) -> Result<Option<Vec<Spot>>, AllocErr
     if bytes.is_empty() {
         return Ok(None);
     }
-    let Some(numbers) = numbers_in(alloc, bytes)? else {
-        return Ok(None);
-    };
-    let spots = spots_from(alloc, numbers.as_slice())?;
-    Ok(spots)
+    let mut spots = Vec::with_capacity(alloc, count_numbers(bytes) / 4)?;
+    let mut is_first = true;
+    let mut last = ORIGIN;
+    let mut left = bytes;
+    while !left.is_empty() {
+        let Some((spot, rest)) = first_spot(left, &last, is_first) else {
+            return Ok(None);
+        };
+        spots.push(spot)?;
+        is_first = false;
+        last = spot;
+        left = rest;
+    }
+    Ok(Some(spots))
 }
