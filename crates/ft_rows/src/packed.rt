@@ -298,11 +298,6 @@ fn first_spot<'a>(bytes: &'a [u8], last: &Spot, is_first: bool) -> Option<(Spot,
     Some((spot, rest))
 }
 
-/// How many numbers bytes have.
-fn count_numbers(bytes: &[u8]) -> usize {
-    bytes.iter().filter(|byte| **byte < 128).count()
-}
-
 /// The places that a packed list stands for. None for any bytes that are no packed list.
 pub fn unpack(alloc: Global, bytes: &[u8]) -> Result<Option<Vec<Spot>>, AllocError>
     ensures { IfOk result (λ o. MatchOption o (spots_in bytes.now ≡ None)
@@ -311,7 +306,7 @@ pub fn unpack(alloc: Global, bytes: &[u8]) -> Result<Option<Vec<Spot>>, AllocErr
     if bytes.is_empty() {
         return Ok(None);
     }
-    let mut spots = Vec::with_capacity(alloc, count_numbers(bytes) / 4)?;
+    let mut spots = Vec::with_capacity(alloc, bytes.len() / 4)?;
     let mut is_first = true;
     let mut last = ORIGIN;
     let mut left = bytes;
