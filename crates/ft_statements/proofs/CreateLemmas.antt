@@ -3,10 +3,8 @@ use Rattle.std.proofs.Common.{◌≡◌, ℕ, List, [], ◌∷◌, ◌++◌, map
 use Rattle.std.specs.List.{flat_map, join_with_byte}
 use Rattle.std.proofs.lemmas.List.{append-nil, map-append, take_all}
 use Rattle.ft_statements.specs.Words.{Token, bare}
-use Rattle.ft_statements.specs.Create.{Argument, Setting, Column, joined, settings_in, columns_in, tokenizer_of, argument_of, argument_at, arguments, arguments_of}
-use Rattle.ft_statements.specs.Reading.{◌>>=◌, each, parts, whole, parenthesized}
+use Rattle.ft_statements.specs.Create.{Argument, Setting, Column, joined, settings_in, columns_in, tokenizer_of}
 use Rattle.ft_statements.specs.declared.words.Token.{Token as RustToken}
-use Rattle.ft_statements.proofs.EachLemmas.{all_whole}
 use Rattle.ft_statements.specs.declared.create.Argument.{Argument as Code}
 use Rattle.ft_statements.specs.Views.{seen, plain, argument_as}
 
@@ -26,15 +24,6 @@ joined_first (p ∷ ps) d h = joined_behind (seen p) (plain ps) ∙ ap (λ qs. b
 pub tokenizer_is : (ps : List RustToken) → (length ps ≡ 0 → ⊥) → tokenizer_of (plain ps) ≡ Some (Setting (codes "tokenize") (joined (plain ps)))
 tokenizer_is [] h = absurd (h refl)
 tokenizer_is (p ∷ ps) h = refl
-
--- arguments where there are words, and in parentheses where there are words
-pub arguments_are : (ps : List RustToken) → (length ps ≡ 0 → ⊥) → arguments (plain ps) ≡ (whole (parenthesized (plain ps)) >>= arguments_of)
-arguments_are [] h = absurd (h refl)
-arguments_are (p ∷ ps) h = refl
-
-pub some_arguments : (ps : List RustToken) → (length ps ≡ 0 → ⊥) → arguments_of (plain ps) ≡ each (λ part. whole (argument_at part)) (parts (plain ps))
-some_arguments [] h = absurd (h refl)
-some_arguments (p ∷ ps) h = λ j. each (λ part. sym (all_whole (argument_of part)) j) (parts (plain (p ∷ ps)))
 
 pub settings_more : (arguments : List Argument) (argument : Argument) → settings_in (arguments ++ argument ∷ []) ≡ settings_in arguments ++ settings_in (argument ∷ [])
 settings_more [] argument = refl

@@ -7,10 +7,9 @@ use Rattle.std.specs.Cmp.Lexicographic.{same_text}
 use Rattle.shell_text.specs.declared.settings.Mode.{Mode}
 use Rattle.ft_statements.specs.Values.{digits_value}
 use Rattle.ft_statements.specs.Reading.{◌>>=◌}
-use Rattle.ft_statements.specs.Grammar.{IsSame}
 use Rattle.ft_statements.specs.Dots.{Import, DotCommand, SetMode, SetHeaders, SetSeparator, SetNull, SetEcho, SetBail, Print, Importing, Tables, Quit, Usage, Unknown, or_usage, lone, mode_named, mode_in, switch_named, switch_in, skip_named, is_csv_option, is_skip_option, csv_at, skip_at, csv_later, files_of, import_of, alone, made, usage_of, dot_command_of}
-use Rattle.ft_statements.specs.DotGrammar.{IsMode, list_mode, csv_mode, column_mode, quote_mode, IsSwitch, on_word, yes_word, one_word, off_word, no_word, zero_word, IsSkip, skip_number, AreOptions, no_options, csv_alone, skip_alone, csv_first, skip_first, IsImport, import_file, Makes, makes_mode, makes_headers, makes_header, makes_separator, makes_null, makes_print, makes_echo, makes_bail, makes_import, makes_tables, makes_quit, makes_exit, IsUsed, uses_mode, uses_headers, uses_header, uses_separator, uses_null, uses_print, uses_echo, uses_bail, uses_import, uses_tables, uses_quit, uses_exit, Says, no_words, command, wrong_words, other_name}
-use Rattle.ft_statements.proofs.GrammarBase.{finally}
+use Rattle.ft_statements.specs.DotGrammar.{IsSame, IsMode, list_mode, csv_mode, column_mode, quote_mode, IsSwitch, on_word, yes_word, one_word, off_word, no_word, zero_word, IsSkip, skip_number, AreOptions, no_options, csv_alone, skip_alone, csv_first, skip_first, IsImport, import_file, Makes, makes_mode, makes_headers, makes_header, makes_separator, makes_null, makes_print, makes_echo, makes_bail, makes_import, makes_tables, makes_quit, makes_exit, IsUsed, uses_mode, uses_headers, uses_header, uses_separator, uses_null, uses_print, uses_echo, uses_bail, uses_import, uses_tables, uses_quit, uses_exit, Says, no_words, command, wrong_words, other_name}
+use Rattle.ft_statements.proofs.FormLaw.{finally}
 
 -- ---- words that are this text, or aren't
 

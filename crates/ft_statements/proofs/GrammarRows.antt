@@ -5,8 +5,7 @@ use Rattle.std.specs.Prelude.{pos, negsuc, encode_utf8_all}
 use Rattle.ft_content.specs.Content.{Null, Int, Text}
 use Rattle.ft_content.specs.Command.{All, Docid, Match, AllColumns, Named, OffsetsOf, Counted, Listed, Create, Drop, Insert, Update, Delete, Select, Rebuild, Check}
 use Rattle.ft_statements.specs.Words.{tokens_of}
-use Rattle.ft_statements.specs.Statements.{Class, Plain, FullText}
-use Rattle.ft_statements.specs.Grammar.{HasClass}
+use Rattle.ft_statements.specs.Statements.{Class, Plain, FullText, HasClass}
 use Rattle.ft_statements.proofs.GrammarClass.{class_sound, no_class_is}
 use Rattle.ft_statements.proofs.StatementRows as rows
 

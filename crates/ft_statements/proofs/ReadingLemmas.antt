@@ -1,100 +1,133 @@
 -- Words read one after the other.
-use Rattle.std.proofs.Common.{◌≡◌, ℕ, zero, suc, ◌+◌, ◌-◌, ◌<◌, ◌≤◌, true, false, cond, ◌&&◌, ◌==◌, List, [], ◌∷◌, ◌++◌, length, drop, take, get_or, Some, None, refl, sym, ap, ◌∙◌, arith, codes, append_assoc, slice_range}
-use Rattle.std.specs.List.{onto_first}
-use Rattle.std.specs.Prelude.{slice_get}
-use Rattle.std.proofs.lemmas.List.{drop_more, take_more, drop_all, map-append, get_or-drop, length-drop, length-map, take-map}
-use Rattle.ft_statements.specs.Words.{Token, is_symbol, all_but_last}
-use Rattle.ft_statements.specs.Reading.{◌>>=◌, Reads, depth_after, parts_at, front_and_last}
+use Rattle.std.proofs.Common.{◌≡◌, ℕ, zero, suc, ◌+◌, ◌-◌, ◌<◌, ◌≤◌, Bool, true, false, cond, ◌&&◌, ◌==◌, List, [], ◌∷◌, ◌++◌, length, map, drop, take, get_or, Some, None, refl, sym, ap, ◌∙◌, arith, codes}
+use Rattle.std.proofs.lemmas.List.{drop_more, take_more, drop_all, take_all, map-append, length-drop, length-map}
+use Rattle.std.proofs.lemmas.Bool.Decides.{nat_tests}
+use Rattle.std.specs.Result.{IsErr, IsErrAnd}
+use Rattle.std.specs.Prelude.{Result, Ok, Err}
+use Rattle.ft_statements.specs.declared.statement.StatementFault.{StatementFault}
+use Rattle.ft_statements.specs.declared.statement.StatementFault.TheVariants.{Syntax}
+use Rattle.ft_statements.specs.declared.reading.Reader.{Reader}
+use Rattle.ft_statements.specs.Forms.{Mark, Opens, Closes, Parts, Other, begins}
+use Rattle.ft_statements.specs.Words.{Token, is_symbol}
+use Rattle.ft_statements.specs.Reading.{◌>>=◌, Reads, onto_read, list_behind, list_at, balanced_step, balanced_at, depth_after, ends_part, read}
+use Rattle.ft_statements.specs.Grammar.{symbol, mark_of}
 use Rattle.ft_statements.specs.declared.words.Token.{Token as RustToken}
-use Rattle.std.specs.Borrow.{Bor}
-use Rattle.ft_statements.specs.Views.{seen, plain, runs}
+use Rattle.ft_statements.specs.Views.{seen, plain, rest_of, Advances}
+use Rattle.ft_statements.proofs.FormLaw.{all_onto, onto_all, all_there, some_inj}
 
--- words put before what is read after them
-abbrev pub all_onto : List Token → Reads (List Token) → Reads (List Token)
-all_onto before None = None
-all_onto before (Some r) = Some (before ++ r.0, r.1)
+-- ---- lists
 
--- words put before the first of the parts after them
-abbrev pub all_onto_first : List Token → List (List Token) → List (List Token)
-all_onto_first [] parts = parts
-all_onto_first (t ∷ ts) parts = onto_first t (all_onto_first ts parts)
+abbrev pub is_comma : Token → Bool
+is_comma t = is_symbol (codes ",") t
 
--- ---- parts
+-- there are as many words as tokens
+pub at_most : {A : Type 0} (form : List Token → Reads Token A) (ps : List RustToken) → list_at is_comma form (length (plain ps) + 1) (plain ps) ≡ list_at is_comma form (length ps + 1) (plain ps)
+at_most form ps = ap (λ n. list_at is_comma form (n + 1) (plain ps)) (length-map ps seen)
 
-onto_last : (before : List Token) (t : Token) (parts : List (List Token)) → all_onto_first (before ++ t ∷ []) parts ≡ all_onto_first before (onto_first t parts)
-onto_last [] t parts = refl
-onto_last (x ∷ xs) t parts = ap (onto_first x) (onto_last xs t parts)
+-- after a comma, the list goes on
+pub list_goes : {A : Type 0} (form : List Token → Reads Token A) (n i : ℕ) (found : List A) (ts us rest : List Token) (x : A) (all : List A) → i < n → form ts ≡ Some (x, us) → begins is_comma us ≡ true →
+    read (symbol (codes ",")) us ≡ Some (tt, rest) → all ≡ found ++ x ∷ [] → all_onto all (list_at is_comma form (n - (i + 1)) rest) ≡ all_onto found (list_at is_comma form (n - i) ts)
+list_goes form n i found ts [] rest x all h is there passed are = cc
+list_goes form n i found ts (t ∷ us) rest x all h is there passed are =
+    let more = list_at is_comma form (n - (i + 1)) in
+    let one : suc (n - (i + 1)) ≡ n - i = omega (arith, h) in
+    let behind : us ≡ rest = ap (λ r. r.1) (some_inj (sym (ap (λ b. cond b (Some tt) None >>= λ x. Some (x, us)) there) ∙ passed)) in
+    ap (λ xs. all_onto xs (more rest)) are ∙ onto_all found x [] (more rest)
+    ∙ ap (λ ws. all_onto found (onto_read x (more ws))) (sym behind)
+    ∙ ap (λ b. all_onto found (cond b (onto_read x (more us)) (Some (x ∷ [], t ∷ us)))) (sym there)
+    ∙ ap (λ o. all_onto found (o >>= λ r. list_behind is_comma more r.0 r.1)) (sym is)
+    ∙ ap (λ m. all_onto found (list_at is_comma form m ts)) one
 
-onto_empty : (before : List Token) (parts : List (List Token)) → all_onto_first before ([] ∷ parts) ≡ before ∷ parts
-onto_empty [] parts = refl
-onto_empty (x ∷ xs) parts = ap (onto_first x) (onto_empty xs parts)
+-- where none stands, it ends
+pub list_stops : {A : Type 0} (form : List Token → Reads Token A) (n i : ℕ) (found : List A) (ts us rest : List Token) (x : A) (all : List A) → i < n → form ts ≡ Some (x, us) → begins is_comma us ≡ false →
+    all ≡ found ++ x ∷ [] → rest ≡ us → all_onto found (list_at is_comma form (n - i) ts) ≡ Some (all, rest)
+list_stops form n i found ts us rest x all h is there are left =
+    let more = list_at is_comma form (n - (i + 1)) in
+    let one : n - i ≡ suc (n - (i + 1)) = omega (arith, h) in
+    ap (λ m. all_onto found (list_at is_comma form m ts)) one
+    ∙ ap (λ o. all_onto found (o >>= λ r. list_behind is_comma more r.0 r.1)) is
+    ∙ ap (all_onto found) (last us there)
+    ∙ sym (onto_all found x [] (Some ([], us))) ∙ all_there (found ++ x ∷ []) us ∙ (λ j. Some (sym are j, sym left j)) where
+      last : (us : List Token) → begins is_comma us ≡ false → list_behind is_comma (list_at is_comma form (n - (i + 1))) x us ≡ Some (x ∷ [], us)
+      last [] there = refl
+      last (t ∷ us) there = ap (λ b. cond b (onto_read x (list_at is_comma form (n - (i + 1)) us)) (Some (x ∷ [], t ∷ us))) there
 
-parts_here : (ps : List RustToken) (i depth : ℕ) (d : RustToken) → i < length ps →
-    parts_at depth (plain (drop i ps)) ≡ parts_at depth (seen (get_or ps i d) ∷ plain (drop (i + 1) ps))
-parts_here ps i depth d h = ap (λ qs. parts_at depth (plain qs)) (drop_more ps i d h)
+onto_none : {A : Type 0} (found : List A) → all_onto found (let none : Reads Token (List A) = None in none) ≡ None
+onto_none [] = refl
+onto_none (x ∷ xs) = ap (onto_read x) (onto_none xs)
 
-range_more : (ps : List RustToken) (start i : ℕ) (d : RustToken) → start ≤ i → i < length ps → plain (slice_range ps start (i + 1)) ≡ plain (slice_range ps start i) ++ seen (get_or ps i d) ∷ []
-range_more ps start i d s h =
-    let one : i + 1 - start ≡ (i - start) + 1 = omega (arith, s) in
-    let here : start + (i - start) ≡ i = omega (arith, s) in
-    ap (λ n. plain (take n (drop start ps))) one
-    ∙ ap plain (take_more (drop start ps) (i - start) d (omega (arith, s, h, length-drop start ps)))
-    ∙ map-append seen (take (i - start) (drop start ps)) (get_or (drop start ps) (i - start) d ∷ [])
-    ∙ ap (λ p. plain (slice_range ps start i) ++ seen p ∷ []) (get_or-drop start ps (i - start) d ∙ ap (λ n. get_or ps n d) here)
+-- where a part is none, the list is none
+pub list_fails : {A : Type 0} (form : List Token → Reads Token A) (n i : ℕ) (found : List A) (ts : List Token) → i < n → form ts ≡ None → all_onto found (list_at is_comma form (n - i) ts) ≡ None
+list_fails form n i found ts h none =
+    let more = list_at is_comma form (n - (i + 1)) in
+    let one : n - i ≡ suc (n - (i + 1)) = omega (arith, h) in
+    ap (λ m. all_onto found (list_at is_comma form m ts)) one ∙ ap (λ o. all_onto found (o >>= λ r. list_behind is_comma more r.0 r.1)) none ∙ onto_none found
 
-range_none : (ps : List RustToken) (i : ℕ) → slice_range ps i i ≡ []
-range_none ps i = ap (λ n. take n (drop i ps)) (let none : i - i ≡ 0 = omega arith in none)
+pub list_spent : {A : Type 0} (form : List Token → Reads Token A) (n i : ℕ) (found : List A) (ts : List Token) → n ≤ i → all_onto found (list_at is_comma form (n - i) ts) ≡ None
+list_spent form n i found ts h = let none : n - i ≡ 0 = omega (arith, h) in ap (λ m. all_onto found (list_at is_comma form m ts)) none ∙ onto_none found
 
-pub runs_more : (found : List (Bor (List RustToken))) (part : Bor (List RustToken)) → runs (found ++ part ∷ []) ≡ runs found ++ plain part.now ∷ []
-runs_more [] part = refl
-runs_more (p ∷ ps) part = ap (λ parts. plain p.now ∷ parts) (runs_more ps part)
+-- one more is found
+pub one_more : {A B : Type 0} (shown : A → B) (found more : List A) (x : A) → more ≡ found ++ x ∷ [] → map shown more ≡ map shown found ++ shown x ∷ []
+one_more shown found more x is = ap (map shown) is ∙ map-append shown found (x ∷ [])
 
--- a comma outside parentheses ends a part
-pub part_ends : (found : List (List Token)) (ps : List RustToken) (start i depth : ℕ) (d : RustToken) → i < length ps →
-    (is_symbol (codes ",") (seen (get_or ps i d)) && depth == 0) ≡ true →
-    (found ++ plain (slice_range ps start i) ∷ []) ++ all_onto_first (plain (slice_range ps (i + 1) (i + 1))) (parts_at (depth_after depth (seen (get_or ps i d))) (plain (drop (i + 1) ps)))
-    ≡ found ++ all_onto_first (plain (slice_range ps start i)) (parts_at depth (plain (drop i ps)))
-part_ends found ps start i depth d h comma =
+-- ---- any words
+
+step_on : (m : Mark) (t : Token) (ts : List Token) (more : ℕ → Reads Token (List Token)) (depth : ℕ) → (depth == 0 && ends_part m) ≡ false → balanced_step m t ts more depth ≡ onto_read t (more (depth_after m depth))
+step_on Opens t ts more depth e = refl
+step_on Closes t ts more zero e = cc
+step_on Closes t ts more (suc depth) e = let one : depth ≡ suc depth - 1 = omega arith in ap (λ d. onto_read t (more d)) one
+step_on Parts t ts more zero e = cc
+step_on Parts t ts more (suc depth) e = refl
+step_on Other t ts more depth e = refl
+
+above : (n : ℕ) (b : Bool) → ¬ ((suc n == 0 && b) ≡ true)
+above n b e = grind (arith, nat_tests, e)
+
+step_out : (m : Mark) (t : Token) (ts : List Token) (more : ℕ → Reads Token (List Token)) (depth : ℕ) → (depth == 0 && ends_part m) ≡ true → balanced_step m t ts more depth ≡ Some ([], t ∷ ts)
+step_out Opens t ts more zero e = cc
+step_out Closes t ts more zero e = refl
+step_out Parts t ts more zero e = refl
+step_out Other t ts more zero e = cc
+step_out Opens t ts more (suc depth) e = absurd (above depth false e)
+step_out Closes t ts more (suc depth) e = absurd (above depth true e)
+step_out Parts t ts more (suc depth) e = absurd (above depth true e)
+step_out Other t ts more (suc depth) e = absurd (above depth false e)
+
+-- one more of them
+pub words_more : (ps : List RustToken) (i depth : ℕ) (d : RustToken) → i < length ps → (depth == 0 && ends_part (mark_of (seen (get_or ps i d)))) ≡ false →
+    all_onto (plain (take (i + 1) ps)) (balanced_at mark_of (plain (drop (i + 1) ps)) (depth_after (mark_of (seen (get_or ps i d))) depth)) ≡ all_onto (plain (take i ps)) (balanced_at mark_of (plain (drop i ps)) depth)
+words_more ps i depth d h other =
     let t = seen (get_or ps i d) in
-    let later = parts_at (depth_after depth t) (plain (drop (i + 1) ps)) in
-    ap (λ qs. (found ++ plain (slice_range ps start i) ∷ []) ++ all_onto_first (plain qs) later) (range_none ps (i + 1))
-    ∙ append_assoc found (plain (slice_range ps start i) ∷ []) later
-    ∙ ap (λ parts. found ++ parts) (sym (onto_empty (plain (slice_range ps start i)) later))
-    ∙ ap (λ b. found ++ all_onto_first (plain (slice_range ps start i)) (cond b ([] ∷ later) (onto_first t later))) (sym comma)
-    ∙ ap (λ parts. found ++ all_onto_first (plain (slice_range ps start i)) parts) (sym (parts_here ps i depth d h))
+    let more = balanced_at mark_of (plain (drop (i + 1) ps)) in
+    ap (λ us. all_onto us (more (depth_after (mark_of t) depth))) (ap plain (take_more ps i d h) ∙ map-append seen (take i ps) (get_or ps i d ∷ []))
+    ∙ onto_all (plain (take i ps)) t [] (more (depth_after (mark_of t) depth))
+    ∙ ap (all_onto (plain (take i ps))) (sym (step_on (mark_of t) t (plain (drop (i + 1) ps)) more depth other))
+    ∙ ap (λ qs. all_onto (plain (take i ps)) (balanced_at mark_of (plain qs) depth)) (sym (drop_more ps i d h))
 
--- any other word is one more of a part
-pub part_grows : (found : List (List Token)) (ps : List RustToken) (start i depth : ℕ) (d : RustToken) → start ≤ i → i < length ps →
-    (is_symbol (codes ",") (seen (get_or ps i d)) && depth == 0) ≡ false →
-    found ++ all_onto_first (plain (slice_range ps start (i + 1))) (parts_at (depth_after depth (seen (get_or ps i d))) (plain (drop (i + 1) ps)))
-    ≡ found ++ all_onto_first (plain (slice_range ps start i)) (parts_at depth (plain (drop i ps)))
-part_grows found ps start i depth d s h other =
+-- the one that stands there ends them
+pub words_stop : (ps : List RustToken) (i depth : ℕ) (d : RustToken) → i < length ps → (depth == 0 && ends_part (mark_of (seen (get_or ps i d)))) ≡ true →
+    all_onto (plain (take i ps)) (balanced_at mark_of (plain (drop i ps)) depth) ≡ Some (plain (take i ps), plain (take (length ps - i) (drop i ps)))
+words_stop ps i depth d h out =
     let t = seen (get_or ps i d) in
-    let later = parts_at (depth_after depth t) (plain (drop (i + 1) ps)) in
-    ap (λ before. found ++ all_onto_first before later) (range_more ps start i d s h)
-    ∙ ap (λ parts. found ++ parts) (onto_last (plain (slice_range ps start i)) t later)
-    ∙ ap (λ b. found ++ all_onto_first (plain (slice_range ps start i)) (cond b ([] ∷ later) (onto_first t later))) (sym other)
-    ∙ ap (λ parts. found ++ all_onto_first (plain (slice_range ps start i)) parts) (sym (parts_here ps i depth d h))
+    let more = plain (drop (i + 1) ps) in
+    ap (λ qs. all_onto (plain (take i ps)) (balanced_at mark_of (plain qs) depth)) (drop_more ps i d h)
+    ∙ ap (all_onto (plain (take i ps))) (step_out (mark_of t) t more (balanced_at mark_of more) depth out)
+    ∙ all_there (plain (take i ps)) (t ∷ more)
+    ∙ ap (λ qs. Some (plain (take i ps), plain qs)) (sym (drop_more ps i d h) ∙ sym (take_all (length ps - i) (drop i ps) (omega (arith, length-drop i ps))))
 
--- the last part goes to the end
-pub last_part : (found : List (List Token)) (ps : List RustToken) (start i depth : ℕ) → i ≡ length ps →
-    found ++ plain (slice_range ps start (length ps)) ∷ [] ≡ found ++ all_onto_first (plain (slice_range ps start i)) (parts_at depth (plain (drop i ps)))
-last_part found ps start i depth h =
-    ap (λ n. found ++ plain (slice_range ps start n) ∷ []) (sym h)
-    ∙ ap (λ parts. found ++ parts) (sym (onto_empty (plain (slice_range ps start i)) []))
-    ∙ ap (λ qs. found ++ all_onto_first (plain (slice_range ps start i)) (parts_at depth (plain qs))) (sym (drop_all i ps (omega (arith, h))))
+-- no word is left
+pub words_open : (ps : List RustToken) (i depth : ℕ) → length ps ≤ i → 0 < depth → all_onto (plain (take i ps)) (balanced_at mark_of (plain (drop i ps)) depth) ≡ None
+words_open ps i zero h some = absurd (omega (arith, some))
+words_open ps i (suc depth) h some = ap (λ qs. all_onto (plain (take i ps)) (balanced_at mark_of (plain qs) (suc depth))) (drop_all i ps h) ∙ onto_none (plain (take i ps))
 
--- ---- the last part
+pub words_all : (ps : List RustToken) (i depth : ℕ) → length ps ≤ i → depth ≡ 0 → all_onto (plain (take i ps)) (balanced_at mark_of (plain (drop i ps)) depth) ≡ Some (plain ps, [])
+words_all ps i depth h none =
+    (λ j. all_onto (plain (take_all i ps h j)) (balanced_at mark_of (plain (drop_all i ps h j)) (none j))) ∙ all_there (plain ps) []
 
-pub runs_front : (ps : List (Bor (List RustToken))) → all_but_last (runs ps) ≡ runs (take (length ps - 1) ps)
-runs_front ps = ap (λ n. take (n - 1) (runs ps)) (length-map ps (λ p. plain p.now)) ∙ take-map (λ p. plain p.now) (length ps - 1) ps
+-- ---- faults
 
-runs_at : (ps : List (Bor (List RustToken))) (i : ℕ) (d : Bor (List RustToken)) → i < length ps → slice_get (runs ps) i ≡ Some (plain (get_or ps i d).now)
-runs_at [] i d h = absurd (omega (arith, h))
-runs_at (p ∷ ps) zero d h = refl
-runs_at (p ∷ ps) (suc i) d h = runs_at ps i d (omega (arith, h))
-
-pub last_split : (ps : List (Bor (List RustToken))) (d : Bor (List RustToken)) → 1 ≤ length ps → front_and_last (runs ps) ≡ Some (runs (take (length ps - 1) ps), plain (get_or ps (length ps - 1) d).now)
-last_split ps d h =
-    let last = ap (λ n. slice_get (runs ps) (n - 1)) (length-map ps (λ p. plain p.now)) ∙ runs_at ps (length ps - 1) d (omega (arith, h)) in
-    λ j. last j >>= λ part. Some (runs_front ps j, part)
+-- a fault goes on as it is
+pub fault_goes : {A B : Type 0} (shown : A → B) (form : List Token → Reads Token B) (before after : Reader) (result : Result A StatementFault) (fault : StatementFault) →
+    IsErr result → IsErrAnd result (λ other. other ≡ fault) → (fault ≡ Syntax → form (rest_of before) ≡ None) → Advances shown form before after result
+fault_goes shown form before after (Ok x) fault is same none = absurd same
+fault_goes shown form before after (Err other) fault is same none = record { found = tt; none = λ e. let is_syntax : other ≡ Syntax = cc in none (sym same ∙ is_syntax) }

@@ -7,7 +7,6 @@ use Rattle.ft_statements.specs.declared.statement.StatementFault.{StatementFault
 use Rattle.ft_statements.specs.declared.statement.StatementFault.TheVariants as fault
 use Rattle.ft_statements.specs.Words.{Token}
 use Rattle.ft_statements.specs.Statements as forms
-use Rattle.ft_statements.specs.Grammar.{HasClass}
 
 abbrev pub class_as : Class → forms.Class
 class_as classes.Plain = forms.Plain
@@ -18,5 +17,5 @@ class_as (classes.FullText command) = forms.FullText (command_of command)
 pub record ReadsClass (tables : List (List ℕ)) (ts : List Token) (result : Result Class StatementFault) : Type 0 where
   pub class : IfOk result (λ class. forms.class_of tables ts ≡ Some (class_as class))
   pub syntax : IsErrOf result fault.Syntax → forms.class_of tables ts ≡ None
-  pub spelled : IfOk result (λ class. HasClass tables ts (class_as class))
-  pub unspelled : IsErrOf result fault.Syntax → (class : forms.Class) → ¬ HasClass tables ts class
+  pub spelled : IfOk result (λ class. forms.HasClass tables ts (class_as class))
+  pub unspelled : IsErrOf result fault.Syntax → (class : forms.Class) → ¬ forms.HasClass tables ts class

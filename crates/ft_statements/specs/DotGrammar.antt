@@ -7,7 +7,7 @@ use Rattle.std.specs.Char.{is_ascii_digit}
 use Rattle.shell_text.specs.declared.settings.Mode.{Mode}
 use Rattle.shell_text.specs.declared.settings.Mode.TheVariants as modes
 use Rattle.ft_statements.specs.Values.{digits_value}
-use Rattle.ft_statements.specs.Grammar.{IsSame}
+use Rattle.std.specs.Str.{str_eq_ignore_ascii_case}
 use Rattle.ft_statements.specs.Dots.{Import, DotCommand, Nothing, SetMode, SetHeaders, SetSeparator, SetNull, SetEcho, SetBail, Print}
 use Rattle.ft_statements.specs.Dots.{Importing, Tables, Quit, Usage, Unknown}
 
@@ -17,6 +17,10 @@ pub data IsMode : List ℕ → Mode → Type 0 where
   csv_mode : IsMode (codes "csv") modes.Csv
   column_mode : IsMode (codes "column") modes.Column
   quote_mode : IsMode (codes "quote") modes.Quote
+
+-- the same text, in any case of ASCII letters
+abbrev pub IsSame : List ℕ → List ℕ → Type 0
+IsSame a b = str_eq_ignore_ascii_case a b ≡ true
 
 -- on | yes | 1 | off | no | 0          in any case of ASCII letters
 pub data IsSwitch : List ℕ → Bool → Type 0 where

@@ -1,6 +1,6 @@
 -- Meaning
 pub mod Words
-pub mod Reading
+pub mod Forms
 pub mod Values
 pub mod Create
 pub mod Statements
@@ -12,9 +12,7 @@ pub mod Settings
 pub mod Grammar
 pub mod DotGrammar
 -- Steps
-pub mod Insert
-pub mod Change
-pub mod Select
+pub mod Reading
 pub mod Views
 pub mod Classes
 pub mod DotViews

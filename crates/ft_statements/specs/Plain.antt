@@ -1,9 +1,10 @@
 -- Meaning. What is asked of a plain statement before `sqlite` runs it.
-use Rattle.std.specs.Prelude.{ℕ, Bool, false, ◌&&◌, ◌||◌, List, [], ◌∷◌, Option, Some, codes}
+use Rattle.std.specs.Prelude.{ℕ, Bool, false, ◌&&◌, ◌||◌, List, [], ◌∷◌, Option, codes}
 use Rattle.std.specs.List.{list_any}
-use Rattle.std.specs.Option.{option_or}
+use Rattle.ft_statements.specs.Forms.{Form, means, ◌&◌, ◌·◌, when}
 use Rattle.ft_statements.specs.Words.{Token, is_keyword, is_one_of}
-use Rattle.ft_statements.specs.Reading.{◌>>=◌, keywords_at, optional, name_at}
+use Rattle.ft_statements.specs.Reading.{found, read}
+use Rattle.ft_statements.specs.Grammar.{word, may, name}
 
 abbrev pub begins_query : Token → Bool
 begins_query t = is_one_of (codes "SELECT" ∷ codes "VALUES" ∷ codes "WITH" ∷ []) t
@@ -21,17 +22,16 @@ asks (t ∷ ts) = begins_query t || (may_return t && list_any (is_keyword (codes
 abbrev pub seeks : List Token → Bool
 seeks ts = list_any (is_keyword (codes "MATCH")) ts
 
--- the words after CREATE [TEMP|TEMPORARY] TABLE
-abbrev pub table_at : List Token → Option (List Token)
-table_at ts =
-    option_or (keywords_at (codes "TEMP" ∷ codes "TABLE" ∷ []) ts)
-    (option_or (keywords_at (codes "TEMPORARY" ∷ codes "TABLE" ∷ []) ts) (keywords_at (codes "TABLE" ∷ []) ts))
+-- [TEMP | TEMPORARY]
+unfoldable pub temporary : Form Token (Unit {0})
+temporary = when (is_keyword (codes "TEMP")) (word "TEMP") (when (is_keyword (codes "TEMPORARY")) (word "TEMPORARY") (means tt))
 
--- the name that a CREATE TABLE gives (own choice: so far as it is a bare word or a quoted one)
+-- CREATE [TEMP | TEMPORARY] TABLE [IF NOT EXISTS] name          (own choice: so far as the name is a
+-- bare word or a quoted one); any words may follow
+abbrev pub made_table : Form Token (List ℕ)
+made_table =
+    means (λ name. name) · word "CREATE" · temporary · word "TABLE" · may (codes "IF" ∷ codes "NOT" ∷ codes "EXISTS" ∷ []) & name
+
+-- the name that a CREATE TABLE gives
 abbrev pub made_name : List Token → Option (List ℕ)
-made_name ts = do
-  rest ← keywords_at (codes "CREATE" ∷ []) ts
-  table ← table_at rest
-  new ← Some (optional (keywords_at (codes "IF" ∷ codes "NOT" ∷ codes "EXISTS" ∷ []) table) table)
-  name ← name_at new.1
-  Some name.0
+made_name ts = found (read made_table ts)

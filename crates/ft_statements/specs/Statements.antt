@@ -1,61 +1,68 @@
--- Meaning. Which class a statement is of, and which command a full-text statement spells.
-use Rattle.std.specs.Prelude.{ℕ, Bool, false, ◌&&◌, ◌||◌, List, [], ◌∷◌, Option, Some, None, is_some, option_map, if◌then◌else◌, codes}
-use Rattle.std.specs.List.{list_any}
+-- Meaning. Which statements are full-text, and the class of a statement (our own choice). The
+-- relations say it, and the functions compute the same, which is a law.
+use Rattle.std.specs.Prelude.{◌≡◌, ℕ, Bool, true, false, ◌&&◌, ◌||◌, List, [], ◌∷◌, ◌++◌, Option, Some, is_some, option_map, if◌then◌else◌, codes}
+use Rattle.std.specs.List.{Any, list_any}
 use Rattle.std.specs.Option.{option_map_or}
 use Rattle.ft_values.specs.Names.{same_name}
 use Rattle.ft_content.specs.Command.{Command}
-use Rattle.ft_statements.specs.Words.{Token, is_keyword, is_one_of, is_symbol, name_of}
-use Rattle.ft_statements.specs.Reading.{keywords_at}
-use Rattle.ft_statements.specs.Create.{create, drop_table}
-use Rattle.ft_statements.specs.Insert.{insert_first}
-use Rattle.ft_statements.specs.Change.{update, delete}
-use Rattle.ft_statements.specs.Select.{select}
-
--- without the semicolon at its end, if there is one
-abbrev pub without_end : List Token → List Token
-without_end [] = []
-without_end (t ∷ []) = if is_symbol (codes ";") t then [] else t ∷ []
-without_end (t ∷ next ∷ more) = t ∷ without_end (next ∷ more)
-
--- the command that words spell, by their first one, if they spell one
-unfoldable pub command_of : List Token → Option Command
-command_of [] = None
-command_of (t ∷ ts) =
-    if is_keyword (codes "CREATE") t then create (t ∷ ts)
-    else if is_keyword (codes "DROP") t then drop_table (t ∷ ts)
-    else if is_keyword (codes "INSERT") t then insert_first (t ∷ ts)
-    else if is_keyword (codes "UPDATE") t then update (t ∷ ts)
-    else if is_keyword (codes "DELETE") t then delete (t ∷ ts)
-    else select (t ∷ ts)
+use Rattle.ft_statements.specs.Words.{Token, is_one_of, name_of}
+use Rattle.ft_statements.specs.Reading.{found, read}
+use Rattle.ft_statements.specs.Grammar.{IsKeyword, keywords, statement, IsStatement}
 
 -- the words after which a full-text table's name makes a statement full-text
-abbrev pub leads : Token → Bool
-leads t = is_one_of (codes "FROM" ∷ codes "INTO" ∷ codes "UPDATE" ∷ codes "TABLE" ∷ codes "JOIN" ∷ codes "EXISTS" ∷ []) t
+abbrev pub lead_words : List (List ℕ)
+lead_words = codes "FROM" ∷ codes "INTO" ∷ codes "UPDATE" ∷ codes "TABLE" ∷ codes "JOIN" ∷ codes "EXISTS" ∷ []
 
+pub data IsLead : Token → Type 0 where
+  lead_word : {t : Token} → Any (λ word. IsKeyword word t) lead_words → IsLead t
+
+-- the same text, in any case of ASCII letters
 abbrev pub is_named : List ℕ → List ℕ → Bool
 is_named name table = same_name table name
 
--- whether this is the name of one of these tables, in any case of ASCII letters
-abbrev pub is_table : List (List ℕ) → Token → Bool
-is_table tables t = option_map_or (λ name. list_any (is_named name) tables) (name_of t) false
+-- the name of one of the tables
+pub data IsTable (tables : List (List ℕ)) : Token → Type 0 where
+  table_name : {t : Token} {name : List ℕ} → name_of t ≡ Some name → Any (λ table. is_named name table ≡ true) tables → IsTable tables t
 
--- whether one of these tables is named directly after such a word
-abbrev pub names_table : List (List ℕ) → List Token → Bool
-names_table tables [] = false
-names_table tables (t ∷ []) = false
-names_table tables (t ∷ next ∷ more) = (leads t && is_table tables next) || names_table tables (next ∷ more)
-
--- A statement is full-text where it makes a virtual table or names a full-text table that is there
--- (own choice).
-abbrev pub is_full_text : List (List ℕ) → List Token → Bool
-is_full_text tables ts = is_some (keywords_at (codes "CREATE" ∷ codes "VIRTUAL" ∷ []) ts) || names_table tables ts
+-- CREATE VIRTUAL {word} | {word} lead table {word}
+pub data IsFullText (tables : List (List ℕ)) : List Token → Type 0 where
+  makes_virtual : {a b : Token} {ts : List Token} →
+      IsKeyword (codes "CREATE") a → IsKeyword (codes "VIRTUAL") b → IsFullText tables (a ∷ b ∷ ts)
+  names_one : (before : List Token) {lead table : Token} (behind : List Token) →
+      IsLead lead → IsTable tables table → IsFullText tables (before ++ lead ∷ table ∷ behind)
 
 pub data Class : Type 0 where
   Plain : Class
   FullText : (command : Command) → Class
 
--- the class of a statement, where full-text tables of these names are there; a full-text statement
--- that spells no command has none
+-- a statement that isn't full-text is plain; one that is has the class of its command, and none
+-- where it spells none
+pub data HasClass (tables : List (List ℕ)) : List Token → Class → Type 0 where
+  plain_class : {ts : List Token} → ¬ IsFullText tables ts → HasClass tables ts Plain
+  full_text_class : {ts : List Token} {c : Command} →
+      IsFullText tables ts → IsStatement ts c → HasClass tables ts (FullText c)
+
+-- ---- computed
+
+abbrev pub leads : Token → Bool
+leads t = is_one_of lead_words t
+
+abbrev pub is_table : List (List ℕ) → Token → Bool
+is_table tables t = option_map_or (λ name. list_any (is_named name) tables) (name_of t) false
+
+abbrev pub names_table : List (List ℕ) → List Token → Bool
+names_table tables [] = false
+names_table tables (t ∷ []) = false
+names_table tables (t ∷ next ∷ more) = (leads t && is_table tables next) || names_table tables (next ∷ more)
+
+abbrev pub makes_table : List Token → Bool
+makes_table ts = is_some (read (keywords (codes "CREATE" ∷ codes "VIRTUAL" ∷ [])) ts)
+
+abbrev pub is_full_text : List (List ℕ) → List Token → Bool
+is_full_text tables ts = makes_table ts || names_table tables ts
+
+unfoldable pub command_of : List Token → Option Command
+command_of ts = found (read statement ts)
+
 unfoldable pub class_of : List (List ℕ) → List Token → Option Class
-class_of tables ts =
-    if is_full_text tables ts then option_map FullText (command_of (without_end ts)) else Some Plain
+class_of tables ts = if is_full_text tables ts then option_map FullText (command_of ts) else Some Plain

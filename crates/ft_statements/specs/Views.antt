@@ -1,5 +1,5 @@
 -- Steps. Words, and what was read of them, as the code holds them.
-use Rattle.std.specs.Prelude.{ℕ, ◌≡◌, ◌≤◌, ◌+◌, Bool, List, map, Option, Some, None, Result, option_map, string_bytes, String, Vec, IfOk, OnErr, IsErrOf}
+use Rattle.std.specs.Prelude.{ℕ, ◌≡◌, ◌≤◌, ◌+◌, Bool, true, false, List, map, Option, Some, None, Result, option_map, string_bytes, String, Vec, IfOk, OnErr, IsErrOf}
 use Rattle.std.specs.declared.alloc.Global.{Global}
 use Rattle.std.specs.Borrow.{Bor}
 use Rattle.ft_statements.specs.declared.words.Token.{Token as RustToken}
@@ -9,7 +9,9 @@ use Rattle.ft_statements.specs.declared.statement.StatementFault.TheVariants.{Sy
 use Rattle.ft_statements.specs.declared.create.Argument.{Argument}
 use Rattle.ft_statements.specs.declared.create.Argument.TheVariants as arguments
 use Rattle.ft_statements.specs.Words.{Token}
-use Rattle.ft_statements.specs.Reading.{Reads, optional, depth_after}
+use Rattle.ft_statements.specs.Forms.{Form, begins}
+use Rattle.ft_statements.specs.Reading.{Reads, read, depth_after}
+use Rattle.ft_statements.specs.Grammar.{mark_of}
 use Rattle.ft_statements.specs.Create as forms
 
 abbrev pub seen : RustToken → Token
@@ -25,9 +27,6 @@ rest_of reader = plain reader.left.now
 -- the texts behind references
 abbrev pub each_text : List (Bor (List ℕ)) → List (List ℕ)
 each_text texts = map (λ text. text.now) texts
-
-abbrev pub runs : List (Bor (List RustToken)) → List (List Token)
-runs parts = map (λ p. plain p.now) parts
 
 abbrev pub argument_as : Argument → forms.Argument
 argument_as (arguments.Setting name value) = forms.Setting (string_bytes name) (string_bytes value)
@@ -47,7 +46,7 @@ pub record AreSortedOf {A B : Type 0} (all : List forms.Argument) (options : Vec
 
 -- so many parentheses are open after a word, at most one more than before it
 pub record IsDepthAfter (before : ℕ) (word : Token) (now : ℕ) : Type 0 where
-  pub depth : now ≡ depth_after before word
+  pub depth : now ≡ depth_after (mark_of word) before
   pub most : now ≤ before + 1
 
 -- a list of names, if there is one
@@ -62,24 +61,19 @@ pub record Gives {A B : Type 0} (shown : A → B) (result : Result A StatementFa
   pub none : IsErrOf result Syntax → form ≡ None
 
 -- a value, as the form has it, and the words after it are left
-pub record Advances {A B : Type 0} (shown : A → B) (form : List Token → Reads B) (before after : Reader)
+pub record Advances {A B : Type 0} (shown : A → B) (form : List Token → Reads Token B) (before after : Reader)
     (result : Result A StatementFault) : Type 0 where
   pub found : IfOk result (λ x. form (rest_of before) ≡ Some (shown x, rest_of after))
   pub none : IsErrOf result Syntax → form (rest_of before) ≡ None
 
--- words whose meaning is that they stand there, and those after them are left
-pub record Skips {A : Type 0} (form : List Token → Option (List Token)) (before after : Reader)
-    (result : Result A StatementFault) : Type 0 where
-  pub found : IfOk result (λ x. form (rest_of before) ≡ Some (rest_of after))
-  pub none : IsErrOf result Syntax → form (rest_of before) ≡ None
-
--- the same, where all words are left if they don't stand there
-pub record Passes {A : Type 0} (form : List Token → Option (List Token)) (before after : Reader)
-    (result : Result A StatementFault) : Type 0 where
-  pub found : IfOk result (λ x. form (rest_of before) ≡ Some (rest_of after))
-  pub none : OnErr result (form (rest_of before) ≡ None)
+-- words that add nothing to a meaning; all are left if they don't stand there
+pub record Passes {A : Type 0} (form : Form Token (Unit {0})) (before after : Reader) (result : Result A StatementFault) : Type 0 where
+  pub found : IfOk result (λ x. read form (rest_of before) ≡ Some (tt, rest_of after))
+  pub none : OnErr result (read form (rest_of before) ≡ None)
   pub stays : OnErr result (rest_of after ≡ rest_of before)
 
--- words that may be missing: whether they stand there, and the words after them
-abbrev pub Takes : (List Token → Option (List Token)) → Reader → Reader → Bool → Type 0
-Takes form before after there = (there, rest_of after) ≡ optional (form (rest_of before)) (rest_of before)
+-- a word that may be missing: whether it stands there, which is then passed
+pub record Takes (test : Token → Bool) (form : Form Token (Unit {0})) (before after : Reader) (there : Bool) : Type 0 where
+  pub stands : there ≡ begins test (rest_of before)
+  pub passed : there ≡ true → read form (rest_of before) ≡ Some (tt, rest_of after)
+  pub stays : there ≡ false → rest_of after ≡ rest_of before

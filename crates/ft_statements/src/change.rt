@@ -2,8 +2,9 @@
 ghost use Rattle.std.specs.Prelude.{◌≡◌, List, ℕ};
 ghost use Rattle.ft_content.specs.Content.{Cell};
 ghost use Rattle.ft_content.specs.Views as views;
-ghost use Rattle.ft_statements.specs.Change as forms;
-ghost use Rattle.ft_statements.specs.Views.{rest_of, Gives, Advances, Passes};
+ghost use Rattle.ft_statements.specs.Reading.{read};
+ghost use Rattle.ft_statements.specs.Grammar as forms;
+ghost use Rattle.ft_statements.specs.Views.{rest_of, Advances, Passes};
 
 use crate::reading::{Reader, Spelled};
 use crate::statement::StatementFault;
@@ -11,18 +12,20 @@ use crate::values::integer;
 use ft_content::{Command, Deletion, Filter, Modification, Value};
 
 // Passes one of the names of the docid.
+#[tactic(auto, unfolding(crate::specs::Grammar::key))]
 pub(crate) fn key(words: &mut Reader<'_>) -> Result<(), StatementFault>
-    ensures { Passes forms.key_at words.old words.new result }
+    ensures { Passes forms.key words.old words.new result }
 {
-    if words.takes(&["docid"]) {
+    if words.takes("docid") {
         return Ok(());
     }
     words.keyword("rowid")
 }
 
 // A docid, after its name and an equals sign.
+#[tactic(auto, unfolding(crate::specs::Grammar::by_docid))]
 fn docid(words: &mut Reader<'_>) -> Result<Filter, StatementFault>
-    ensures { Advances views.filter_of forms.docid_at words.old words.new result }
+    ensures { Advances views.filter_of (read forms.by_docid) words.old words.new result }
 {
     key(words)?;
     words.symbol("=")?;
@@ -30,8 +33,9 @@ fn docid(words: &mut Reader<'_>) -> Result<Filter, StatementFault>
 }
 
 // A query, after a name and MATCH.
+#[tactic(auto, unfolding(crate::specs::Grammar::by_match))]
 fn matching(words: &mut Reader<'_>) -> Result<Filter, StatementFault>
-    ensures { Advances views.filter_of forms.match_at words.old words.new result }
+    ensures { Advances views.filter_of (read forms.by_match) words.old words.new result }
 {
     let name = words.name()?;
     words.keyword("MATCH")?;
@@ -40,11 +44,11 @@ fn matching(words: &mut Reader<'_>) -> Result<Filter, StatementFault>
 }
 
 // The filter after WHERE, or all documents where that word doesn't stand there.
-#[tactic(auto, unfolding(crate::specs::Change::where_at))]
+#[tactic(auto, unfolding(crate::specs::Grammar::filter))]
 pub(crate) fn filter(words: &mut Reader<'_>) -> Result<Filter, StatementFault>
-    ensures { Advances views.filter_of forms.where_at words.old words.new result }
+    ensures { Advances views.filter_of (read forms.filter) words.old words.new result }
 {
-    if !words.takes(&["WHERE"]) {
+    if !words.takes("WHERE") {
         return Ok(Filter::All);
     }
     let start = *words;
@@ -63,8 +67,9 @@ impl Spelled for (String, Value) {
 
     ghost shown = { views.set_of };
 
-    ghost form = { forms.set_at };
+    ghost form = { read forms.set };
 
+    #[tactic(auto, unfolding(crate::specs::Grammar::set))]
     fn read(words: &mut Reader<'_>) -> Result<(String, Value), StatementFault> {
         let name = words.name()?;
         words.symbol("=")?;
@@ -73,16 +78,15 @@ impl Spelled for (String, Value) {
 }
 
 /// UPDATE.
-#[tactic(auto, using(crate::proofs::ListLemmas::sets_split))]
-pub(crate) fn update(mut words: Reader<'_>) -> Result<Command, StatementFault>
-    ensures { Gives views.command_of result (forms.update (rest_of words.entry)) }
+#[tactic(auto, unfolding(crate::specs::Grammar::update))]
+pub(crate) fn update(words: &mut Reader<'_>) -> Result<Command, StatementFault>
+    ensures { Advances views.command_of (read forms.update) words.old words.new result }
 {
     words.keyword("UPDATE")?;
     let table = words.name()?;
     words.keyword("SET")?;
     let sets = words.list()?;
-    let filter = filter(&mut words)?;
-    words.end()?;
+    let filter = filter(words)?;
     Ok(Command::Update(Modification {
         table,
         sets,
@@ -91,12 +95,13 @@ pub(crate) fn update(mut words: Reader<'_>) -> Result<Command, StatementFault>
 }
 
 /// DELETE.
-pub(crate) fn delete(mut words: Reader<'_>) -> Result<Command, StatementFault>
-    ensures { Gives views.command_of result (forms.delete (rest_of words.entry)) }
+#[tactic(auto, unfolding(crate::specs::Grammar::delete))]
+pub(crate) fn delete(words: &mut Reader<'_>) -> Result<Command, StatementFault>
+    ensures { Advances views.command_of (read forms.delete) words.old words.new result }
 {
-    words.keywords(&["DELETE", "FROM"])?;
+    words.keyword("DELETE")?;
+    words.keyword("FROM")?;
     let table = words.name()?;
-    let filter = filter(&mut words)?;
-    words.end()?;
+    let filter = filter(words)?;
     Ok(Command::Delete(Deletion { table, filter }))
 }

@@ -1,8 +1,10 @@
 //! CREATE VIRTUAL TABLE and DROP TABLE.
 ghost use Rattle.std.specs.Prelude.{◌≡◌, map, string_bytes, IfOk};
 ghost use Rattle.ft_content.specs.Views as views;
-ghost use Rattle.ft_statements.specs.Create as forms;
-ghost use Rattle.ft_statements.specs.Views.{plain, rest_of, argument_as, AreSortedOf, Gives};
+ghost use Rattle.ft_statements.specs.Create as makes;
+ghost use Rattle.ft_statements.specs.Reading.{read};
+ghost use Rattle.ft_statements.specs.Grammar as forms;
+ghost use Rattle.ft_statements.specs.Views.{plain, argument_as, AreSortedOf, Advances};
 
 use crate::reading::{Reader, Spelled};
 use crate::statement::StatementFault;
@@ -20,7 +22,7 @@ pub(crate) enum Argument {
 // The texts of words, with a space between each two.
 #[tactic(auto, using(crate::proofs::CreateLemmas::joined_behind))]
 fn joined(alloc: Global, words: &[Token<'_>]) -> Result<String, AllocError>
-    ensures { IfOk result (λ text. string_bytes text ≡ forms.joined (plain words.now)) }
+    ensures { IfOk result (λ text. string_bytes text ≡ makes.joined (plain words.now)) }
 {
     let [first, rest @ ..] = words else {
         return Ok(String::new(alloc));
@@ -34,84 +36,86 @@ fn joined(alloc: Global, words: &[Token<'_>]) -> Result<String, AllocError>
 }
 
 // The option `tokenize` with a tokenizer.
-#[tactic(auto, using(crate::proofs::CreateLemmas::tokenizer_is))]
-fn tokenizer(mut words: Reader<'_>) -> Result<Argument, StatementFault>
-    ensures { Gives argument_as result (forms.tokenizer (rest_of words.entry)) }
+#[tactic(auto, unfolding(crate::specs::Grammar::tokenizer), using(crate::proofs::CreateLemmas::tokenizer_is))]
+fn tokenizer(words: &mut Reader<'_>) -> Result<Argument, StatementFault>
+    ensures { Advances argument_as (read forms.tokenizer) words.old words.new result }
 {
     words.keyword("tokenize")?;
     words.takes_symbol("=");
-    if words.left.is_empty() {
+    let given = words.any_words()?;
+    if given.is_empty() {
         return Err(StatementFault::Syntax);
     }
     let name = "tokenize".to_string(words.alloc)?;
-    let value = joined(words.alloc, words.left)?;
+    let value = joined(words.alloc, given)?;
     Ok(Argument::Setting { name, value })
 }
 
 // Any other option.
-fn setting(mut words: Reader<'_>) -> Result<Argument, StatementFault>
-    ensures { Gives argument_as result (forms.setting (rest_of words.entry)) }
+#[tactic(auto, unfolding(crate::specs::Grammar::setting))]
+fn setting(words: &mut Reader<'_>) -> Result<Argument, StatementFault>
+    ensures { Advances argument_as (read forms.setting) words.old words.new result }
 {
     let name = words.name()?;
     words.symbol("=")?;
-    let value = joined(words.alloc, words.left)?;
+    let value = joined(words.alloc, words.any_words()?)?;
     Ok(Argument::Setting { name, value })
 }
 
 // A column by its name; what stands after it is ignored.
-fn column(mut words: Reader<'_>) -> Result<Argument, StatementFault>
-    ensures { Gives argument_as result (forms.column (rest_of words.entry)) }
+#[tactic(auto, unfolding(crate::specs::Grammar::column))]
+fn column(words: &mut Reader<'_>) -> Result<Argument, StatementFault>
+    ensures { Advances argument_as (read forms.column) words.old words.new result }
 {
     let word = words.next()?;
-    match name_of(words.alloc, word) {
-        Err(StatementFault::Syntax) => Ok(Argument::Column(literal_of(words.alloc, word)?)),
-        name => Ok(Argument::Column(name?)),
-    }
+    let name = match name_of(words.alloc, word) {
+        Err(StatementFault::Syntax) => literal_of(words.alloc, word)?,
+        name => name?,
+    };
+    words.any_words()?;
+    Ok(Argument::Column(name))
 }
 
-// The first of the three that the words are.
-fn argument_of(words: Reader<'_>) -> Result<Argument, StatementFault>
-    ensures { Gives argument_as result (forms.argument_of (rest_of words.entry)) }
-{
-    match tokenizer(words) {
-        Err(StatementFault::Syntax) => {}
-        read => return read,
-    }
-    match setting(words) {
-        Err(StatementFault::Syntax) => column(words),
-        read => read,
-    }
-}
-
-// An option or a column, which takes all of the words.
+// An option or a column: the first of the three that the words are.
 impl Spelled for Argument {
-    ghost Form = { forms.Argument };
+    ghost Form = { makes.Argument };
 
     ghost shown = { argument_as };
 
-    ghost form = { forms.argument_at };
+    ghost form = { read forms.argument };
 
+    #[tactic(auto, unfolding(crate::specs::Grammar::argument))]
     fn read(words: &mut Reader<'_>) -> Result<Argument, StatementFault> {
-        let argument = argument_of(*words)?;
-        words.left = &[];
-        Ok(argument)
+        let start = *words;
+        match tokenizer(words) {
+            Err(StatementFault::Syntax) => *words = start,
+            read => return read,
+        }
+        match setting(words) {
+            Err(StatementFault::Syntax) => {
+                *words = start;
+                column(words)
+            }
+            read => read,
+        }
     }
 }
 
 // Nothing, or arguments in parentheses.
-fn arguments(mut words: Reader<'_>) -> Result<Vec<Argument>, StatementFault>
-    ensures { Gives (λ found. map argument_as found.items) result
-        (forms.arguments (rest_of words.entry)) }
+#[tactic(auto, unfolding(crate::specs::Grammar::arguments))]
+fn arguments(words: &mut Reader<'_>) -> Result<Vec<Argument>, StatementFault>
+    ensures { Advances (λ found. map argument_as found.items) (read forms.arguments) words.old
+        words.new result }
 {
-    if words.left.is_empty() {
+    if !words.takes_symbol("(") {
         return Ok(Vec::new(words.alloc));
     }
-    let inside = words.parenthesized()?;
-    words.end()?;
-    if inside.left.is_empty() {
+    if words.takes_symbol(")") {
         return Ok(Vec::new(words.alloc));
     }
-    inside.all()
+    let found = words.list()?;
+    words.symbol(")")?;
+    Ok(found)
 }
 
 // The options among arguments, and the columns.
@@ -134,11 +138,14 @@ fn sorted(
 }
 
 /// CREATE VIRTUAL TABLE.
-pub(crate) fn create(mut words: Reader<'_>) -> Result<Command, StatementFault>
-    ensures { Gives views.command_of result (forms.create (rest_of words.entry)) }
+#[tactic(auto, unfolding(crate::specs::Grammar::create))]
+pub(crate) fn create(words: &mut Reader<'_>) -> Result<Command, StatementFault>
+    ensures { Advances views.command_of (read forms.create) words.old words.new result }
 {
-    words.keywords(&["CREATE", "VIRTUAL", "TABLE"])?;
-    let if_new = words.takes(&["IF", "NOT", "EXISTS"]);
+    words.keyword("CREATE")?;
+    words.keyword("VIRTUAL")?;
+    words.keyword("TABLE")?;
+    let if_new = words.takes_all(&["IF", "NOT", "EXISTS"]);
     let table = words.name()?;
     words.keyword("USING")?;
     let module = words.name()?;
@@ -153,12 +160,13 @@ pub(crate) fn create(mut words: Reader<'_>) -> Result<Command, StatementFault>
 }
 
 /// DROP TABLE.
-pub(crate) fn drop_table(mut words: Reader<'_>) -> Result<Command, StatementFault>
-    ensures { Gives views.command_of result (forms.drop_table (rest_of words.entry)) }
+#[tactic(auto, unfolding(crate::specs::Grammar::drop_table))]
+pub(crate) fn drop_table(words: &mut Reader<'_>) -> Result<Command, StatementFault>
+    ensures { Advances views.command_of (read forms.drop_table) words.old words.new result }
 {
-    words.keywords(&["DROP", "TABLE"])?;
-    let if_there = words.takes(&["IF", "EXISTS"]);
+    words.keyword("DROP")?;
+    words.keyword("TABLE")?;
+    let if_there = words.takes_all(&["IF", "EXISTS"]);
     let table = words.name()?;
-    words.end()?;
     Ok(Command::Drop { table, if_there })
 }

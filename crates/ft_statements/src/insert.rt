@@ -2,8 +2,9 @@
 ghost use Rattle.std.specs.Prelude.{◌≡◌, List, string_bytes};
 ghost use Rattle.ft_content.specs.Content.{Cell};
 ghost use Rattle.ft_content.specs.Views as views;
-ghost use Rattle.ft_statements.specs.Insert as forms;
-ghost use Rattle.ft_statements.specs.Views.{rest_of, listed, Gives, Advances};
+ghost use Rattle.ft_statements.specs.Reading.{read};
+ghost use Rattle.ft_statements.specs.Grammar as forms;
+ghost use Rattle.ft_statements.specs.Views.{listed, Gives, Advances};
 
 use crate::reading::{Reader, Spelled};
 use crate::statement::StatementFault;
@@ -24,33 +25,39 @@ fn special_of(table: String, word: &str) -> Result<Command, StatementFault>
     }
 }
 
-// The special command of this table that stands after its name.
-fn special(mut words: Reader<'_>, table: &str) -> Result<Command, StatementFault>
-    ensures { Gives views.command_of result (forms.special_behind table.now (rest_of words.entry)) }
+// A special command: the one column is named as the table.
+#[tactic(auto, unfolding(crate::specs::Grammar::special))]
+fn special(words: &mut Reader<'_>) -> Result<Command, StatementFault>
+    ensures { Advances views.command_of (read forms.special) words.old words.new result }
 {
-    let mut columns = words.parenthesized()?;
-    let column = columns.name()?;
-    columns.end()?;
+    words.keyword("INSERT")?;
+    words.keyword("INTO")?;
+    let table = words.name()?;
+    words.symbol("(")?;
+    let column = words.name()?;
+    words.symbol(")")?;
     words.keyword("VALUES")?;
-    let mut row = words.parenthesized()?;
-    words.end()?;
-    if !column.as_str().eq_ignore_ascii_case(table) {
+    words.symbol("(")?;
+    let word = words.literal()?;
+    words.symbol(")")?;
+    words.done()?;
+    if !column.as_str().eq_ignore_ascii_case(table.as_str()) {
         return Err(StatementFault::Syntax);
     }
-    let word = row.literal()?;
-    row.end()?;
-    special_of(String::from_str(words.alloc, table)?, word.as_str())
+    special_of(table, word.as_str())
 }
 
 // A list of names, if a parenthesis stands there.
+#[tactic(auto, unfolding(crate::specs::Grammar::columns))]
 fn columns(words: &mut Reader<'_>) -> Result<Option<Vec<String>>, StatementFault>
-    ensures { Advances listed forms.columns_at words.old words.new result }
+    ensures { Advances listed (read forms.columns) words.old words.new result }
 {
-    let mut ahead = *words;
-    if !ahead.takes_symbol("(") {
+    if !words.takes_symbol("(") {
         return Ok(None);
     }
-    Ok(Some(words.parenthesized()?.all()?))
+    let names = words.list()?;
+    words.symbol(")")?;
+    Ok(Some(names))
 }
 
 // The values of a row, in parentheses.
@@ -59,29 +66,46 @@ impl Spelled for Vec<Value> {
 
     ghost shown = { views.cells_of };
 
-    ghost form = { forms.row_at };
+    ghost form = { read forms.row };
 
+    #[tactic(auto, unfolding(crate::specs::Grammar::row))]
     fn read(words: &mut Reader<'_>) -> Result<Vec<Value>, StatementFault> {
-        words.parenthesized()?.all()
+        words.symbol("(")?;
+        let values = words.list()?;
+        words.symbol(")")?;
+        Ok(values)
     }
 }
 
-/// A special command, or else an INSERT.
-pub(crate) fn insert(mut words: Reader<'_>) -> Result<Command, StatementFault>
-    ensures { Gives views.command_of result (forms.insert_first (rest_of words.entry)) }
+// An INSERT of rows.
+#[tactic(auto, unfolding(crate::specs::Grammar::insert_rows))]
+fn insert_rows(words: &mut Reader<'_>) -> Result<Command, StatementFault>
+    ensures { Advances views.command_of (read forms.insert_rows) words.old words.new result }
 {
-    words.keywords(&["INSERT", "INTO"])?;
+    words.keyword("INSERT")?;
+    words.keyword("INTO")?;
     let table = words.name()?;
-    match special(words, table.as_str()) {
-        Err(StatementFault::Syntax) => {}
-        command => return command,
-    }
-    let columns = columns(&mut words)?;
+    let columns = columns(words)?;
     words.keyword("VALUES")?;
-    let rows = words.all()?;
+    let rows = words.list()?;
     Ok(Command::Insert(Insertion {
         table,
         columns,
         rows,
     }))
+}
+
+/// A special command, or else an INSERT of rows.
+#[tactic(auto, unfolding(crate::specs::Grammar::insert))]
+pub(crate) fn insert(words: &mut Reader<'_>) -> Result<Command, StatementFault>
+    ensures { Advances views.command_of (read forms.insert) words.old words.new result }
+{
+    let start = *words;
+    match special(words) {
+        Err(StatementFault::Syntax) => {
+            *words = start;
+            insert_rows(words)
+        }
+        command => command,
+    }
 }

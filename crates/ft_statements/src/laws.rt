@@ -2,8 +2,8 @@
 ghost use Rattle.std.specs.Prelude.{◌≡◌, ◌↔◌, ℕ, List, Some, None};
 ghost use Rattle.ft_content.specs.Command.{Command};
 ghost use Rattle.ft_statements.specs.Words.{Token};
-ghost use Rattle.ft_statements.specs.Statements.{Class, command_of, class_of};
-ghost use Rattle.ft_statements.specs.Grammar.{IsCommand, HasClass};
+ghost use Rattle.ft_statements.specs.Statements.{Class, command_of, class_of, HasClass};
+ghost use Rattle.ft_statements.specs.Grammar.{IsStatement};
 ghost use Rattle.ft_statements.specs.Dots.{DotCommand, dot_command_of};
 ghost use Rattle.ft_statements.specs.DotGrammar.{Says};
 
@@ -11,7 +11,7 @@ ghost use Rattle.ft_statements.specs.DotGrammar.{Says};
 /// where full-text tables of these names are there. None is read exactly where the grammar spells
 /// none.
 pub fn statements_by_grammar()
-    ensures command { (ts : List Token) (c : Command) → (command_of ts ≡ Some c) ↔ IsCommand ts c }
+    ensures command { (ts : List Token) (c : Command) → (command_of ts ≡ Some c) ↔ IsStatement ts c }
     ensures class { (tables : List (List ℕ)) (ts : List Token) (class : Class) →
         (class_of tables ts ≡ Some class) ↔ HasClass tables ts class }
     ensures none { (tables : List (List ℕ)) (ts : List Token) →
@@ -20,7 +20,7 @@ pub fn statements_by_grammar()
 
 /// No words spell two commands, and no statement has two classes.
 pub fn one_class_each()
-    ensures command { (ts : List Token) (a b : Command) → IsCommand ts a → IsCommand ts b → a ≡ b }
+    ensures command { (ts : List Token) (a b : Command) → IsStatement ts a → IsStatement ts b → a ≡ b }
     ensures class { (tables : List (List ℕ)) (ts : List Token) (a b : Class) →
         HasClass tables ts a → HasClass tables ts b → a ≡ b }
 {}

@@ -1,11 +1,12 @@
 //! What is asked of a plain statement.
-ghost use Rattle.std.specs.Prelude.{◌≡◌, codes, string_bytes, IfOk};
+ghost use Rattle.std.specs.Prelude.{◌≡◌, codes, string_bytes, IfOk, Some};
 ghost use Rattle.std.specs.List.{list_any};
 ghost use Rattle.shell_text.specs.Words.{words_of};
 ghost use Rattle.ft_statements.specs.Words as tokens;
+ghost use Rattle.ft_statements.specs.Reading.{read};
 ghost use Rattle.ft_statements.specs.Plain as forms;
 ghost use Rattle.ft_statements.specs.PlainViews.{IsRunAs};
-ghost use Rattle.ft_statements.specs.Views.{seen, plain, rest_of, Gives, Skips};
+ghost use Rattle.ft_statements.specs.Views.{seen, plain, rest_of, Gives};
 
 use crate::reading::Reader;
 use crate::statement::StatementFault;
@@ -49,14 +50,14 @@ fn asks(words: &[Token<'_>]) -> bool
         || is_one_of(first, &["INSERT", "UPDATE", "DELETE", "REPLACE"]) && has(rest, "RETURNING")
 }
 
-// Passes TABLE, with TEMP or TEMPORARY before it or without.
-fn table(words: &mut Reader<'_>) -> Result<(), StatementFault>
-    ensures { Skips forms.table_at words.old words.new result }
+// Passes TEMP or TEMPORARY, if one of them stands there.
+#[tactic(auto, unfolding(crate::specs::Plain::temporary))]
+fn temporary(words: &mut Reader<'_>)
+    ensures { Some (tt, rest_of words.new) ≡ read forms.temporary (rest_of words.old) }
 {
-    if !words.takes(&["TEMP"]) {
-        words.takes(&["TEMPORARY"]);
+    if !words.takes("TEMP") {
+        words.takes("TEMPORARY");
     }
-    words.keyword("TABLE")
 }
 
 // The name that a CREATE TABLE gives.
@@ -64,8 +65,9 @@ fn made_name(mut words: Reader<'_>) -> Result<String, StatementFault>
     ensures { Gives string_bytes result (forms.made_name (rest_of words.entry)) }
 {
     words.keyword("CREATE")?;
-    table(&mut words)?;
-    words.takes(&["IF", "NOT", "EXISTS"]);
+    temporary(&mut words);
+    words.keyword("TABLE")?;
+    words.takes_all(&["IF", "NOT", "EXISTS"]);
     words.name()
 }
 

@@ -2,8 +2,9 @@
 ghost use Rattle.std.specs.Prelude.{◌≡◌};
 ghost use Rattle.ft_content.specs.Command as commands;
 ghost use Rattle.ft_content.specs.Views as views;
-ghost use Rattle.ft_statements.specs.Select as forms;
-ghost use Rattle.ft_statements.specs.Views.{rest_of, Gives, Advances, Skips};
+ghost use Rattle.ft_statements.specs.Reading.{read};
+ghost use Rattle.ft_statements.specs.Grammar as forms;
+ghost use Rattle.ft_statements.specs.Views.{Advances};
 
 use crate::change::{filter, key};
 use crate::reading::{Reader, Spelled};
@@ -12,13 +13,14 @@ use crate::values::count;
 use ft_content::{Command, Item, Items, Selection};
 
 // The call of `offsets`.
+#[tactic(auto, unfolding(crate::specs::Grammar::offsets))]
 fn offsets(words: &mut Reader<'_>) -> Result<Item, StatementFault>
-    ensures { Advances views.item_of forms.offsets_at words.old words.new result }
+    ensures { Advances views.item_of (read forms.offsets) words.old words.new result }
 {
     words.keyword("offsets")?;
-    let mut inside = words.parenthesized()?;
-    let name = inside.name()?;
-    inside.end()?;
+    words.symbol("(")?;
+    let name = words.name()?;
+    words.symbol(")")?;
     Ok(Item::Offsets(name))
 }
 
@@ -28,9 +30,9 @@ impl Spelled for Item {
 
     ghost shown = { views.item_of };
 
-    ghost form = { forms.item_at };
+    ghost form = { read forms.item };
 
-    #[tactic(auto, unfolding(crate::specs::Select::item_at))]
+    #[tactic(auto, unfolding(crate::specs::Grammar::item))]
     fn read(words: &mut Reader<'_>) -> Result<Item, StatementFault> {
         if words.takes_symbol("*") {
             return Ok(Item::All);
@@ -47,20 +49,21 @@ impl Spelled for Item {
 }
 
 // count(*) alone.
+#[tactic(auto, unfolding(crate::specs::Grammar::count_all))]
 fn count_all(words: &mut Reader<'_>) -> Result<Items, StatementFault>
-    ensures { Advances views.items_of forms.count_at words.old words.new result }
+    ensures { Advances views.items_of (read forms.count_all) words.old words.new result }
 {
     words.keyword("count")?;
-    let mut inside = words.parenthesized()?;
-    inside.symbol("*")?;
-    inside.end()?;
+    words.symbol("(")?;
+    words.symbol("*")?;
+    words.symbol(")")?;
     Ok(Items::Count)
 }
 
 // What is selected: a count, or items.
-#[tactic(auto, unfolding(crate::specs::Select::selection_at, crate::specs::Select::items_of))]
+#[tactic(auto, unfolding(crate::specs::Grammar::items))]
 fn selection(words: &mut Reader<'_>) -> Result<Items, StatementFault>
-    ensures { Advances views.items_of forms.selection_at words.old words.new result }
+    ensures { Advances views.items_of (read forms.items) words.old words.new result }
 {
     let start = *words;
     match count_all(words) {
@@ -72,47 +75,53 @@ fn selection(words: &mut Reader<'_>) -> Result<Items, StatementFault>
     }
 }
 
-// Passes ORDER BY and the docid, if they stand there.
-#[tactic(auto, unfolding(crate::specs::Select::order_at))]
+// Passes ORDER BY and the docid, if ORDER stands there.
+#[tactic(auto, unfolding(crate::specs::Grammar::order))]
 fn order(words: &mut Reader<'_>) -> Result<(), StatementFault>
-    ensures { Skips forms.order_at words.old words.new result }
+    ensures { Advances (λ none. none) (read forms.order) words.old words.new result }
 {
-    if words.takes(&["ORDER", "BY"]) {
+    if words.takes("ORDER") {
+        words.keyword("BY")?;
         key(words)?;
-        words.takes(&["ASC"]);
+        words.takes_all(&["ASC"]);
     }
     Ok(())
 }
 
-// The limit, if there is one, and the offset.
-#[tactic(auto, unfolding(crate::specs::Select::limits_of))]
-fn limits(mut words: Reader<'_>) -> Result<(Option<u64>, u64), StatementFault>
-    ensures { Gives (λ limits. limits) result (forms.limits_of (rest_of words.entry)) }
+// The offset, if OFFSET stands there.
+#[tactic(auto, unfolding(crate::specs::Grammar::offset))]
+fn offset(words: &mut Reader<'_>) -> Result<u64, StatementFault>
+    ensures { Advances (λ n. n) (read forms.offset) words.old words.new result }
 {
-    if words.left.is_empty() {
+    if words.takes("OFFSET") {
+        return count(words);
+    }
+    Ok(0)
+}
+
+// The limit, if there is one, and the offset.
+#[tactic(auto, unfolding(crate::specs::Grammar::limits))]
+fn limits(words: &mut Reader<'_>) -> Result<(Option<u64>, u64), StatementFault>
+    ensures { Advances (λ limits. limits) (read forms.limits) words.old words.new result }
+{
+    if !words.takes("LIMIT") {
         return Ok((None, 0));
     }
-    words.keyword("LIMIT")?;
-    let limit = Some(count(&mut words)?);
-    if words.left.is_empty() {
-        return Ok((limit, 0));
-    }
-    words.keyword("OFFSET")?;
-    let offset = count(&mut words)?;
-    words.end()?;
-    Ok((limit, offset))
+    let limit = count(words)?;
+    Ok((Some(limit), offset(words)?))
 }
 
 /// SELECT.
-pub(crate) fn select(mut words: Reader<'_>) -> Result<Command, StatementFault>
-    ensures { Gives views.command_of result (forms.select (rest_of words.entry)) }
+#[tactic(auto, unfolding(crate::specs::Grammar::select))]
+pub(crate) fn select(words: &mut Reader<'_>) -> Result<Command, StatementFault>
+    ensures { Advances views.command_of (read forms.select) words.old words.new result }
 {
     words.keyword("SELECT")?;
-    let items = selection(&mut words)?;
+    let items = selection(words)?;
     words.keyword("FROM")?;
     let table = words.name()?;
-    let filter = filter(&mut words)?;
-    order(&mut words)?;
+    let filter = filter(words)?;
+    order(words)?;
     let (limit, offset) = limits(words)?;
     Ok(Command::Select(Selection {
         table,

@@ -5,8 +5,10 @@ ghost use Rattle.shell_text.specs.Words.{words_of};
 ghost use Rattle.ft_content.specs.Views as views;
 ghost use Rattle.ft_statements.specs.declared.statement.StatementFault.TheVariants.{Memory};
 ghost use Rattle.ft_statements.specs.Words as tokens;
+ghost use Rattle.ft_statements.specs.Reading.{read};
+ghost use Rattle.ft_statements.specs.Grammar as grammar;
 ghost use Rattle.ft_statements.specs.Statements as forms;
-ghost use Rattle.ft_statements.specs.Views.{seen, plain, rest_of, Gives};
+ghost use Rattle.ft_statements.specs.Views.{seen, plain, rest_of, Gives, Advances};
 ghost use Rattle.ft_statements.specs.Classes.{ReadsClass};
 
 use crate::change::{delete, update};
@@ -14,7 +16,7 @@ use crate::create::{create, drop_table};
 use crate::insert::insert;
 use crate::reading::Reader;
 use crate::select::select;
-use crate::words::{Token, is_keyword, is_one_of, is_symbol, name_of, tokens_of};
+use crate::words::{Token, is_one_of, name_of, tokens_of};
 use ft_content::{Command, TableInfo};
 use shell_text::SqlWord;
 use std::alloc::{AllocError, AllocFailed, Global};
@@ -52,30 +54,34 @@ impl<T: Drop> From<AllocFailed<T>> for StatementFault {
     }
 }
 
-// Without the semicolon at the end, if there is one.
-fn without_end<'a>(words: &'a [Token<'a>]) -> &'a [Token<'a>]
-    ensures { plain result.now ≡ forms.without_end (plain words.now) }
+// A command, by its first word.
+#[tactic(auto, unfolding(crate::specs::Grammar::command))]
+fn command(words: &mut Reader<'_>) -> Result<Command, StatementFault>
+    ensures { Advances views.command_of (read grammar.command) words.old words.new result }
 {
-    let [front @ .., last] = words else {
-        return words;
-    };
-    if is_symbol(last, ";") { front } else { words }
+    if words.stands("CREATE") {
+        create(words)
+    } else if words.stands("DROP") {
+        drop_table(words)
+    } else if words.stands("INSERT") {
+        insert(words)
+    } else if words.stands("UPDATE") {
+        update(words)
+    } else if words.stands("DELETE") {
+        delete(words)
+    } else {
+        select(words)
+    }
 }
 
-// The command that words spell, by their first one.
-#[tactic(auto, unfolding(crate::specs::Statements::command_of))]
-fn command(words: Reader<'_>) -> Result<Command, StatementFault>
+// The command that all of the words spell.
+#[tactic(auto, unfolding(crate::specs::Statements::command_of, crate::specs::Grammar::statement))]
+fn statement(mut words: Reader<'_>) -> Result<Command, StatementFault>
     ensures { Gives views.command_of result (forms.command_of (rest_of words.entry)) }
 {
-    match words.left {
-        [] => Err(StatementFault::Syntax),
-        [first, ..] if is_keyword(first, "CREATE") => create(words),
-        [first, ..] if is_keyword(first, "DROP") => drop_table(words),
-        [first, ..] if is_keyword(first, "INSERT") => insert(words),
-        [first, ..] if is_keyword(first, "UPDATE") => update(words),
-        [first, ..] if is_keyword(first, "DELETE") => delete(words),
-        [..] => select(words),
-    }
+    let command = command(&mut words)?;
+    words.done()?;
+    Ok(command)
 }
 
 // The words after which a full-text table's name makes a statement full-text.
@@ -117,7 +123,7 @@ fn is_full_text(mut words: Reader<'_>, tables: &[TableInfo]) -> Result<bool, All
     ensures { IfOk result (λ is. is ≡ forms.is_full_text (views.info_names tables.now)
         (rest_of words.entry)) }
 {
-    if words.takes(&["CREATE", "VIRTUAL"]) {
+    if words.takes_all(&["CREATE", "VIRTUAL"]) {
         return Ok(true);
     }
     names_table(words.alloc, tables, words.left)
@@ -143,6 +149,5 @@ pub fn read_statement(
     if !is_full_text(Reader { alloc, left }, tables)? {
         return Ok(Class::Plain);
     }
-    let left = without_end(left);
-    Ok(Class::FullText(command(Reader { alloc, left })?))
+    Ok(Class::FullText(statement(Reader { alloc, left })?))
 }

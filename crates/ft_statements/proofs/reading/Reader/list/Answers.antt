@@ -1,20 +1,38 @@
--- what the parts before the last one spell, and then that one
-use Rattle.std.proofs.Common.{◌∷◌, [], map, Some, sym, ap, ◌∙◌}
-use Rattle.std.proofs.lemmas.List.{map-append}
-use Rattle.ft_statements.specs.Reading.{whole, with_last}
-use Rattle.ft_statements.specs.Views.{runs, rest_of}
-use Rattle.ft_statements.proofs.EachLemmas.{last_read, onto_last, before_last}
+-- one part more, or the end of them
+use Rattle.std.proofs.Common.{map, length, sym, ap, ◌∙◌, ◌+◌, arith, Err}
+use Rattle.ft_statements.specs.Views.{rest_of}
+use Rattle.ft_statements.proofs.ReadingLemmas.{at_most, list_goes, list_stops, list_fails, list_spent, one_more, fault_goes}
 use Rattle.ft_statements.proofs.reading.Reader.list.Goals as goal
 
+pub returns-in_err-read : goal.returns-in_err-read
+returns-in_err-read g c = fault_goes _ _ _ _ _ _ c.from_residual.ensures.0 c.from_residual.ensures.1 (λ is.
+    at_most g.T.Spelled.form c.args.self.now.left.now ∙ sym c.loop-i.invariant
+    ∙ list_fails g.T.Spelled.form (length c.args.self.now.left.now + 1) c.loop-i.i (map g.T.Spelled.shown c.loop-i.found.items) (rest_of c.loop-i.self) c.loop-i-test.true (c.in_err-read.ensures.none (ap Err is)))
+
+pub returns-then-not-takes_symbol : goal.returns-then-not-takes_symbol
+returns-then-not-takes_symbol g c = record {
+  found =
+      at_most g.T.Spelled.form c.args.self.now.left.now ∙ sym c.loop-i.invariant
+      ∙ list_stops g.T.Spelled.form (length c.args.self.now.left.now + 1) c.loop-i.i (map g.T.Spelled.shown c.loop-i.found.items)
+      (rest_of c.loop-i.self) (rest_of c.read.new.words) (rest_of c.takes_symbol.new.self) (g.T.Spelled.shown c.in_ok-read.field-0) (map g.T.Spelled.shown c.push.new.self.items)
+      c.loop-i-test.true c.in_ok-read.ensures.found (sym c.takes_symbol.ensures.stands ∙ c.if-not-takes_symbol.true)
+      (one_more g.T.Spelled.shown c.loop-i.found.items c.push.new.self.items c.in_ok-read.field-0 c.in_ok-push.ensures.items)
+      (c.takes_symbol.ensures.stays c.if-not-takes_symbol.true);
+  none = λ e. cc;
+}
+
+pub loop-i-preserved : goal.loop-i-preserved
+loop-i-preserved g c =
+    list_goes g.T.Spelled.form (length c.args.self.now.left.now + 1) c.loop-i.i (map g.T.Spelled.shown c.loop-i.found.items)
+    (rest_of c.loop-i.self) (rest_of c.read.new.words) (rest_of c.takes_symbol.new.self) (g.T.Spelled.shown c.in_ok-read.field-0) (map g.T.Spelled.shown c.push.new.self.items)
+    c.loop-i-test.true c.in_ok-read.ensures.found (sym c.takes_symbol.ensures.stands ∙ c.if-not-takes_symbol.false) (c.takes_symbol.ensures.passed c.if-not-takes_symbol.false)
+    (one_more g.T.Spelled.shown c.loop-i.found.items c.push.new.self.items c.in_ok-read.field-0 c.in_ok-push.ensures.items)
+    ∙ c.loop-i.invariant
+
 pub returns : goal.returns
-returns g c =
-    let form = g.T.Spelled.form in
-    let shown = g.T.Spelled.shown in
-    record {
-      found =
-          ap (with_last (λ part. whole (form part)) form) (sym (ap runs c.as_slice.ensures.value ∙ c.in_ok-parts.ensures))
-          ∙ last_read (λ part. whole (form part)) form c.as_slice.result.now c.in-len1-up.len_at_least
-          ∙ ap (onto_last form _) c.in_ok-found.ensures.found ∙ ap (before_last (map shown c.in_ok-found.found.items)) c.in_ok-read.ensures.found
-          ∙ sym (ap (λ items. Some (items, rest_of c.read.new.words)) (ap (map shown) c.in_ok-push.ensures.items ∙ map-append shown c.in_ok-found.found.items (c.in_ok-read.field-0 ∷ [])));
-      none = λ is. cc;
-    }
+returns g c = record {
+  found = tt;
+  none = λ e.
+      at_most g.T.Spelled.form c.args.self.now.left.now ∙ sym c.loop-i.invariant
+      ∙ list_spent g.T.Spelled.form (length c.args.self.now.left.now + 1) c.loop-i.i (map g.T.Spelled.shown c.loop-i.found.items) (rest_of c.loop-i.self) (omega (arith, c.loop-i-test.false));
+}
