@@ -3,7 +3,7 @@
 //! in it, and what makes a database or a store promises nothing.
 
 use ft_store::Store;
-use ram_disk::{Honest, Ram, execute_in_ram, is_always_clean, open_ram_with, ram_options};
+use ram_disk::{Honest, Ram, is_always_clean, open_ram};
 use sqlite::{Alter, Connection, FileStore, params};
 use std::alloc::Global;
 use std::test::Fail;
@@ -25,7 +25,7 @@ type InMemory = FileStore<Ram>;
 
 impl Begins for InMemory {
     fn database(alloc: Global) -> Result<Connection<InMemory>, Fail> {
-        Ok(open_ram_with(alloc, ram_options())?)
+        Ok(open_ram(alloc)?)
     }
 
     fn store(alloc: Global) -> Result<Store<InMemory>, Fail> {
@@ -34,7 +34,7 @@ impl Begins for InMemory {
 
     fn changed(conn: &mut Connection<InMemory>, sql: &str, text: &str) -> Result<usize, Fail> {
         is_always_clean(conn);
-        Ok(execute_in_ram(conn, sql, params![text])?)
+        Ok(conn.execute(sql, params![text])?)
     }
 }
 

@@ -1,7 +1,7 @@
 //! A database in memory, and the file that it stands on.
 
 use crate::empty::{Begins, Trial, number, tried};
-use ram_disk::{Honest, Ram, execute_honest};
+use ram_disk::{Honest, Ram};
 use sqlite::{Connection, params};
 use sqlite_disk::Disk;
 use std::alloc::Global;
@@ -15,7 +15,7 @@ const UNDONE: &str = "BEGIN; DELETE FROM note; ROLLBACK";
 
 // How many rows a statement puts, called for a database of which only this is known.
 fn put_honest<S: Honest>(conn: &mut Connection<S>) -> Result<usize, Fail> {
-    Ok(execute_honest(conn, INSERT, params!["b"])?)
+    Ok(conn.execute(INSERT, params!["b"])?)
 }
 
 // How many rows each of two calls puts, and how many are there once their deletion was undone.

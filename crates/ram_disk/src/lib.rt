@@ -4,14 +4,12 @@
 
 ghost use Rattle.std.specs.Prelude.{◌≡◌, [], IfOk, IfErr};
 ghost use Rattle.sqlite_trees.specs.Objects.{catalog_tree};
-ghost use Rattle.sqlite.specs.State.{HasCleanDisk, Executes};
+ghost use Rattle.sqlite.specs.State.{HasCleanDisk};
 ghost use Rattle.sqlite.specs.Held.{IsNew};
-ghost use Rattle.sqlite.specs.Values.{bound};
 ghost use Rattle.ram_disk.specs.Refused.{LacksMemory};
 ghost use Rattle.sqlite.specs.Files.{file_state};
 ghost use Rattle.sqlite.specs.Steps.{IsEmpty};
 
-use sqlite::types::ValueRef;
 use sqlite::{Connection, Error, FileStore, Files, Options};
 use std::alloc::Global;
 
@@ -19,7 +17,7 @@ mod disk;
 mod honest;
 
 pub use disk::Ram;
-pub use honest::{Honest, execute_honest};
+pub use honest::Honest;
 
 /// The options that suit memory (measured, our own choice). A read is a copy that no digest tests,
 /// so a small cache serves, and each of its pages costs about 4 microseconds at the open. A
@@ -42,21 +40,9 @@ pub fn open_ram(alloc: Global) -> Result<Connection<FileStore<Ram>>, Error>
     ensures fresh { IfOk result IsNew }
     ensures memory { IfErr result LacksMemory }
 {
-    open_ram_with(alloc, ram_options())
-}
-
-/// As `open_ram`, with options of the caller's.
-pub fn open_ram_with(alloc: Global, options: Options) -> Result<Connection<FileStore<Ram>>, Error>
-    ensures empty { IfOk result (λ c. IsEmpty (file_state c)) }
-    ensures bare { IfOk result (λ c. (file_state c).now.trees catalog_tree ≡ []) }
-    ensures clean { IfOk result (λ c. HasCleanDisk (file_state c)) }
-    ensures shielded { IfOk result (λ c. (file_state c).IsShielded) }
-    ensures fresh { IfOk result IsNew }
-    ensures memory { IfErr result LacksMemory }
-{
     let log = Ram::new(alloc);
     let db = Ram::new(alloc);
-    match Connection::open_files(alloc, Files { log, db }, options) {
+    match Connection::open_files(alloc, Files { log, db }, ram_options()) {
         Ok(conn) => Ok(conn),
         Err((error, _)) => Err(error),
     }
@@ -67,16 +53,4 @@ pub fn is_always_clean(conn: &Connection<FileStore<Ram>>)
     ensures { HasCleanDisk (file_state conn.now) }
 {
     let _ = conn;
-}
-
-/// As `Connection::execute`, whose clause on values has no premise here.
-pub fn execute_in_ram(
-    conn: &mut Connection<FileStore<Ram>>,
-    sql: &str,
-    params: &[ValueRef<'_>],
-) -> Result<usize, Error>
-    ensures runs { Executes sql.now (bound params.now) (file_state conn.old) (file_state conn.new)
-        result }
-{
-    conn.execute(sql, params)
 }

@@ -2,7 +2,7 @@ use Rattle.std.proofs.Common.{refl}
 use Rattle.ram_disk.specs.Clean.{never_lies_is_clean}
 use Rattle.ram_disk.proofs.Empty.{opened_empty}
 use Rattle.ram_disk.proofs.Refused.{lacks_memory}
-use Rattle.ram_disk.proofs.open_ram_with.Goals as goal
+use Rattle.ram_disk.proofs.open_ram.Goals as goal
 
 pub returns-in-Ok-clause-empty : goal.returns-in-Ok-clause-empty
 returns-in-Ok-clause-empty c =
