@@ -2,9 +2,8 @@
 use Rattle.std.proofs.Common.{[], ◌∷◌, codes, Some, true}
 use Rattle.shell_text.specs.Dot.{dot_words_of}
 use Rattle.shell_text.specs.declared.settings.Mode.TheVariants as mode
-use Rattle.ft_statements.specs.Dots.{SetMode, SetHeaders, Print, Importing, Usage, Unknown, Nothing}
-use Rattle.ft_statements.specs.DotGrammar.{Says}
-use Rattle.ft_statements.proofs.GrammarDots.{line_sound}
+use Rattle.ft_statements.specs.Dots.{SetMode, SetHeaders, Print, Importing, Usage, Unknown, Nothing, Says}
+use Rattle.ft_statements.proofs.DotLaw.{line_sound}
 use Rattle.ft_statements.proofs.DotRows as rows
 
 mode_csv : Says (dot_words_of (codes "mode csv")) (SetMode mode.Csv)

@@ -4,8 +4,7 @@ ghost use Rattle.ft_content.specs.Command.{Command};
 ghost use Rattle.ft_statements.specs.Words.{Token};
 ghost use Rattle.ft_statements.specs.Statements.{Class, command_of, class_of, HasClass};
 ghost use Rattle.ft_statements.specs.Grammar.{IsStatement};
-ghost use Rattle.ft_statements.specs.Dots.{DotCommand, dot_command_of};
-ghost use Rattle.ft_statements.specs.DotGrammar.{Says};
+ghost use Rattle.ft_statements.specs.Dots.{DotCommand, Says, dot_command_of};
 
 /// What is read of words is what the grammar spells: the command, and the class of a statement
 /// where full-text tables of these names are there. None is read exactly where the grammar spells
