@@ -11,3 +11,4 @@ pub mod GrammarRows
 pub mod GrammarDotRows
 pub mod DotLemmas
 pub mod DotLaw
+pub mod PlainLaw
