@@ -1,4 +1,5 @@
--- Worked dot-commands, computed.
+-- Worked dot-commands, computed. By the law of dot lines each line says the command that is
+-- computed.
 use Rattle.std.proofs.Common.{◌≡◌, refl, [], ◌∷◌, codes, Some, true}
 use Rattle.std.specs.Str.{chars}
 use Rattle.shell_text.specs.Dot.{dot_turn, dot_words_from, dot_words_of}
