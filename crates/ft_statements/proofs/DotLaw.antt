@@ -3,7 +3,7 @@ use Rattle.std.proofs.Common.{◌≡◌, inl, inr, ℕ, Bool, true, false, cond,
 use Rattle.std.proofs.lemmas.Slice.Eq.{bytes_eq-Decides}
 use Rattle.ft_statements.specs.Forms.{Form, means, one, ends, ◌&◌, ◌·◌, Has}
 use Rattle.ft_statements.specs.Reading.{Reads, ◌>>=◌, word_at, end_at, onto_read, found, read}
-use Rattle.ft_statements.specs.Dots.{DotCommand, Row, rows, SaysRow, SaysIn, Says, usage_in, made_in, or_usage, usage_of, made, dot_command_of, any_words, files, files_of, file_named, options, Import, import, import_of}
+use Rattle.ft_statements.specs.Dots.{DotCommand, Row, rows, SaysRow, SaysIn, Says, usage_in, made_in, or_usage, usage_of, made, dot_command_of, any_words, files, file_named, options, Import, import, import_of}
 use Rattle.ft_statements.proofs.FormLaw.{none_or, found_sound, found_complete}
 
 -- ---- the law
@@ -107,6 +107,9 @@ abbrev pub files_in : List (List ℕ) → Option (List ℕ × List ℕ)
 files_in [] = None
 files_in (file ∷ rest) = second rest (file_named file)
 
+abbrev paired : List ℕ → List ℕ → List ℕ × List ℕ
+paired file table = (file, table)
+
 abbrev next : {A : Type 0} → (List ℕ → A) × List (List ℕ) → Reads (List ℕ) A
 next r = word_at Some r.1 >>= λ s. Some (r.0 s.0, s.1)
 
@@ -114,7 +117,7 @@ pub files_are : (words : List (List ℕ)) → found (read (files · ends) words)
 unfolding files
 files_are [] = refl
 files_are (file ∷ rest) = by_name rest (file_named file) where
-  by_name : (ws : List (List ℕ)) (o : Option (List ℕ)) → ended (((o >>= before ws) >>= given files_of) >>= next) ≡ second ws o
+  by_name : (ws : List (List ℕ)) (o : Option (List ℕ)) → ended (((o >>= before ws) >>= given paired) >>= next) ≡ second ws o
   by_name [] None = refl
   by_name [] (Some x) = refl
   by_name (t ∷ []) None = refl

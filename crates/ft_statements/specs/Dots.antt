@@ -2,7 +2,8 @@
 -- document "Command Line Shell For SQLite". That names are exact, and that each command has just
 -- these words, is our own choice.
 use Prim.Native.String.{String}
-use Rattle.std.specs.Prelude.{◌≡◌, ◌≢◌, ◌⊎◌, ℕ, nat_le, nat_lt, Bool, true, false, ◌&&◌, ◌||◌, List, [], ◌∷◌, length, Option, Some, None, if◌then◌else◌, codes, bytes_eq}
+use Rattle.std.specs.Prelude.{◌≡◌, ◌≢◌, ◌⊎◌, ℕ, nat_le, nat_lt, Bool, true, false, ◌&&◌}
+use Rattle.std.specs.Prelude.{◌||◌, List, [], ◌∷◌, length, Option, Some, None, if◌then◌else◌, codes, bytes_eq}
 use Rattle.std.specs.List.{list_all}
 use Rattle.std.specs.Char.{is_ascii_digit}
 use Rattle.std.specs.Str.{str_eq_ignore_ascii_case}
@@ -93,17 +94,11 @@ may_csv = when (is_text "--csv") (means true · exact "--csv") (means false)
 unfoldable pub may_skip : Form (List ℕ) (Option ℕ)
 may_skip = when (is_text "--skip") (means Some · exact "--skip" & one skip_named) (means None)
 
-abbrev pub options_of : Option ℕ → Bool → Bool × Option ℕ
-options_of skip csv = (csv, skip)
-
 unfoldable pub options : Form (List ℕ) (Bool × Option ℕ)
-options = when (is_text "--csv") (means (λ csv skip. options_of skip csv) & may_csv & may_skip) (means options_of & may_skip & may_csv)
-
-abbrev pub files_of : List ℕ → List ℕ → List ℕ × List ℕ
-files_of file table = (file, table)
+options = when (is_text "--csv") (means (λ csv skip. (csv, skip)) & may_csv & may_skip) (means (λ skip csv. (csv, skip)) & may_skip & may_csv)
 
 unfoldable pub files : Form (List ℕ) (List ℕ × List ℕ)
-files = means files_of & one file_named & any_word
+files = means (λ file table. (file, table)) & one file_named & any_word
 
 abbrev pub import_of : Bool × Option ℕ → List ℕ × List ℕ → Import
 import_of options files = record { csv = options.0; skip = options.1; file = files.0; table = files.1 }
