@@ -18,6 +18,9 @@ LAWS = [
     ("statements_by_grammar", "crates/ft_statements/src/laws.rt", "command_of"),
     ("statements_by_grammar", "crates/ft_statements/src/laws.rt", "class_of"),
     ("dot_lines_by_grammar", "crates/ft_statements/src/laws.rt", "dot_command_of"),
+    ("literals_by_marks", "crates/ft_statements/src/laws.rt", "halved"),
+    ("plain_by_grammar", "crates/ft_statements/src/laws.rt", "asks"),
+    ("plain_by_grammar", "crates/ft_statements/src/laws.rt", "made_name"),
 ]
 IMPORT = re.compile(r"^\s*(?:ghost |pub )*use Rattle\.(\w+)\.specs\.(\w+)(?:\.\{([^}]*)\}| as (\w+))?;?$")
 HEAD = re.compile(r"^( *)(?:pub )?(?:module \S|mutual$)")

@@ -46,14 +46,14 @@ table_complete {tables} (table_name {t} {name} is any) =
 data NamesOne (tables : List (List ℕ)) : List Token → Type 0 where
   names_at : (before : List Token) {lead table : Token} (behind : List Token) → IsLead lead → IsTable tables table → NamesOne tables (before ++ lead ∷ table ∷ behind)
 
-and_both : (a b : Bool) → (a && b) ≡ true → (a ≡ true) × (b ≡ true)
+pub and_both : (a b : Bool) → (a && b) ≡ true → (a ≡ true) × (b ≡ true)
 and_both true b e = (refl, e)
 and_both false b e = cc
 
-or_left : (a b : Bool) → a ≡ true → (a || b) ≡ true
+pub or_left : (a b : Bool) → a ≡ true → (a || b) ≡ true
 or_left a b is = ap (λ x. x || b) is
 
-or_right : (a b : Bool) → b ≡ true → (a || b) ≡ true
+pub or_right : (a b : Bool) → b ≡ true → (a || b) ≡ true
 or_right true b is = refl
 or_right false b is = is
 

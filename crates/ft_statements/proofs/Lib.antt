@@ -7,7 +7,6 @@ pub mod StatementRows
 pub mod DotRows
 pub mod TableLemmas
 pub mod GrammarClass
-pub mod GrammarRows
-pub mod GrammarDots
-pub mod GrammarDotRows
 pub mod DotLemmas
+pub mod DotLaw
+pub mod PlainLaw

@@ -1,4 +1,4 @@
--- Worked statements, computed.
+-- Worked statements, computed. By the law of statements each has the class that is computed.
 use Rattle.std.proofs.Common.{◌≡◌, refl, [], ◌∷◌, codes, Some, None, true, false}
 use Rattle.std.specs.Prelude.{pos, negsuc, encode_utf8_all}
 use Rattle.std.specs.Str.{chars}

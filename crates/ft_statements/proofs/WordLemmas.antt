@@ -1,5 +1,5 @@
 -- The characters between two marks.
-use Rattle.std.proofs.Common.{◌≡◌, ℕ, ◌-◌, Bool, true, false, cond, Option, Some, None, List, [], ◌∷◌, ◌++◌, length, take, refl, sym, ap, ◌∙◌, arith, append_assoc, append-nil}
+use Rattle.std.proofs.Common.{◌≡◌, ◌≢◌, ℕ, ◌-◌, Bool, true, false, cond, Option, Some, None, List, [], ◌∷◌, ◌++◌, length, take, refl, sym, ap, ◌∙◌, subst, arith, append_assoc, append-nil}
 use Rattle.std.specs.Prelude.{◌&&◌, ◌==◌, chars, encode_utf8, encode_utf8_all}
 use Rattle.std.specs.Str.{IsUtf8}
 use Rattle.std.specs.Str.Iter.{chars_rest, chars_steps_back}
@@ -7,7 +7,10 @@ use Rattle.std.specs.declared.str.Chars.{Chars}
 use Rattle.std.proofs.lemmas.List.{length-append}
 use Rattle.std.proofs.lemmas.Str.{chars-encodes, chars-nil, encodes_same, encodes-append, cons_from_encodes, length-le-encodes}
 use Rattle.std.proofs.Math.Seq.{take-append_seam}
-use Rattle.ft_statements.specs.Words.{halved, closing, between_marks}
+use Rattle.ft_statements.specs.Words.{StandsFor, nothing, other_character, doubled_mark, halved, closing, between_marks}
+use Rattle.std.proofs.lemmas.Bool.Decides.{nat_tests}
+use Rattle.shell_text.specs.WordForms as marked
+use Rattle.shell_text.specs.WordForms.{IsMarked}
 
 characters_are : (text : List ℕ) (u : IsUtf8 text) → chars text ≡ u.0
 characters_are text u = sym (ap chars u.1.1) ∙ chars-encodes u.0 u.1.0
@@ -82,3 +85,44 @@ inside_marks text s t mark (Some c) u v is behind =
     ap between_marks (characters_are text u ∙ same)
     ∙ ap (λ n. halved (closing mark) false (take n (es ++ c ∷ []))) count
     ∙ ap (halved (closing mark) false) (take-append_seam es (c ∷ []) ∙ sym (characters_are (chars_rest t) v))
+
+-- ---- what stands between marks, and what it stands for
+
+pub stands_marked : {mark : ℕ} {inside text : List ℕ} → StandsFor mark inside text → IsMarked mark inside
+stands_marked nothing = marked.nothing
+stands_marked (other_character other s) = marked.other_byte other (stands_marked s)
+stands_marked (doubled_mark s) = marked.doubled_mark (stands_marked s)
+
+not_mark : (c mark : ℕ) → c ≢ mark → (c == mark) ≡ false
+not_mark c mark other = grind (arith, nat_tests, other)
+
+is_mark : (mark : ℕ) → (mark == mark) ≡ true
+is_mark mark = grind (arith, nat_tests)
+
+-- what is computed after another character, and after two marks
+one_taken : (mark c : ℕ) (cs : List ℕ) → c ≢ mark → halved mark false (c ∷ cs) ≡ c ∷ halved mark false cs
+one_taken mark c cs other = ap (λ b. c ∷ halved mark b cs) (not_mark c mark other)
+
+two_taken : (mark : ℕ) (cs : List ℕ) → halved mark false (mark ∷ mark ∷ cs) ≡ mark ∷ halved mark false cs
+two_taken mark cs =
+    ap (λ b. mark ∷ halved mark b (mark ∷ cs)) (is_mark mark)
+    ∙ ap (λ b. mark ∷ cond b (halved mark false cs) (mark ∷ halved mark b cs)) (is_mark mark)
+
+pub stands_halved : {mark : ℕ} {inside text : List ℕ} → StandsFor mark inside text → halved mark false inside ≡ text
+stands_halved nothing = refl
+stands_halved {mark} (other_character {c} {inside} other s) = one_taken mark c inside other ∙ ap (λ cs. c ∷ cs) (stands_halved s)
+stands_halved {mark} (doubled_mark {inside} s) = two_taken mark inside ∙ ap (λ cs. mark ∷ cs) (stands_halved s)
+
+marked_stands : {mark : ℕ} {inside : List ℕ} → IsMarked mark inside → StandsFor mark inside (halved mark false inside)
+marked_stands marked.nothing = nothing
+marked_stands {mark} (marked.other_byte {b} {bytes} other m) = subst (StandsFor mark (b ∷ bytes)) (sym (one_taken mark b bytes other)) (other_character other (marked_stands m))
+marked_stands {mark} (marked.doubled_mark {bytes} m) = subst (StandsFor mark (mark ∷ mark ∷ bytes)) (sym (two_taken mark bytes)) (doubled_mark (marked_stands m))
+
+pub halved_stands : (mark : ℕ) (inside text : List ℕ) → IsMarked mark inside × (halved mark false inside ≡ text) → StandsFor mark inside text
+halved_stands mark inside text both = subst (StandsFor mark inside) both.1 (marked_stands both.0)
+
+pub between : (mark : ℕ) {inside text : List ℕ} → StandsFor (closing mark) inside text → between_marks (mark ∷ inside ++ closing mark ∷ []) ≡ text
+between mark {inside} s =
+    let count : length (inside ++ closing mark ∷ []) - 1 ≡ length inside = omega (arith, length-append inside (closing mark ∷ [])) in
+    ap (λ n. halved (closing mark) false (take n (inside ++ closing mark ∷ []))) count
+    ∙ ap (halved (closing mark) false) (take-append_seam inside (closing mark ∷ [])) ∙ stands_halved s

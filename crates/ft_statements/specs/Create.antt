@@ -19,10 +19,6 @@ abbrev pub tokenizer_of : List Token → Option Argument
 tokenizer_of [] = None
 tokenizer_of (t ∷ ts) = Some (Setting (codes "tokenize") (joined (t ∷ ts)))
 
--- an option and its value, which are any words
-abbrev pub setting_of : List ℕ → List Token → Argument
-setting_of name ts = Setting name (joined ts)
-
 abbrev pub settings_in : List Argument → List (List ℕ × List ℕ)
 settings_in [] = []
 settings_in (Setting name value ∷ more) = (name, value) ∷ settings_in more

@@ -6,7 +6,6 @@ use Rattle.ft_statements.specs.declared.dots.DotCommand.{DotCommand}
 use Rattle.ft_statements.specs.declared.dots.DotCommand.TheVariants as commands
 use Rattle.ft_statements.specs.declared.dots.Import.{Import}
 use Rattle.ft_statements.specs.Dots as forms
-use Rattle.ft_statements.specs.DotGrammar.{Says}
 
 abbrev pub import_as : Import → forms.Import
 import_as what = record { csv = what.csv; skip = what.skip; file = string_bytes what.file; table = string_bytes what.table }
@@ -29,11 +28,15 @@ command_as commands.Unknown = forms.Unknown
 abbrev pub words_left : Bor (List (String Global)) → List (List ℕ)
 words_left rest = map string_bytes rest.now
 
+-- what was read, and the words after it
 abbrev pub csv_words : Bool × Bor (List (String Global)) → Bool × List (List ℕ)
-csv_words s = (s.0, words_left s.1)
+csv_words read = (read.0, words_left read.1)
 
 abbrev pub skip_words : Option (Option ℕ × Bor (List (String Global))) → Option (Option ℕ × List (List ℕ))
 skip_words read = option_map (λ r. (r.0, words_left r.1)) read
+
+abbrev pub option_words : Option ((Bool × Option ℕ) × Bor (List (String Global))) → Option ((Bool × Option ℕ) × List (List ℕ))
+option_words read = option_map (λ r. (r.0, words_left r.1)) read
 
 -- the names of a file and of a table
 abbrev pub two_words : Option (Bor (String Global) × Bor (String Global)) → Option (List ℕ × List ℕ)
@@ -42,4 +45,4 @@ two_words files = option_map (λ f. (string_bytes f.0.now, string_bytes f.1.now)
 -- the command that a line's words make, as it is read and as the grammar says
 pub record IsSaid (words : List (List ℕ)) (result : DotCommand) : Type 0 where
   pub command : command_as result ≡ forms.dot_command_of words
-  pub says : Says words (command_as result)
+  pub says : forms.Says words (command_as result)

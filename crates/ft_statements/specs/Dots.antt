@@ -1,15 +1,17 @@
--- Meaning. Which dot-command a line's words are ("Command Line Shell For SQLite": the sections
--- "Special commands to sqlite3", "Changing Output Formats", "Importing files as CSV or other
--- formats"). Names are exact, and each command has just these words: own choices.
-use Rattle.std.specs.Prelude.{ℕ, nat_le, nat_lt, Bool, true, false, ◌&&◌, ◌||◌, List, [], ◌∷◌, length, Option, Some, None}
-use Rattle.std.specs.Prelude.{option_map, if◌then◌else◌, codes, bytes_eq}
+-- Meaning. Which dot-command a line's words are. A section named in quotes is one of the SQLite
+-- document "Command Line Shell For SQLite". That names are exact, and that each command has just
+-- these words, is our own choice.
+use Prim.Native.String.{String}
+use Rattle.std.specs.Prelude.{◌≡◌, ◌≢◌, ◌⊎◌, ℕ, nat_le, nat_lt, Bool, true, false, ◌&&◌}
+use Rattle.std.specs.Prelude.{◌||◌, List, [], ◌∷◌, length, Option, Some, None, if◌then◌else◌, codes, bytes_eq}
 use Rattle.std.specs.List.{list_all}
 use Rattle.std.specs.Char.{is_ascii_digit}
 use Rattle.std.specs.Str.{str_eq_ignore_ascii_case}
 use Rattle.shell_text.specs.declared.settings.Mode.{Mode}
-use Rattle.shell_text.specs.declared.settings.Mode.TheVariants as mode
+use Rattle.shell_text.specs.declared.settings.Mode.TheVariants as modes
+use Rattle.ft_statements.specs.Forms.{Other, Form, means, one, ends, ◌&◌, ◌·◌, when, balanced, Has}
 use Rattle.ft_statements.specs.Values.{digits_value}
-use Rattle.ft_statements.specs.Reading.{◌>>=◌}
+use Rattle.ft_statements.specs.Reading.{found, read}
 
 -- the arguments of `.import`: whether a comma parts fields, how many records are skipped, and a
 -- file's and a table's name
@@ -34,42 +36,44 @@ pub data DotCommand : Type 0 where
   Usage : (text : List ℕ) → DotCommand
   Unknown : DotCommand
 
--- the command, or how it is used where the words are wrong
-abbrev pub or_usage : List ℕ → Option DotCommand → DotCommand
-or_usage usage None = Usage usage
-or_usage usage (Some command) = command
+-- ---- single words
 
--- the one word, if there is no other
-abbrev pub lone : List (List ℕ) → Option (List ℕ)
-lone [] = None
-lone (word ∷ []) = Some word
-lone (word ∷ other ∷ more) = None
+abbrev pub is_text : String → List ℕ → Bool
+is_text text word = bytes_eq word (codes text)
 
+abbrev pub exact : String → Form (List ℕ) (Unit {0})
+exact text = one (λ word. if is_text text word then Some tt else None)
+
+abbrev pub any_word : Form (List ℕ) (List ℕ)
+any_word = one Some
+
+abbrev pub any_words : Form (List ℕ) (List (List ℕ))
+any_words = balanced (λ word. Other)
+
+-- list | csv | column | quote          ("Changing Output Formats")
 abbrev pub mode_named : List ℕ → Option Mode
 mode_named word =
-    if bytes_eq word (codes "list") then Some mode.List
-    else if bytes_eq word (codes "csv") then Some mode.Csv
-    else if bytes_eq word (codes "column") then Some mode.Column
-    else if bytes_eq word (codes "quote") then Some mode.Quote
+    if is_text "list" word then Some modes.List
+    else if is_text "csv" word then Some modes.Csv
+    else if is_text "column" word then Some modes.Column
+    else if is_text "quote" word then Some modes.Quote
     else None
 
--- the mode that is the one word
-abbrev pub mode_in : List (List ℕ) → Option Mode
-mode_in words = lone words >>= mode_named
+abbrev pub mode : Form (List ℕ) Mode
+mode = one mode_named
 
-abbrev pub is_on : List ℕ → Bool
-is_on word = str_eq_ignore_ascii_case word (codes "on") || str_eq_ignore_ascii_case word (codes "yes") || bytes_eq word (codes "1")
+abbrev pub is_same : String → List ℕ → Bool
+is_same text word = str_eq_ignore_ascii_case word (codes text)
 
-abbrev pub is_off : List ℕ → Bool
-is_off word = str_eq_ignore_ascii_case word (codes "off") || str_eq_ignore_ascii_case word (codes "no") || bytes_eq word (codes "0")
-
--- a switch, in any case of ASCII letters
+-- on | yes | 1 | off | no | 0          in any case of ASCII letters
 abbrev pub switch_named : List ℕ → Option Bool
-switch_named word = if is_on word then Some true else if is_off word then Some false else None
+switch_named word =
+    if is_same "on" word || is_same "yes" word || is_text "1" word then Some true
+    else if is_same "off" word || is_same "no" word || is_text "0" word then Some false
+    else None
 
--- the switch that is the one word
-abbrev pub switch_in : List (List ℕ) → Option Bool
-switch_in words = lone words >>= switch_named
+abbrev pub switch : Form (List ℕ) Bool
+switch = one switch_named
 
 -- one to seven digits, at most 1,000,000
 abbrev pub skip_named : List ℕ → Option ℕ
@@ -77,85 +81,93 @@ skip_named word =
     if nat_lt 0 (length word) && nat_le (length word) 7 && list_all is_ascii_digit word && nat_le (digits_value word) 1000000
     then Some (digits_value word) else None
 
-abbrev pub is_csv_option : List ℕ → Bool
-is_csv_option word = bytes_eq word (codes "--csv")
+-- an option is no FILE
+abbrev pub file_named : List ℕ → Option (List ℕ)
+file_named word = if is_text "--csv" word || is_text "--skip" word then None else Some word
 
-abbrev pub is_skip_option : List ℕ → Bool
-is_skip_option word = bytes_eq word (codes "--skip")
+-- ---- [--csv] [--skip N] FILE TABLE          the options in any order ("Importing files as CSV or
+-- other formats")
 
--- whether `--csv` stands there, and the words after it
-abbrev pub csv_at : List (List ℕ) → Bool × List (List ℕ)
-csv_at [] = (false, [])
-csv_at (word ∷ words) = if is_csv_option word then (true, words) else (false, word ∷ words)
+unfoldable pub may_csv : Form (List ℕ) Bool
+may_csv = when (is_text "--csv") (means true · exact "--csv") (means false)
 
--- the number after `--skip`, if that stands there, and the words after it
-abbrev pub skip_at : List (List ℕ) → Option (Option ℕ × List (List ℕ))
-skip_at [] = Some (None, [])
-skip_at (word ∷ []) = Some (None, word ∷ [])
-skip_at (word ∷ n ∷ words) = if is_skip_option word then option_map (λ skip. (Some skip, words)) (skip_named n) else Some (None, word ∷ n ∷ words)
+unfoldable pub may_skip : Form (List ℕ) (Option ℕ)
+may_skip = when (is_text "--skip") (means Some · exact "--skip" & one skip_named) (means None)
 
--- whether `--csv` was read before, or stands there
-abbrev pub csv_later : Bool → List (List ℕ) → Bool × List (List ℕ)
-csv_later true words = (true, words)
-csv_later false words = csv_at words
+unfoldable pub options : Form (List ℕ) (Bool × Option ℕ)
+options = when (is_text "--csv") (means (λ csv skip. (csv, skip)) & may_csv & may_skip) (means (λ skip csv. (csv, skip)) & may_skip & may_csv)
 
--- FILE and TABLE, and nothing else; an option is no file
-abbrev pub files_in : List (List ℕ) → Option (List ℕ × List ℕ)
-files_in [] = None
-files_in (file ∷ []) = None
-files_in (file ∷ table ∷ []) = if is_csv_option file || is_skip_option file then None else Some (file, table)
-files_in (file ∷ table ∷ other ∷ more) = None
+unfoldable pub files : Form (List ℕ) (List ℕ × List ℕ)
+files = means (λ file table. (file, table)) & one file_named & any_word
 
--- an import of this file into this table
-abbrev pub files_of : Bool → Option ℕ → List (List ℕ) → Option Import
-files_of csv skip words = files_in words >>= λ files. Some (record { csv = csv; skip = skip; file = files.0; table = files.1 })
+abbrev pub import_of : Bool × Option ℕ → List ℕ × List ℕ → Import
+import_of options files = record { csv = options.0; skip = options.1; file = files.0; table = files.1 }
 
--- the two options in any order, each at most once, and then FILE and TABLE
-abbrev pub import_of : List (List ℕ) → Option Import
-import_of words = skip_at (csv_at words).1 >>= λ skip. files_of (csv_later (csv_at words).0 skip.1).0 skip.0 (csv_later (csv_at words).0 skip.1).1
+unfoldable pub import : Form (List ℕ) Import
+import = means import_of & options & files
 
--- a command that has no words after it
-abbrev pub alone : DotCommand → List (List ℕ) → Option DotCommand
-alone command [] = Some command
-alone command (word ∷ words) = None
+-- ---- the commands
 
--- the command of a name, where the words after it fit
-unfoldable pub made : List ℕ → List (List ℕ) → Option DotCommand
-made name words =
-    if bytes_eq name (codes "mode") then option_map SetMode (mode_in words)
-    else if bytes_eq name (codes "headers") || bytes_eq name (codes "header") then option_map SetHeaders (switch_in words)
-    else if bytes_eq name (codes "separator") then option_map SetSeparator (lone words)
-    else if bytes_eq name (codes "nullvalue") then option_map SetNull (lone words)
-    else if bytes_eq name (codes "print") then Some (Print words)
-    else if bytes_eq name (codes "echo") then option_map SetEcho (switch_in words)
-    else if bytes_eq name (codes "bail") then option_map SetBail (switch_in words)
-    else if bytes_eq name (codes "import") then option_map Importing (import_of words)
-    else if bytes_eq name (codes "tables") then alone Tables words
-    else if bytes_eq name (codes "quit") || bytes_eq name (codes "exit") then alone Quit words
-    else None
+-- a name, how its command is used, and the form of the words after it
+pub record Row : Type 1 where
+  pub name : List ℕ
+  pub usage : List ℕ
+  pub form : Form (List ℕ) DotCommand
 
--- how the command of a name is used
+abbrev pub row : String → String → Form (List ℕ) DotCommand → Row
+row name usage form = record { name = codes name; usage = codes usage; form = form }
+
+unfoldable pub rows : List {1} Row
+rows =
+    row "mode" ".mode list|csv|column|quote" (means SetMode & mode)
+    ∷ row "headers" ".headers BOOL" (means SetHeaders & switch)
+    ∷ row "header" ".headers BOOL" (means SetHeaders & switch)
+    ∷ row "separator" ".separator TEXT" (means SetSeparator & any_word)
+    ∷ row "nullvalue" ".nullvalue TEXT" (means SetNull & any_word)
+    ∷ row "print" ".print TEXT..." (means Print & any_words)
+    ∷ row "echo" ".echo BOOL" (means SetEcho & switch)
+    ∷ row "bail" ".bail BOOL" (means SetBail & switch)
+    ∷ row "import" ".import [--csv] [--skip N] FILE TABLE" (means Importing & import)
+    ∷ row "tables" ".tables" (means Tables)
+    ∷ row "quit" ".quit" (means Quit)
+    ∷ row "exit" ".exit" (means Quit)
+    ∷ []
+
+-- the command that the words after its name make, or how it is used where they make none
+abbrev pub SaysRow : Row → List (List ℕ) → DotCommand → Type 0
+SaysRow r words c = Has (r.form · ends) words c [] ⊎ (((d : DotCommand) → ¬ Has (r.form · ends) words d []) × (c ≡ Usage r.usage))
+
+-- the first row of this name; nothing is known where there is none
+abbrev pub SaysIn : List {1} Row → List ℕ → List (List ℕ) → DotCommand → Type 0
+SaysIn [] name words c = c ≡ Unknown
+SaysIn (r ∷ rs) name words c = ((name ≡ r.name) × SaysRow r words c) ⊎ ((name ≢ r.name) × SaysIn rs name words c)
+
+-- what a dot line says: nothing without words
+abbrev pub Says : List (List ℕ) → DotCommand → Type 0
+Says [] c = c ≡ Nothing
+Says (name ∷ words) c = SaysIn rows name words c
+
+-- ---- computed
+
+abbrev pub usage_in : List {1} Row → List ℕ → Option (List ℕ)
+usage_in [] name = None
+usage_in (r ∷ rs) name = if bytes_eq name r.name then Some r.usage else usage_in rs name
+
+abbrev pub made_in : List {1} Row → List ℕ → List (List ℕ) → Option DotCommand
+made_in [] name words = None
+made_in (r ∷ rs) name words = if bytes_eq name r.name then found (read (r.form · ends) words) else made_in rs name words
+
 unfoldable pub usage_of : List ℕ → Option (List ℕ)
-usage_of name =
-    if bytes_eq name (codes "mode") then Some (codes ".mode list|csv|column|quote")
-    else if bytes_eq name (codes "headers") || bytes_eq name (codes "header") then Some (codes ".headers BOOL")
-    else if bytes_eq name (codes "separator") then Some (codes ".separator TEXT")
-    else if bytes_eq name (codes "nullvalue") then Some (codes ".nullvalue TEXT")
-    else if bytes_eq name (codes "print") then Some (codes ".print TEXT...")
-    else if bytes_eq name (codes "echo") then Some (codes ".echo BOOL")
-    else if bytes_eq name (codes "bail") then Some (codes ".bail BOOL")
-    else if bytes_eq name (codes "import") then Some (codes ".import [--csv] [--skip N] FILE TABLE")
-    else if bytes_eq name (codes "tables") then Some (codes ".tables")
-    else if bytes_eq name (codes "quit") then Some (codes ".quit")
-    else if bytes_eq name (codes "exit") then Some (codes ".exit")
-    else None
+usage_of name = usage_in rows name
 
--- a name is known where it is known how its command is used
-abbrev pub of_name : Option (List ℕ) → Option DotCommand → DotCommand
-of_name None command = Unknown
-of_name (Some usage) command = or_usage usage command
+unfoldable pub made : List ℕ → List (List ℕ) → Option DotCommand
+made name words = made_in rows name words
 
--- the command that a dot line's words make: its name, and the words after it
+abbrev pub or_usage : Option (List ℕ) → Option DotCommand → DotCommand
+or_usage None command = Unknown
+or_usage (Some usage) None = Usage usage
+or_usage (Some usage) (Some command) = command
+
 unfoldable pub dot_command_of : List (List ℕ) → DotCommand
 dot_command_of [] = Nothing
-dot_command_of (name ∷ words) = of_name (usage_of name) (made name words)
+dot_command_of (name ∷ words) = or_usage (usage_of name) (made name words)

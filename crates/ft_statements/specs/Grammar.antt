@@ -1,7 +1,8 @@
--- Meaning. The grammar of full-text statements: which words spell which command. A section named in quotes is one of the SQLite
--- document "SQLite FTS3 and FTS4 Extensions"; what has none is our own choice, and so it is that
--- just these forms are read. Tables are made and dropped as in "Creating and Destroying FTS
--- Tables", written as in "Populating FTS Tables", and read as in "Simple FTS Queries".
+-- Meaning. The grammar of full-text statements: which words spell which command. A section named in
+-- quotes is one of the SQLite document "SQLite FTS3 and FTS4 Extensions"; what has none is our own
+-- choice, and so it is that just these forms are read. Tables are made and dropped as in "Creating
+-- and Destroying FTS Tables", written as in "Populating FTS Tables", and read as in "Simple FTS
+-- Queries". Where one of several forms is read, the first that the words have is taken.
 use Prim.Native.String.{String}
 use Rattle.std.specs.Prelude.{◌≡◌, ℕ, Bool, true, false, List, [], ◌∷◌, Option, Some, None, if◌then◌else◌, codes, ℤ}
 use Rattle.std.specs.Str.{str_eq_ignore_ascii_case}
@@ -11,7 +12,7 @@ use Rattle.ft_content.specs.Command.{Docid, Match, Item, AllColumns, Named, Offs
 use Rattle.ft_statements.specs.Forms.{Mark, Opens, Closes, Parts, Other, Form, means, one, ends, ◌&◌, ◌·◌, such, when, first, list, balanced, Has}
 use Rattle.ft_statements.specs.Words.{Token, is_keyword, is_symbol, name_of, literal_of}
 use Rattle.ft_statements.specs.Values.{number_of, signed, counted}
-use Rattle.ft_statements.specs.Create.{Argument, Column, tokenizer_of, setting_of, created}
+use Rattle.ft_statements.specs.Create.{Argument, Setting, Column, joined, tokenizer_of, created}
 
 -- ---- single words
 
@@ -114,7 +115,7 @@ tokenizer = such (means tokenizer_of · word "tokenize" · may_sign "=" & any_wo
 
 -- name = {word}          ("FTS4 Options")
 unfoldable pub setting : Form Token Argument
-setting = means setting_of & name · sign "=" & any_words
+setting = means (λ name value. Setting name (joined value)) & name · sign "=" & any_words
 
 -- (name | text) {word}          a column; what stands after its name is ignored
 unfoldable pub column : Form Token Argument
@@ -134,11 +135,8 @@ create =
 
 -- ---- DROP TABLE [IF EXISTS] name
 
-abbrev pub dropped : Bool → List ℕ → Command
-dropped there table = Drop table there
-
 unfoldable pub drop_table : Form Token Command
-drop_table = means dropped · word "DROP" · word "TABLE" & may (codes "IF" ∷ codes "EXISTS" ∷ []) & name
+drop_table = means (λ there table. Drop table there) · word "DROP" · word "TABLE" & may (codes "IF" ∷ codes "EXISTS" ∷ []) & name
 
 -- ---- the end of a statement
 
@@ -183,12 +181,9 @@ insert = first special insert_rows
 
 -- ---- UPDATE name SET set {, set} [WHERE filter], and DELETE FROM name [WHERE filter]
 
-abbrev pub set_to : List ℕ → Cell → List ℕ × Cell
-set_to name cell = (name, cell)
-
 -- name = value
 unfoldable pub set : Form Token (List ℕ × Cell)
-set = means set_to & name · sign "=" & value
+set = means (λ name cell. (name, cell)) & name · sign "=" & value
 
 unfoldable pub update : Form Token Command
 update = means Update · word "UPDATE" & name · word "SET" & commas set & filter
@@ -220,22 +215,18 @@ order = clause "ORDER" (means tt · word "BY" · key · may (codes "ASC" ∷ [])
 unfoldable pub count : Form Token ℕ
 count = such (means counted & number)
 
-abbrev pub limit_from : ℕ → ℕ → Option ℕ × ℕ
-limit_from limit offset = (Some limit, offset)
-
 -- [OFFSET n]
 unfoldable pub offset : Form Token ℕ
 offset = clause "OFFSET" count 0
 
 -- [LIMIT n [OFFSET n]]          (no LIMIT n, n)
 unfoldable pub limits : Form Token (Option ℕ × ℕ)
-limits = clause "LIMIT" (means limit_from & count & offset) (None, 0)
-
-abbrev pub selected : Items → List ℕ → Filter → Option ℕ × ℕ → Command
-selected items table filter limits = Select table items filter limits.0 limits.1
+limits = clause "LIMIT" (means (λ limit offset. (Some limit, offset)) & count & offset) (None, 0)
 
 unfoldable pub select : Form Token Command
-select = means selected · word "SELECT" & items · word "FROM" & name & filter · order & limits
+select =
+    means (λ items table filter limits. Select table items filter limits.0 limits.1)
+    · word "SELECT" & items · word "FROM" & name & filter · order & limits
 
 -- ---- a command, and a statement
 

@@ -10,7 +10,6 @@ pub mod Texts
 pub mod Replies
 pub mod Settings
 pub mod Grammar
-pub mod DotGrammar
 -- Steps
 pub mod Reading
 pub mod Views

@@ -1,5 +1,6 @@
 -- Steps. Words, and what was read of them, as the code holds them.
-use Rattle.std.specs.Prelude.{ℕ, ◌≡◌, ◌≤◌, ◌+◌, Bool, true, false, List, map, Option, Some, None, Result, option_map, string_bytes, String, Vec, IfOk, OnErr, IsErrOf}
+use Rattle.std.specs.Prelude.{ℕ, ◌≡◌, ◌≤◌, ◌+◌, Bool, true, false, List, map, Option}
+use Rattle.std.specs.Prelude.{Some, None, Result, option_map, string_bytes, String, Vec, IfOk, OnErr, IsErrOf}
 use Rattle.std.specs.declared.alloc.Global.{Global}
 use Rattle.std.specs.Borrow.{Bor}
 use Rattle.ft_statements.specs.declared.words.Token.{Token as RustToken}

@@ -1,7 +1,7 @@
 -- Meaning. The words of a statement with their texts: keywords, names, texts and numbers. Names and
 -- literals are those of the SQLite document "SQL Language Expressions" (section "Literal Values
 -- (Constants)") and of its page "SQLite Keywords".
-use Rattle.std.specs.Prelude.{ℕ, ◌+◌, ◌-◌, Bool, true, false, ◌==◌, ◌&&◌, List, [], ◌∷◌, map, length, take, slice_range, Option}
+use Rattle.std.specs.Prelude.{◌≢◌, ℕ, ◌+◌, ◌-◌, Bool, true, false, ◌==◌, ◌&&◌, List, [], ◌∷◌, map, length, take, slice_range, Option}
 use Rattle.std.specs.Prelude.{Some, None, if◌then◌else◌, bytes_eq, chars, encode_utf8_all}
 use Rattle.std.specs.List.{list_any}
 use Rattle.std.specs.Str.{str_eq_ignore_ascii_case}
@@ -43,8 +43,15 @@ is_one_of keywords t = list_any (λ keyword. is_keyword keyword t) keywords
 abbrev pub is_symbol : List ℕ → Token → Bool
 is_symbol symbol t = is_mark t.kind && bytes_eq t.text symbol
 
--- without the second mark of each two that stand side by side; `after` says that the character
--- before was the first of two
+-- what stands between marks, and what it stands for: the closing mark stands there only doubled,
+-- for one ("Literal Values (Constants)")
+pub data StandsFor (mark : ℕ) : (inside text : List ℕ) → Type 0 where
+  nothing : StandsFor mark [] []
+  other_character : {c : ℕ} {inside text : List ℕ} → c ≢ mark → StandsFor mark inside text → StandsFor mark (c ∷ inside) (c ∷ text)
+  doubled_mark : {inside text : List ℕ} → StandsFor mark inside text → StandsFor mark (mark ∷ mark ∷ inside) (mark ∷ text)
+
+-- The same, computed: without the second mark of each two that stand side by side; `after` says
+-- that the character before was the first of two
 abbrev pub halved : ℕ → Bool → List ℕ → List ℕ
 halved mark after [] = []
 halved mark after (c ∷ cs) = if after && c == mark then halved mark false cs else c ∷ halved mark (c == mark) cs

@@ -1,9 +1,11 @@
 //! Which dot-command a line's words are.
-ghost use Rattle.std.specs.Prelude.{◌≡◌, map, string_bytes, option_map, IfOk};
+ghost use Rattle.std.specs.Prelude.{◌≡◌, map, string_bytes, option_map, IfOk, Some};
 ghost use Rattle.std.specs.Char.{is_ascii_digit};
 ghost use Rattle.std.specs.List.{list_all};
+ghost use Rattle.ft_statements.specs.Forms.{means, ends, ◌·◌};
+ghost use Rattle.ft_statements.specs.Reading.{found, read};
 ghost use Rattle.ft_statements.specs.Dots as forms;
-ghost use Rattle.ft_statements.specs.DotViews.{command_as, import_as, csv_words, skip_words, two_words, IsSaid};
+ghost use Rattle.ft_statements.specs.DotViews.{command_as, import_as, csv_words, skip_words, option_words, two_words, IsSaid};
 
 use crate::values::digits_value;
 use shell_text::Mode;
@@ -65,7 +67,7 @@ fn line_command(alloc: Global, words: &[String]) -> Result<DotCommand, AllocErro
 }
 
 // How the command of a name is used.
-#[tactic(auto, unfolding(crate::specs::Dots::usage_of))]
+#[tactic(auto, unfolding(crate::specs::Dots::usage_of, crate::specs::Dots::rows))]
 fn usage_of(name: &str) -> Option<&'static str>
     ensures { option_map (λ usage. usage.now) result ≡ forms.usage_of name.now }
 {
@@ -86,7 +88,7 @@ fn usage_of(name: &str) -> Option<&'static str>
 }
 
 // The command of a name, where the words after it fit.
-#[tactic(auto, unfolding(crate::specs::Dots::made))]
+#[tactic(auto, unfolding(crate::specs::Dots::made, crate::specs::Dots::rows), using(crate::proofs::DotLaw::mapped, crate::proofs::DotLaw::printed))]
 fn made(alloc: Global, name: &str, words: &[String]) -> Result<Option<DotCommand>, AllocError>
     ensures { IfOk result (λ command. option_map command_as command
         ≡ forms.made name.now (map string_bytes words.now)) }
@@ -107,8 +109,9 @@ fn made(alloc: Global, name: &str, words: &[String]) -> Result<Option<DotCommand
 }
 
 // The mode that is the one word.
+#[tactic(auto, using(crate::proofs::DotLaw::alone))]
 fn mode_in(words: &[String]) -> Option<Mode>
-    ensures { result ≡ forms.mode_in (map string_bytes words.now) }
+    ensures { result ≡ found (read (forms.mode · ends) (map string_bytes words.now)) }
 {
     match lone(words)? {
         "list" => Some(Mode::List),
@@ -121,7 +124,8 @@ fn mode_in(words: &[String]) -> Option<Mode>
 
 // The one word, if there is no other.
 fn lone(words: &[String]) -> Option<&str>
-    ensures { option_map (λ w. w.now) result ≡ forms.lone (map string_bytes words.now) }
+    ensures { option_map (λ w. w.now) result
+        ≡ found (read (forms.any_word · ends) (map string_bytes words.now)) }
 {
     match words {
         [word] => Some(word.as_str()),
@@ -130,8 +134,9 @@ fn lone(words: &[String]) -> Option<&str>
 }
 
 // The switch that is the one word, in any case of ASCII letters.
+#[tactic(auto, using(crate::proofs::DotLaw::alone))]
 fn switch_in(words: &[String]) -> Option<bool>
-    ensures { result ≡ forms.switch_in (map string_bytes words.now) }
+    ensures { result ≡ found (read (forms.switch · ends) (map string_bytes words.now)) }
 {
     let word = lone(words)?;
     if word.eq_ignore_ascii_case("on") || word.eq_ignore_ascii_case("yes") || word == "1" {
@@ -146,7 +151,7 @@ fn switch_in(words: &[String]) -> Option<bool>
 // The text that is the one word.
 fn text_in(alloc: Global, words: &[String]) -> Result<Option<String>, AllocError>
     ensures { IfOk result (λ text. option_map string_bytes text
-        ≡ forms.lone (map string_bytes words.now)) }
+        ≡ found (read (forms.any_word · ends) (map string_bytes words.now))) }
 {
     lone(words)
         .map(|text| String::from_str(alloc, text))
@@ -167,21 +172,20 @@ fn copied(alloc: Global, words: &[String]) -> Result<Vec<String>, AllocError>
 // A command that has no words after it.
 fn alone(command: DotCommand, words: &[String]) -> Option<DotCommand>
     ensures { option_map command_as result
-        ≡ forms.alone (command_as command) (map string_bytes words.now) }
+        ≡ found (read (means (command_as command) · ends) (map string_bytes words.now)) }
 {
     words.is_empty().then_some(command)
 }
 
 // The two options in any order, and then FILE and TABLE.
+#[tactic(auto, unfolding(crate::specs::Dots::import), using(crate::proofs::DotLaw::import_read))]
 fn import_of(alloc: Global, words: &[String]) -> Result<Option<Import>, AllocError>
     ensures { IfOk result (λ what. option_map import_as what
-        ≡ forms.import_of (map string_bytes words.now)) }
+        ≡ found (read (forms.import · ends) (map string_bytes words.now))) }
 {
-    let (csv, rest) = csv_at(false, words);
-    let Some((skip, rest)) = skip_at(rest) else {
+    let Some(((csv, skip), rest)) = options(words) else {
         return Ok(None);
     };
-    let (csv, rest) = csv_at(csv, rest);
     let Some((file, table)) = files_in(rest) else {
         return Ok(None);
     };
@@ -194,8 +198,10 @@ fn import_of(alloc: Global, words: &[String]) -> Result<Option<Import>, AllocErr
 }
 
 // FILE and TABLE, and nothing else; an option is no file.
+#[tactic(auto, unfolding(crate::specs::Dots::files), using(crate::proofs::DotLaw::files_are))]
 fn files_in(words: &[String]) -> Option<(&String, &String)>
-    ensures { two_words result ≡ forms.files_in (map string_bytes words.now) }
+    ensures { two_words result
+        ≡ found (read (forms.files · ends) (map string_bytes words.now)) }
 {
     match words {
         [file, table] if file.as_str() != "--csv" && file.as_str() != "--skip" => {
@@ -205,22 +211,46 @@ fn files_in(words: &[String]) -> Option<(&String, &String)>
     }
 }
 
-// Whether `--csv` was read before, or stands there, and the words after it.
-fn csv_at(before: bool, words: &[String]) -> (bool, &[String])
-    ensures { csv_words result ≡ forms.csv_later before (map string_bytes words.now) }
+// The options, and the words after them.
+#[tactic(auto, unfolding(crate::specs::Dots::options))]
+fn options(words: &[String]) -> Option<((bool, Option<u64>), &[String])>
+    ensures { option_words result ≡ read forms.options (map string_bytes words.now) }
 {
     match words {
-        [first, rest @ ..] if !before && first.as_str() == "--csv" => (true, rest),
-        _ => (before, words),
+        [first, ..] if first.as_str() == "--csv" => {
+            let (csv, rest) = csv_at(words);
+            let (skip, rest) = skip_at(rest)?;
+            Some(((csv, skip), rest))
+        }
+        _ => {
+            let (skip, rest) = skip_at(words)?;
+            let (csv, rest) = csv_at(rest);
+            Some(((csv, skip), rest))
+        }
+    }
+}
+
+// Whether `--csv` stands there, and the words after it.
+#[tactic(auto, unfolding(crate::specs::Dots::may_csv))]
+fn csv_at(words: &[String]) -> (bool, &[String])
+    ensures { Some (csv_words result) ≡ read forms.may_csv (map string_bytes words.now) }
+{
+    match words {
+        [first, rest @ ..] if first.as_str() == "--csv" => (true, rest),
+        _ => (false, words),
     }
 }
 
 // The number after `--skip`, if that stands there, and the words after it.
+#[tactic(auto, unfolding(crate::specs::Dots::may_skip))]
 fn skip_at(words: &[String]) -> Option<(Option<u64>, &[String])>
-    ensures { skip_words result ≡ forms.skip_at (map string_bytes words.now) }
+    ensures { skip_words result ≡ read forms.may_skip (map string_bytes words.now) }
 {
     match words {
-        [first, number, rest @ ..] if first.as_str() == "--skip" => {
+        [first, rest @ ..] if first.as_str() == "--skip" => {
+            let [number, rest @ ..] = rest else {
+                return None;
+            };
             Some((Some(skip_named(number.as_str())?), rest))
         }
         _ => Some((None, words)),

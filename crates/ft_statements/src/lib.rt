@@ -18,7 +18,10 @@ mod values;
 mod words;
 
 pub use crate::dots::{DotCommand, Import, dot_command};
-pub use crate::laws::{dot_lines_by_grammar, one_class_each, statements_by_grammar};
+pub use crate::laws::{
+    dot_lines_by_grammar, literals_by_marks, one_class_each, plain_by_grammar,
+    statements_by_grammar,
+};
 pub use crate::plain::{PlainStatement, read_plain};
 pub use crate::replies::write_reply;
 pub use crate::setting::{apply, print_text};
