@@ -18,11 +18,11 @@ use Rattle.ft_content.specs.Views.{TableInfo}
 use Rattle.ft_index.specs.Changed.{Does, MakesRows, with_tables}
 use Rattle.ft_index.specs.DocumentsRead.{Looks}
 use Rattle.ft_index.specs.declared.written.Written.{Written}
-use Rattle.ft_index.specs.Kept.{IsUp, AreHeld, is_outside, table_info}
+use Rattle.ft_index.specs.Kept.{Reaches, IsUp, AreHeld, is_outside, table_info}
 use Rattle.ft_index.specs.Written.{PlansIn, PlansTo, PlansWritten, WritesIn}
 use Rattle.ft_index.proofs.Acting.{executes_failed, executes_undone, then_changed}
 use Rattle.ft_index.proofs.Crashing.{crash_read, crash_reached}
-use Rattle.ft_index.proofs.Executing.{Reaches, executes_planned}
+use Rattle.ft_index.proofs.Executing.{executes_planned}
 
 module _ {S : Type 0} (g : Ghosts S) (old mid : StoreState S) (tables : List TableInfo) (command : Command) (looks : Looks g old mid) where
   -- reads that show its fault

@@ -92,7 +92,7 @@ unasked {S} {X} g old changes result f is outside = subst (λ (r : Result X Faul
 })
 
 module _ {S : Type 0} (g : Ghosts S) (old mid : StoreState S) (result : Result (Unit {0}) StoreFault) (it : Pings g old mid result) where
-  pinged : Looks g old mid
+  pub pinged : Looks g old mid
   pinged = record { kept = it.kept; survives = survives_as (shows g old) (shows g mid) _ _ (λ clean db none is_open. none) it.survives }
 
   nothing_left : (P : Trees → Type 0) → Survives (shows g old) (shows g mid) P

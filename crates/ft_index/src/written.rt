@@ -14,6 +14,8 @@ ghost use Rattle.ft_index.specs.DocumentsRead.{HasRows, Looks, LooksTo};
 ghost use Rattle.ft_documents.specs.Gathered.{has_given};
 ghost use Rattle.ft_content.specs.Answer.{chosen};
 ghost use Rattle.ft_index.specs.Changed.{with_tables, Does};
+ghost use Rattle.ft_index.specs.Kept.{BlamesStore};
+ghost use Rattle.ft_index.specs.Refused.{BlamesOver};
 ghost use Rattle.ft_content.specs.Content as content;
 ghost use Rattle.ft_values.specs.declared.fault.Fault.TheVariants as faults;
 
@@ -169,9 +171,10 @@ pub(crate) fn insert_written<'t, S: Alter>(
     tables: &'t [TableInfo],
     insertion: &Insertion,
 ) -> Result<Written<'t>, Fault>
-    ensures { LooksTo S.Store store.old store.new result
+    ensures looks { LooksTo S.Store store.old store.new result
         (WritesIn S.Store (map shown_info tables.now) store.old store.new
         (insertion_of insertion.now) result) }
+    ensures refused { BlamesOver S.Store (map shown_info tables.now) store.old store.new result }
 {
     store.is_in_order();
     let listed = insertion.columns.as_deref();
@@ -212,6 +215,9 @@ fn stored_docids<S: Alter>(
     ensures live { HasCleanDisk (shows S.Store store.new)
         → OnOk result (IsTrue (shows S.Store store.old).is_open
         → IsTrue (shows S.Store store.new).is_open) }
+    ensures refused { (HasCleanDisk (shows S.Store store.old)
+        → IsTrue (shows S.Store store.old).is_open)
+        → BlamesStore (shows S.Store store.old) (shows S.Store store.new) result }
 {
     let mut stored = Vec::new(alloc);
     for row in rows {
@@ -229,9 +235,10 @@ pub(crate) fn update_written<'t, S: Alter>(
     tables: &'t [TableInfo],
     modification: &Modification,
 ) -> Result<Written<'t>, Fault>
-    ensures { LooksTo S.Store store.old store.new result
+    ensures looks { LooksTo S.Store store.old store.new result
         (WritesIn S.Store (map shown_info tables.now) store.old store.new
         (modification_of modification.now) result) }
+    ensures refused { BlamesOver S.Store (map shown_info tables.now) store.old store.new result }
 {
     store.is_in_order();
     let sets = modification.sets.as_slice();
@@ -283,9 +290,10 @@ pub(crate) fn delete_written<'t, S: Alter>(
     tables: &'t [TableInfo],
     deletion: &Deletion,
 ) -> Result<Written<'t>, Fault>
-    ensures { LooksTo S.Store store.old store.new result
+    ensures looks { LooksTo S.Store store.old store.new result
         (WritesIn S.Store (map shown_info tables.now) store.old store.new
         (deletion_of deletion.now) result) }
+    ensures refused { BlamesOver S.Store (map shown_info tables.now) store.old store.new result }
 {
     store.is_in_order();
     let table = sound_table(tables, deletion.table.as_str())?;

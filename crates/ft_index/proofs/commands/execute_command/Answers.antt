@@ -20,7 +20,7 @@ returns-in-Insert-clause-does g c =
     let mid = c.insert_written-written.new.store in
     let found = c.insert_written-written.result in
     let tables = map shown_info c.args.tables.now.items in
-    let looks = subst (λ (ts : List TableInfo). LooksTo g.S.Store old mid found (WritesIn g.S.Store (map shown_info ts) old mid (insertion_of w) found)) c.as_slice.ensures.value c.insert_written-written.ensures in
+    let looks = subst (λ (ts : List TableInfo). LooksTo g.S.Store old mid found (WritesIn g.S.Store (map shown_info ts) old mid (insertion_of w) found)) c.as_slice.ensures.value c.insert_written-written.ensures.looks in
     subst (λ (x : Command). Does g.S.Store (with_tables old tables) (command_of x) c.write_found.result (with_tables c.write_found.new.store tables)) (sym c.in-Insert.is)
     (c.write_found.ensures old tables (insertion_of w) (inserts.writes_table (option_map names_in w.columns) (rows_of w.rows) (string_bytes w.table)) looks)
 
@@ -31,7 +31,7 @@ returns-in-Update-clause-does g c =
     let mid = c.update_written-written.new.store in
     let found = c.update_written-written.result in
     let tables = map shown_info c.args.tables.now.items in
-    let looks = subst (λ (ts : List TableInfo). LooksTo g.S.Store old mid found (WritesIn g.S.Store (map shown_info ts) old mid (modification_of w) found)) c.as_slice-in-Update.ensures.value c.update_written-written.ensures in
+    let looks = subst (λ (ts : List TableInfo). LooksTo g.S.Store old mid found (WritesIn g.S.Store (map shown_info ts) old mid (modification_of w) found)) c.as_slice-in-Update.ensures.value c.update_written-written.ensures.looks in
     subst (λ (x : Command). Does g.S.Store (with_tables old tables) (command_of x) c.write_found-in-Update.result (with_tables c.write_found-in-Update.new.store tables)) (sym c.in-Update.is)
     (c.write_found-in-Update.ensures old tables (modification_of w) (updates.writes_table (map set_of w.sets.items) (filter_of w.filter) (string_bytes w.table)) looks)
 

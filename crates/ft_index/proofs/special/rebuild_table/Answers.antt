@@ -35,11 +35,11 @@ returns-in_err-anew g c =
     let mid = c.rebuilt.new.store in
     let known = shown_info c.in_ok-known.known.now in
     let named : info_named tables c.args.table.now ≡ Some known = ap (λ ts. info_named (map shown_info ts) c.args.table.now) (sym c.as_slice.ensures.value) ∙ c.in_ok-known.ensures in
-    let rebuilds = c.rebuilt.ensures.told tables c.args.table.now named in
+    let rebuilds = c.rebuilt.ensures.looks.told tables c.args.table.now named in
     let fault : Fault = c.in_err-anew.field-0.0 in
     let is : c.from_residual-in_err-anew.result ≡ Err fault = search rules in
     let failed : c.rebuilt.result ≡ Err fault = search rules in
-    does_failed g.S.Store old mid tables command c.rebuilt.ensures.only fault c.from_residual-in_err-anew.result is (subst (RebuildsIn g.S.Store tables old mid command) failed rebuilds)
+    does_failed g.S.Store old mid tables command c.rebuilt.ensures.looks.only fault c.from_residual-in_err-anew.result is (subst (RebuildsIn g.S.Store tables old mid command) failed rebuilds)
 
 pub returns-in_err-make_anew : goal.returns-in_err-make_anew
 returns-in_err-make_anew g c =
@@ -49,14 +49,14 @@ returns-in_err-make_anew g c =
     let mid = c.rebuilt.new.store in
     let known = shown_info c.in_ok-known.known.now in
     let named : info_named tables c.args.table.now ≡ Some known = ap (λ ts. info_named (map shown_info ts) c.args.table.now) (sym c.as_slice.ensures.value) ∙ c.in_ok-known.ensures in
-    let rebuilds = c.rebuilt.ensures.told tables c.args.table.now named in
+    let rebuilds = c.rebuilt.ensures.looks.told tables c.args.table.now named in
     let anew : c.rebuilt.result ≡ Ok c.in_ok-anew.anew = search rules in
     let did = c.make_anew.ensures in
     let plans = subst (RebuildsIn g.S.Store tables old mid command) anew rebuilds did.changes did.of_anew in
     let fault : Fault = c.in_err-make_anew.field-0.0 in
     let is : c.from_residual-in_err-make_anew.result ≡ Err fault = search rules in
     let refused : c.make_anew.result ≡ Err fault = search rules in
-    does_undone g.S.Store old mid tables command c.rebuilt.ensures.only c.in_ok-anew.ensures.live c.make_anew.new.store did.changes c.make_anew.result did.makes
+    does_undone g.S.Store old mid tables command c.rebuilt.ensures.looks.only c.in_ok-anew.ensures.looks.live c.make_anew.new.store did.changes c.make_anew.result did.makes
     (λ up first holds. reached first command (value_in g.S.Store old) did.changes (plans up first holds)) fault c.from_residual-in_err-make_anew.result is refused
 
 pub returns : goal.returns
@@ -67,7 +67,7 @@ returns g c =
     let mid = c.rebuilt.new.store in
     let known = shown_info c.in_ok-known.known.now in
     let named : info_named tables c.args.table.now ≡ Some known = ap (λ ts. info_named (map shown_info ts) c.args.table.now) (sym c.as_slice.ensures.value) ∙ c.in_ok-known.ensures in
-    let rebuilds = c.rebuilt.ensures.told tables c.args.table.now named in
+    let rebuilds = c.rebuilt.ensures.looks.told tables c.args.table.now named in
     let anew : c.rebuilt.result ≡ Ok c.in_ok-anew.anew = search rules in
     let did = c.make_anew.ensures in
     let plans = subst (RebuildsIn g.S.Store tables old mid command) anew rebuilds did.changes did.of_anew in
@@ -77,7 +77,7 @@ returns g c =
     let fits : FitsSigned w64 known.id = search rules in
     let told : map shown_info c.mark_sound.new.tables.items ≡ after = c.mark_sound.ensures ∙ ap (λ k. with_sound k tables) (to_z-of_z fits) in
     subst (λ (ts : List TableInfo). Does g.S.Store (with_tables old tables) command (Ok replies.Done) (with_tables c.make_anew.new.store ts)) (sym told)
-    (does_made g.S.Store old mid tables command c.rebuilt.ensures.only c.in_ok-anew.ensures.live c.make_anew.new.store did.changes c.make_anew.result did.makes
+    (does_made g.S.Store old mid tables command c.rebuilt.ensures.looks.only c.in_ok-anew.ensures.looks.live c.make_anew.new.store did.changes c.make_anew.result did.makes
     (λ up first holds. reached first command (value_in g.S.Store old) did.changes (plans up first holds)) after done
     (λ contents held fine. told_after value tables contents c.args.table.now known (told_here value tables contents c.args.table.now known c.is_in_order.ensures.order held named) held.told fine)
     (λ contents. rebuild_reply contents c.args.table.now))

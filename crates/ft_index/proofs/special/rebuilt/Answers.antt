@@ -17,8 +17,8 @@ use Rattle.ft_index.proofs.LookLemmas.{rows_then}
 use Rattle.ft_index.proofs.RebuildPlans.{plan_right, plan_stale, plan_loose}
 use Rattle.ft_index.proofs.special.rebuilt.Goals as goal
 
-pub returns-in-Sound : goal.returns-in-Sound
-returns-in-Sound g c = record {
+pub returns-in-Sound-clause-looks : goal.returns-in-Sound-clause-looks
+returns-in-Sound-clause-looks g c = record {
   told = λ tables name is changes are up contents held.
       let v = value_in g.S.Store c.args.store.now in
       let known = shown_info c.args.table.now in
@@ -29,8 +29,8 @@ returns-in-Sound g c = record {
   live = search rules;
 }
 
-pub returns-in_ok-rewrites-in-Stale : goal.returns-in_ok-rewrites-in-Stale
-returns-in_ok-rewrites-in-Stale g c = record {
+pub returns-in_ok-rewrites-in-Stale-clause-looks : goal.returns-in_ok-rewrites-in-Stale-clause-looks
+returns-in_ok-rewrites-in-Stale-clause-looks g c = record {
   told = λ tables name is changes are up contents held.
       let v = value_in g.S.Store c.args.store.now in
       let known = shown_info c.args.table.now in
@@ -54,8 +54,8 @@ returns-in_ok-rewrites-in-Stale g c = record {
   live = search rules;
 }
 
-pub returns-in-Loose : goal.returns-in-Loose
-returns-in-Loose g c = record {
+pub returns-in-Loose-clause-looks : goal.returns-in-Loose-clause-looks
+returns-in-Loose-clause-looks g c = record {
   told = λ tables name is up contents held.
       let v = value_in g.S.Store c.args.store.now in
       let known = shown_info c.args.table.now in

@@ -30,7 +30,7 @@ returns-in_err-made g c = record {
       let old = with_tables c.args.store.now (map shown_info c.args.tables.now.items) in
       subst (λ (a : Result Reply Fault). Executes g.S.Store old (creation_of c.args.creation.now) (answer_of a) old) (sym is)
       (create_refused g.S.Store c.args.creation.now old fault
-      (λ contents told. subst (Makes contents c.args.creation.now) made (c.made_table.ensures contents (ap (map shown_info) c.as_slice.ensures.value ∙ told))));
+      (λ contents told. subst (Makes contents c.args.creation.now) made (c.made_table.ensures.makes contents (ap (map shown_info) c.as_slice.ensures.value ∙ told))));
   crash = search rules;
   live = search rules;
 }
@@ -55,7 +55,7 @@ returns-in_err-add_table g c = record {
       let made : c.made_table.result ≡ Ok c.in_ok-made.made = search rules in
       let makes : (contents : Contents) → tables ≡ map table_info contents → Makes contents c.args.creation.now (Ok (Some c.in-Some.made)) =
       λ contents told. subst (λ o. Makes contents c.args.creation.now (Ok o)) c.in-Some.is
-      (subst (Makes contents c.args.creation.now) made (c.made_table.ensures contents (ap (map shown_info) c.as_slice.ensures.value ∙ told))) in
+      (subst (Makes contents c.args.creation.now) made (c.made_table.ensures.makes contents (ap (map shown_info) c.as_slice.ensures.value ∙ told))) in
       crash_changed g.S.Store c.args.store.now c.add_table.new.store tables (map shown_info c.add_table.new.tables.items) command (table_change c.in-Some.made ∷ [])
       (λ up first holds. ((makes first holds.told).0, (made_is_held first c.args.creation.now c.in-Some.made (value_in g.S.Store c.args.store.now) tables (makes first holds.told) c.is_in_order.ensures.order holds).held, makes_table c.in-Some.made (value_in g.S.Store c.args.store.now)))
       c.add_table.ensures.makes.crash;
@@ -69,7 +69,7 @@ returns g c = record {
       let command = creation_of c.args.creation.now in
       let made : c.made_table.result ≡ Ok c.in_ok-made.made = search rules in
       let makes : (contents : Contents) → tables ≡ map table_info contents → Makes contents c.args.creation.now (Ok c.in_ok-made.made) =
-      λ contents told. subst (Makes contents c.args.creation.now) made (c.made_table.ensures contents (ap (map shown_info) c.as_slice.ensures.value ∙ told)) in
+      λ contents told. subst (Makes contents c.args.creation.now) made (c.made_table.ensures.makes contents (ap (map shown_info) c.as_slice.ensures.value ∙ told)) in
       elim c.match-made.branch [
         | in-Some+in_ok-add_table w ↦
             let added : w.add_table.result ≡ Ok tt = search rules in
@@ -94,7 +94,7 @@ returns g c = record {
         | in-Some+in_ok-add_table w ↦
             let makes : (contents : Contents) → tables ≡ map table_info contents → Makes contents c.args.creation.now (Ok (Some w.in-Some.made)) =
             λ contents told. subst (λ o. Makes contents c.args.creation.now (Ok o)) w.in-Some.is
-            (subst (Makes contents c.args.creation.now) made (c.made_table.ensures contents (ap (map shown_info) c.as_slice.ensures.value ∙ told))) in
+            (subst (Makes contents c.args.creation.now) made (c.made_table.ensures.makes contents (ap (map shown_info) c.as_slice.ensures.value ∙ told))) in
             subst (λ (s : StoreState g.row.S.Denot). CommandSurvives g.S.Store (with_tables c.args.store.now tables) command (with_tables s after)) (sym w.store-is)
             (crash_changed g.S.Store c.args.store.now w.add_table.new.store tables after command (table_change w.in-Some.made ∷ [])
             (λ up first holds. ((makes first holds.told).0, (made_is_held first c.args.creation.now w.in-Some.made (value_in g.S.Store c.args.store.now) tables (makes first holds.told) c.is_in_order.ensures.order holds).held, makes_table w.in-Some.made (value_in g.S.Store c.args.store.now)))

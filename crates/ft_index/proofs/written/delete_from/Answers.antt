@@ -67,4 +67,4 @@ returns-in-All g c =
 pub returns : goal.returns
 returns g c =
     let deletion = c.args.deletion.now in
-    c.write_found.ensures c.args.store.now (map shown_info c.args.tables.now) (deletion_of deletion) (writes_table (filter_of deletion.filter) (string_bytes deletion.table)) c.delete_written-written.ensures
+    c.write_found.ensures c.args.store.now (map shown_info c.args.tables.now) (deletion_of deletion) (writes_table (filter_of deletion.filter) (string_bytes deletion.table)) c.delete_written-written.ensures.looks
