@@ -1,5 +1,5 @@
 -- Why calls over a store are answered `Store`, one after another.
-use Rattle.std.proofs.Common.{◌≡◌, ◌≢◌, ◌⊎◌, inl, inr, ℕ, ℤ, Bool, true, false, ◌&&◌, cond, List, [], ◌∷◌, map, Less, Equal, Greater, Option, None, Some, drop, All, Result, Err, refl, sym, ap, subst, ◌∙◌, arith, IsTrue}
+use Rattle.std.proofs.Common.{◌≡◌, ◌≢◌, ◌⊎◌, inl, inr, ℕ, ℤ, Bool, true, false, ◌&&◌, cond, List, [], ◌∷◌, map, Less, Equal, Greater, Option, None, Some, drop, All, Result, Ok, Err, refl, sym, ap, subst, ◌∙◌, arith, IsTrue}
 use Rattle.std.specs.Prelude.{IsSome, is_some, filter}
 use Rattle.std.specs.List.{AllByRecursion}
 use Rattle.std.proofs.lemmas.List.Elements.{All-nil, All-cons, All-head, All-tail, All-map, All-filter, All-weaker, All-take, All-drop, All-from_recursion}
@@ -13,10 +13,12 @@ use Rattle.sqlite_keyed.proofs.ListLemmas.{map-map}
 use Rattle.ft_query.specs.declared.walk.Hit.{Hit}
 use Rattle.ft_query.specs.Occurs.{PlainHit, plain_hit}
 use Rattle.ft_query.specs.Lists.{Reaches, Stays, Goes, Ends}
-use Rattle.ft_rows.specs.Store.{StoreValue, AreInOrder, ListKey, list_key_cmp}
+use Rattle.ft_rows.specs.Store.{StoreValue, AreInOrder, Change, ListKey, list_key_cmp}
 use Rattle.ft_rows.specs.Shown.{AreWhole}
 use Rattle.ft_store.specs.Blame.{IsBlamed, Blames}
-use Rattle.ft_store.specs.Calls.{IsPlainFault, IsReadFault, fault_of_read}
+use Rattle.ft_store.specs.Parts.{CanMake}
+use Rattle.ft_store.specs.Puts.{BlamesPuts}
+use Rattle.ft_store.specs.Calls.{IsChangeFault, IsPlainFault, IsReadFault, fault_of_read}
 use Rattle.ft_store.specs.Kept.{StoreState, shows, value_in}
 use Rattle.ft_store.specs.Rows.{value_of}
 use Rattle.ft_store.specs.declared.fault.StoreFault.{StoreFault}
@@ -26,17 +28,18 @@ use Rattle.ft_values.specs.declared.fault.Fault.TheVariants as faults
 use Rattle.ft_values.specs.Cells.{Cell}
 use Rattle.ft_content.specs.Answer.{chosen, is_chosen, cut, query_in}
 use Rattle.ft_content.specs.Command.{Filter}
-use Rattle.ft_content.specs.Content.{Content, IsContent}
+use Rattle.ft_content.specs.Content.{Column, Content, IsContent}
 use Rattle.ft_content.proofs.AnswerLemmas.{cut_of_map}
 use Rattle.ft_documents.specs.Matched.{hit_read, chosen_hits, as_wanted}
 use Rattle.ft_documents.proofs.ChosenLemmas.{all_found}
-use Rattle.ft_index.specs.Refused.{AreThere}
+use Rattle.ft_index.specs.Refused.{AreThere, AreRewrites, BlamesMade}
 use Rattle.ft_content.specs.Index.{Key, Spot, StoredSpot, Entry, IndexRows, entries, spot_lists, spots_at, stored_spot, key_cmp, key_of, index_rows}
 use Rattle.ft_documents.specs.Rewrite.{HasContent}
 use Rattle.ft_documents.specs.Tables.{table_index}
 use Rattle.ft_index.specs.DocumentsRead.{HasRows, Looks}
 use Rattle.ft_content.specs.Deserved.{Contents}
-use Rattle.ft_content.specs.Views.{TableInfo}
+use Rattle.ft_content.specs.declared.command.Reply.{Reply}
+use Rattle.ft_content.specs.Views.{TableInfo, answer_of}
 use Rattle.ft_documents.specs.Found.{IsSoundNamed, info_named}
 use Rattle.ft_index.specs.Kept.{AreHeld, BlamesStore, held_columns}
 use Rattle.ft_index.proofs.InsertHolds.{sound_rows}
@@ -65,6 +68,26 @@ module _ {S : Type 0} (g : Ghosts S) (a b c : StoreState S) (one : Looks g a b) 
       let middle : HasCleanDisk (shows g b) = omega (arith, two.clean, clean) in
       let stays = live middle is_open in
       blamed_after g a b c one.survives two clean (blamed middle stays (ap (λ (d : Database). value_of d.trees) (one.kept middle stays).0)))
+
+  -- or for another cause
+  pub then_either : {W : Type 0} → HasCleanDisk (shows g c) → (HasCleanDisk (shows g b) → IsTrue (shows g b).is_open → (shows g b).now ≡ (shows g a).now → IsBlamed (shows g b) (shows g c) ⊎ W) → IsBlamed (shows g a) (shows g c) ⊎ W
+  then_either {W} clean either = go (shows g a).is_open refl
+    where
+      go : (o : Bool) → (shows g a).is_open ≡ o → IsBlamed (shows g a) (shows g c) ⊎ W
+      go false is = inl (inr (inl is))
+      go true is =
+          let middle : HasCleanDisk (shows g b) = omega (arith, two.clean, clean) in
+          let stays = live middle is in
+          elim (either middle stays (one.kept middle stays).0) [ inl blamed ↦ inl (blamed_after g a b c one.survives two clean blamed) | inr other ↦ inr other ]
+
+-- changes that are refused
+pub made_blamed : {S X Y : Type 0} (g : Ghosts S) (old new : StoreState S) (changes : List Change) (e : StoreFault) (read : Result X StoreFault) (result : Result Y Fault) → read ≡ Err e → IsChangeFault (All CanMake changes) e → result ≡ Err (fault_of_read e) → BlamesPuts (shows g old) (shows g new) read changes → BlamesMade g old new result changes
+made_blamed g old new changes e read result was (inl plain) is blames clean told = elim (blames clean (was ∙ ap Err (is_refused e result is plain told))) [ inl blamed ↦ inl blamed | inr cant ↦ inr (inl cant) ]
+made_blamed g old new changes e read result was (inr damaged) is blames clean told = inr (inr damaged.1)
+
+-- no document is written anew
+pub no_rewrites : (tab : ℤ) (columns : List Column) → AreRewrites tab []
+no_rewrites tab columns = record { content = record { columns = columns; documents = [] }; groups = []; are_of = record { rising = refl; befores = All-nil _; afters = All-nil _ }; are = refl }
 
 -- what a table has, as reads want it
 module _ {S : Type 0} (g : Ghosts S) (tab id : ℤ) (same : tab ≡ id) (old new : StoreState S) (name : List ℕ) (content : Content) (has : HasContent name content id (value_in g old)) (clean : HasCleanDisk (shows g new)) (is_open : IsTrue (shows g new).is_open) where
@@ -231,3 +254,8 @@ bare_docids hits docids are =
 -- the same of another number and another value that are the same
 pub has_at : {name : List ℕ} {content : Content} {tab id : ℤ} {old new : StoreValue} → old ≡ new → tab ≡ id → HasContent name content tab old → HasContent name content id new
 has_at {name} {content} {tab} {id} {old} {new} same at has = subst (λ k. HasContent name content k new) at (subst (λ v. HasContent name content tab v) same has)
+
+-- an answer of a command as the definitions see it
+pub store_answer : (r : Result Reply Fault) → answer_of r ≡ Err faults.Store → r ≡ Err faults.Store
+store_answer (Ok reply) is = absurd (let no = is in cc)
+store_answer (Err fault) is = ap Err (err_of (answer_of (Err fault)) fault refl is)

@@ -1,11 +1,10 @@
 //! Commands over a store: what each does, and the row changes that it asks for.
-ghost use Rattle.std.specs.Prelude.{◌≡◌, false, map};
+ghost use Rattle.std.specs.Prelude.{map};
 ghost use Rattle.ft_content.specs.Views.{shown_info, command_of, answer_of};
 ghost use Rattle.ft_index.specs.Changed.{with_tables, Does};
-ghost use Rattle.ft_index.specs.Kept.{puts_rows};
 ghost use Rattle.ft_index.specs.RowsRead.{CountsRows};
 ghost use Rattle.ft_index.specs.DocumentsRead.{Looks};
-ghost use Rattle.ft_index.specs.Refused.{BlamesOver};
+ghost use Rattle.ft_index.specs.Refused.{BlamesOver, BlamesDone};
 ghost use Rattle.ft_index.specs.Written.{PlansIn};
 
 use crate::select::{select_changes, select_from};
@@ -31,8 +30,8 @@ pub(crate) fn execute_command<S: Alter>(
     ensures counts { CountsRows S.Store (with_tables store.old (map shown_info tables.old.items))
         (command_of command.now) (answer_of result)
         (with_tables store.new (map shown_info tables.new.items)) }
-    ensures refused { puts_rows (command_of command.now) ≡ false
-        → BlamesOver S.Store (map shown_info tables.old.items) store.old store.new result }
+    ensures refused { BlamesDone S.Store (map shown_info tables.old.items) store.old
+        (command_of command.now) store.new result }
 {
     match command {
         Command::Create(creation) => create_table(alloc, store, tables, creation),

@@ -44,7 +44,7 @@ impl<S: Alter> Model for FullText<S> {
 }
 
 impl<S: Alter> FullText<S> {
-    ghost use Rattle.std.specs.Prelude.{◌≡◌, ◌⊎◌, ◌↔◌, false, [], ◌∷◌, map, string_bytes, is_ok, IsTrue, IfOk, IfErr};
+    ghost use Rattle.std.specs.Prelude.{◌≡◌, ◌⊎◌, ◌↔◌, [], ◌∷◌, map, string_bytes, is_ok, IsTrue, IfOk, IfErr};
     ghost use Rattle.ft_store.specs.Calls.{IsPlainFault};
     ghost use Rattle.ft_store.specs.Blame.{IsBlamed, AreTableTexts, AreNotedTexts};
     ghost use Rattle.ft_store.specs.Kept.{shows, value_in};
@@ -58,7 +58,8 @@ impl<S: Alter> FullText<S> {
     ghost use Rattle.ft_index.specs.RowsRead.{CountsRows};
     ghost use Rattle.ft_index.specs.DocumentsRead.{Looks};
     ghost use Rattle.ft_index.specs.Opened.{Opens, OpensWhatIsLeft};
-    ghost use Rattle.ft_index.specs.Kept.{IsUp, value_of, Holds, AreSound, OnlyLooks, BlamesStore, BlamesChanges, puts_rows, Executes, Plans, Notes};
+    ghost use Rattle.ft_index.specs.Kept.{IsUp, value_of, Holds, AreSound, OnlyLooks, BlamesStore, BlamesChanges, Executes, Plans, Notes};
+    ghost use Rattle.ft_index.specs.Refused.{BlamesCommand};
     ghost use Rattle.ft_index.specs.Called.{KeptByCalls, NoneGetsUnsound, NamesStayApart, HoldsOneContents};
 
     /// Takes a store, and marks each table whose rows aren't documents with exactly the index rows
@@ -111,8 +112,8 @@ impl<S: Alter> FullText<S> {
         // documents that it answers.
         ensures counts { CountsRows S.Store self.old (command_of command.now) (answer_of result)
             self.new }
-        ensures refused { puts_rows (command_of command.now) ≡ false
-            → BlamesStore (shows S.Store self.old.store) (shows S.Store self.new.store) result }
+        ensures refused { BlamesCommand S.Store self.old (command_of command.now)
+            (answer_of result) self.new }
     {
         if let Err(fault) = self.store.ping() {
             self.store.is_settled();

@@ -6,7 +6,7 @@ ghost use Rattle.ft_index.specs.DocumentsRead.{LooksTo};
 ghost use Rattle.ft_index.specs.Kept.{Executes, Answers, BlamesStore, table_info};
 ghost use Rattle.ft_store.specs.Kept.{shows};
 ghost use Rattle.ft_documents.specs.Found.{info_named};
-ghost use Rattle.ft_index.specs.Refused.{NeverStore};
+ghost use Rattle.ft_index.specs.Refused.{BlamesDone, NeverStore};
 ghost use Rattle.ft_index.specs.Written.{PlansIn, RebuildsIn};
 ghost use Rattle.ft_content.specs.Deserved.{Contents};
 ghost use Rattle.ft_content.specs.Command as plain;
@@ -52,8 +52,10 @@ pub(crate) fn rebuild_table<S: Alter>(
     tables: &mut Vec<TableInfo>,
     table: &str,
 ) -> Result<Reply, Fault>
-    ensures { Does S.Store (with_tables store.old (map shown_info tables.old.items))
+    ensures does { Does S.Store (with_tables store.old (map shown_info tables.old.items))
         (plain.Rebuild table.now) result (with_tables store.new (map shown_info tables.new.items)) }
+    ensures refused { BlamesDone S.Store (map shown_info tables.old.items) store.old
+        (plain.Rebuild table.now) store.new result }
 {
     store.is_in_order();
     let known = named_table(tables.as_slice(), table)?;

@@ -7,7 +7,7 @@ ghost use Rattle.ft_index.specs.Kept.{BlamesStore, BlamesChanges, table_info};
 ghost use Rattle.ft_index.specs.Planned.{PlansOver, Makes, table_change};
 ghost use Rattle.ft_index.specs.Changed.{with_tables, MakesRows, Does, LooksAsked, MakesAsked};
 ghost use Rattle.ft_documents.specs.Found.{with_info};
-ghost use Rattle.ft_index.specs.Refused.{NeverStore};
+ghost use Rattle.ft_index.specs.Refused.{BlamesDone, BlamesMade, NeverStore};
 ghost use Rattle.sqlite.specs.State.{HasCleanDisk};
 ghost use Rattle.ft_rows.specs.Shown.{shown_note};
 ghost use Rattle.ft_rows.specs.Store.{Note};
@@ -86,9 +86,11 @@ pub(crate) fn create_table<S: Alter>(
     tables: &mut Vec<TableInfo>,
     creation: &Creation,
 ) -> Result<Reply, Fault>
-    ensures { Does S.Store (with_tables store.old (map shown_info tables.old.items))
+    ensures does { Does S.Store (with_tables store.old (map shown_info tables.old.items))
         (creation_of creation.now) result (with_tables store.new
         (map shown_info tables.new.items)) }
+    ensures refused { BlamesDone S.Store (map shown_info tables.old.items) store.old
+        (creation_of creation.now) store.new result }
 {
     store.is_in_order();
     let made = made_table(alloc, tables.as_slice(), creation)?;
@@ -109,6 +111,7 @@ fn add_table<S: Alter>(
     ensures told { map shown_info tables.new.items
         ≡ (if is_ok result then with_info (shown_info made) (map shown_info tables.old.items) else
         map shown_info tables.old.items) }
+    ensures refused { BlamesMade S.Store store.old store.new result (table_change made ∷ []) }
 {
     let mut changes = Vec::new(alloc);
     changes.push(adding(alloc, &made)?)?;

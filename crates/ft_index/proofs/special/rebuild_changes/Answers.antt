@@ -47,7 +47,7 @@ returns-clause-looks g c = record {
       let old = c.args.store.now in
       let mid = c.rebuilt.new.store in
       let anew : c.rebuilt.result ≡ Ok c.in_ok-anew.anew = search rules in
-      subst (RebuildsIn g.S.Store tables old mid command) anew (c.rebuilt.ensures.looks.told tables c.args.table.now c.in_ok-known.ensures)
+      (subst (RebuildsIn g.S.Store tables old mid command) anew (c.rebuilt.ensures.looks.told tables c.args.table.now c.in_ok-known.ensures)).0
       (map shown_change c.in_ok-anew_changes.field-0.items) c.in_ok-anew_changes.ensures;
   only = search rules;
   live = search rules;

@@ -13,7 +13,7 @@ use Rattle.ft_documents.proofs.BareLemmas.{reads_bare}
 use Rattle.ft_index.specs.declared.written.Written.{Written}
 use Rattle.ft_index.specs.Written.{Writes, WritesIn, LeadsTo}
 use Rattle.ft_index.proofs.DeleteWrites.{due, made, gone, is_write, leads, tested_due, text_due, none_due}
-use Rattle.ft_index.proofs.Planning.{plans_unfit, plans_failed, plans_do}
+use Rattle.ft_index.proofs.Planning.{plans_unfit, plans_failed, writes_do}
 use Rattle.ft_index.proofs.WholeReads.{rows_of, index_of}
 use Rattle.std.proofs.Common.{refl}
 use Rattle.ft_store.specs.Kept.{value_in}
@@ -108,13 +108,13 @@ returns-in_err-rewrites-clause-looks g c = record {
 
 pub returns-clause-looks : goal.returns-clause-looks
 returns-clause-looks g c = record {
-  told = λ changes of_written.
+  told =
       let deletion = c.args.deletion.now in
       let f = filter_of deletion.filter in
       let name = string_bytes deletion.table in
       let info : RustTableInfo = c.in_ok-table.table.now in
       let named : IsSoundNamed (map shown_info c.args.tables.now) name (shown_info info) = subst (λ n. IsSoundNamed (map shown_info c.args.tables.now) n (shown_info info)) c.as_str.ensures.value c.in_ok-table.ensures in
-      plans_do g.S.Store (deletion_of deletion) name (due f) (made f) (gone f) (is_write f name) c.args.store.now c.chosen_documents.new.store (map shown_info c.args.tables.now) (shown_info info) c.is_in_order.ensures.order named c.in_ok-rewrites.rewrites changes (λ content has.
+      writes_do g.S.Store (deletion_of deletion) name (due f) (made f) (gone f) (is_write f name) c.args.store.now c.chosen_documents.new.store (map shown_info c.args.tables.now) (record { table = c.in_ok-table.table; rewrites = c.in_ok-rewrites.rewrites }) c.is_in_order.ensures.order named (λ content has.
       let cols = c.as_slice-columns.result.now in
       let columns_are : content.columns ≡ map column_of cols = has.columns_are ∙ ap (map column_of) (sym c.as_slice-columns.ensures.value) in
       let tested : delete_tests c.as_str-2.result.now (bare_content cols) f ≡ None = search rules in
@@ -129,7 +129,7 @@ returns-clause-looks g c = record {
       let found = c.in_ok-documents.ensures.looks.told content rows index here in (
         subst (λ n. due f n content ≡ None) c.as_str-2.ensures.value (none_due f content cols columns_are c.as_str-2.result.now tested fine),
         subst (LeadsTo content (made f content) (gone f content)) (sym (c.in_ok-rewrites.ensures ∙ ap (map removal) found)) (leads f (string_bytes info.name) content has.has.is_content),
-      )) of_written.0 of_written.1;
+      ));
   only = search rules;
   live = search rules;
 }

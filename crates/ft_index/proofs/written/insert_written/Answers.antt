@@ -29,7 +29,7 @@ use Rattle.ft_index.specs.declared.written.Written.{Written}
 use Rattle.ft_index.specs.Written.{HasAll, Writes, PlansTo, WritesIn}
 use Rattle.ft_index.proofs.InsertWrites.{due, made, news, is_write, tested_writes, tests_are, rows_are, writes}
 use Rattle.ft_index.proofs.Pinging.{outside_of}
-use Rattle.ft_index.proofs.Planning.{plans_unfit, plans_failed, plans_do}
+use Rattle.ft_index.proofs.Planning.{plans_unfit, plans_failed, writes_do}
 use Rattle.ft_index.proofs.Blaming.{err_of, over_sound}
 use Rattle.ft_index.proofs.NoStore.{rows_other}
 use Rattle.ft_index.proofs.written.insert_written.Goals as goal
@@ -181,7 +181,7 @@ returns-in_err-rewrites-clause-looks g c = record {
 
 pub returns-clause-looks : goal.returns-clause-looks
 returns-clause-looks g c = record {
-  told = λ changes of_written.
+  told =
       let w = c.args.insertion.now in
       let columns = option_map (λ n. map string_bytes n.now) c.as_deref-listed.result in
       let rows = map cells_of c.as_slice-rows.result.now in
@@ -192,8 +192,9 @@ returns-clause-looks g c = record {
       let apart = twice_is c.as_deref-listed.result _ refl ∙ sym (c.repeats_name.ensures ∙ ap (λ (r : Bor (List (String Global))). repeats_name (map string_bytes r.now)) c.unwrap_or.ensures) ∙ c.if-repeats_name.false in
       let command = plain.Insert name columns rows in
       let rewrites = c.in_ok-rewrites.rewrites in
-      subst (λ (x : Command). PlansTo g.S.Store tables c.args.store.now c.stored_docids.new.store x (Ok changes)) (λ i. plain.Insert name (listed_are c.as_deref-listed.result w.columns c.as_deref-listed.ensures.value i) (map cells_of (c.as_slice-rows.ensures.value i)))
-      (plans_do g.S.Store command name (λ table content. due columns rows content) (made columns rows) (news columns rows) (is_write columns rows name apart) c.args.store.now c.stored_docids.new.store tables (shown_info info) c.is_in_order.ensures.order named rewrites changes (λ content has.
+      let written : Written = record { table = c.in_ok-table.table; rewrites = rewrites } in
+      subst (λ (x : Command). WritesIn g.S.Store tables c.args.store.now c.stored_docids.new.store x (Ok written)) (λ i. plain.Insert name (listed_are c.as_deref-listed.result w.columns c.as_deref-listed.ensures.value i) (map cells_of (c.as_slice-rows.ensures.value i)))
+      (writes_do g.S.Store command name (λ table content. due columns rows content) (made columns rows) (news columns rows) (is_write columns rows name apart) c.args.store.now c.stored_docids.new.store tables written c.is_in_order.ensures.order named (λ content has.
       let names = map (λ n. n.now) c.as_slice-names.result.now in
       let cols = c.as_slice-columns.result.now in
       let columns_are : content.columns ≡ map column_of cols = has.columns_are ∙ ap (map column_of) (sym c.as_slice-columns.ensures.value) in
@@ -203,7 +204,7 @@ returns-clause-looks g c = record {
       let known = known_in g (goal.at.returns-clause-looks g c).After-made_documents content has in
       let new = c.in_ok-new.ensures content.documents has.has.is_content.rising known.0 known.1 in
       let made_of = new_are_inserts content.documents c.in_ok-new.new (map shown_rewrite rewrites.items) (insert_rows (map column_of cols) values content.documents) c.in_ok-rewrites.ensures new.0 new.1 in
-      writes columns rows (string_bytes info.name) content (Ok rewrites) has.has.is_content tested (rows_are columns rows content cols names (Ok rewrites) columns_are those made_of)) of_written.0 of_written.1);
+      writes columns rows (string_bytes info.name) content (Ok rewrites) has.has.is_content tested (rows_are columns rows content cols names (Ok rewrites) columns_are those made_of)));
   only = search rules;
   live = search rules;
 }

@@ -31,7 +31,7 @@ use Rattle.ft_documents.proofs.InsertRows.{given_is}
 use Rattle.ft_index.specs.declared.written.Written.{Written}
 use Rattle.ft_index.specs.Written.{HasAll, Writes, PlansTo, WritesIn}
 use Rattle.ft_index.proofs.LookLemmas.{looks_then, rows_first, rows_then, index_first}
-use Rattle.ft_index.proofs.Planning.{plans_unfit, plans_failed, plans_do}
+use Rattle.ft_index.proofs.Planning.{plans_unfit, plans_failed, writes_do}
 use Rattle.ft_index.proofs.WholeReads.{rows_of, index_of}
 use Rattle.ft_index.proofs.UpdateDue.{due, made, touches, is_write, repeats_due, tested_due, text_due, moves_due}
 use Rattle.ft_index.proofs.UpdateWrites.{docids_shown, leads}
@@ -187,7 +187,7 @@ returns-in_err-rewrites-clause-looks g c = record {
 
 pub returns-clause-looks : goal.returns-clause-looks
 returns-clause-looks g c = record {
-  told = λ changes of_written.
+  told =
       let modification = c.args.modification.now in
       let sets = map set_of c.as_slice-sets.result.now in
       let f = filter_of modification.filter in
@@ -197,8 +197,9 @@ returns-clause-looks g c = record {
       let named : IsSoundNamed tables name (shown_info info) = subst (λ n. IsSoundNamed tables n (shown_info info)) c.as_str.ensures.value c.in_ok-table.ensures in
       let apart = sym c.repeats_set.ensures ∙ c.if-repeats_set.false in
       let command = plain.Update name sets f in
-      subst (λ (x : Command). PlansTo g.S.Store tables c.args.store.now c.has_document.new.store x (Ok changes)) (λ i. plain.Update name (map set_of (c.as_slice-sets.ensures.value i)) f)
-      (plans_do g.S.Store command name (due sets f) (made sets f) (touches sets f) (is_write sets f name apart) c.args.store.now c.has_document.new.store tables (shown_info info) c.is_in_order.ensures.order named c.in_ok-rewrites.rewrites changes (λ content has.
+      let written : Written = record { table = c.in_ok-table.table; rewrites = c.in_ok-rewrites.rewrites } in
+      subst (λ (x : Command). WritesIn g.S.Store tables c.args.store.now c.has_document.new.store x (Ok written)) (λ i. plain.Update name (map set_of (c.as_slice-sets.ensures.value i)) f)
+      (writes_do g.S.Store command name (due sets f) (made sets f) (touches sets f) (is_write sets f name apart) c.args.store.now c.has_document.new.store tables written c.is_in_order.ensures.order named (λ content has.
       let cols = c.as_slice-columns.result.now in
       let columns_are : content.columns ≡ map column_of cols = has.columns_are ∙ ap (map column_of) (sym c.as_slice-columns.ensures.value) in
       let table = c.as_str-2.result.now in
@@ -236,7 +237,7 @@ returns-clause-looks g c = record {
       (subst (λ (cs : List Column). MayMove c.set_docid-given.result (map (changing sets cs) (map shown_document documents)) rewrites) (sym columns_are) c.in_ok-rewrites.ensures)) in (
         none,
         leads sets f (string_bytes info.name) content (docids_in sets) (chosen content f) rewrites (λ i. chosen content f) has.has.is_content stays (update_keeps_content (string_bytes info.name) content sets f has.has.is_content none) moves,
-      )) of_written.0 of_written.1);
+      )));
   only = looks_then g.S.Store c.args.store.now c.chosen_documents.new.store c.has_document.new.store c.in_ok-documents.ensures.looks.only c.has_document.ensures.looks c.in_ok-documents.ensures.looks.live;
   live = search rules;
 }

@@ -1,5 +1,5 @@
 -- the store is asked, and then the command is executed
-use Rattle.std.proofs.Common.{◌≡◌, Err, Result, map, rules, sym, subst}
+use Rattle.std.proofs.Common.{◌≡◌, inl, inr, Err, Result, map, rules, sym, subst}
 use Rattle.std.specs.Prelude.{is_ok}
 use Rattle.ft_store.specs.Calls.{fault_of_read}
 use Rattle.ft_values.specs.declared.fault.Fault.{Fault}
@@ -9,10 +9,12 @@ use Rattle.ft_index.specs.Kept.{FullText, Executes}
 use Rattle.ft_index.specs.Crashes.{LeavesCommand}
 use Rattle.ft_index.specs.Changed.{with_tables}
 use Rattle.ft_index.specs.RowsRead.{CountsRows}
-use Rattle.ft_rows.specs.Store.{StoreValue}
 use Rattle.ft_index.specs.Kept.{AreHeld}
 use Rattle.ft_index.proofs.Acting.{looks_up}
-use Rattle.ft_index.proofs.Blaming.{store_blamed, then_blamed}
+use Rattle.sqlite.specs.Effect.{Database}
+use Rattle.ft_store.specs.Rows.{value_of as rows_of}
+use Rattle.ft_index.specs.Refused.{CantDo}
+use Rattle.ft_index.proofs.Blaming.{store_answer, store_blamed, then_either}
 use Rattle.ft_index.proofs.Pinging.{pinged, counts_nothing, counts_then, does_nothing, does_then, outside_of, ok_then}
 use Rattle.ft_store.specs.Kept.{shows}
 use Rattle.ft_index.proofs.full_text.FullText.execute.Goals as goal
@@ -36,7 +38,7 @@ returns-in-Err g c =
       });
       counts = subst (λ (k : FullText g.row.S.Denot). CountsRows g.S.Store k command (answer_of answer) new) c.self.view_is
           (counts_nothing g.S.Store old mid _ c.ping.ensures tables command answer (fault_of_read c.in-Err.fault) is);
-      refused = rw (sym c.self.view_is) (λ only. store_blamed (shows g.S.Store old) (shows g.S.Store mid) c.in-Err.fault c.ping.result answer (search rules) (search rules) is c.ping.ensures.refused);
+      refused = rw (sym c.self.view_is) (λ clean told. inl (store_blamed (shows g.S.Store old) (shows g.S.Store mid) c.in-Err.fault c.ping.result answer (search rules) (search rules) is c.ping.ensures.refused clean (store_answer answer told)));
     }
 
 pub returns : goal.returns
@@ -58,7 +60,10 @@ returns g c =
       });
       counts = subst (λ (k : FullText g.row.S.Denot). CountsRows g.S.Store k command (answer_of done.result) new) c.self.view_is
           (counts_then g.S.Store old mid _ c.ping.ensures c.in_default.ensures.live tables new command done.result done.ensures.does done.ensures.counts);
-      refused = rw (sym c.self.view_is) (λ only clean told. then_blamed g.S.Store old mid done.new.store looks (λ middle _. c.in_default.ensures.live middle) done.ensures.does.crash clean (λ middle is_open same.
+      refused = rw (sym c.self.view_is) (λ clean told. then_either g.S.Store old mid done.new.store looks (λ middle _. c.in_default.ensures.live middle) done.ensures.does.crash clean (λ middle is_open same.
           let held = c.self.invariant (looks_up g.S.Store old mid tables tables looks (record { clean = middle; is_open = is_open })) in
-          done.ensures.refused only held.0 (subst (λ (v : StoreValue). AreHeld v tables held.0) (sym same) held.1) clean told));
+          elim (done.ensures.refused held.0 (subst (λ (d : Database). AreHeld (rows_of d.trees) tables held.0) (sym same) held.1) clean (store_answer done.result told)) [
+            | inl blamed ↦ inl blamed
+            | inr cant ↦ inr (held.0, held.1, subst (λ (d : Database). CantDo held.0 command (rows_of d.trees) d.trees) same cant)
+          ]));
     }
