@@ -23,12 +23,11 @@ use Rattle.ft_documents.proofs.AddLemmas.{bare, added_rows, added_index}
 use Rattle.ft_documents.proofs.KeyedRows.{true_of, of_true, same_int, turned_round, sorted_put}
 use Rattle.ft_documents.proofs.StoreKeys.{column_total, column_exact}
 use Rattle.ft_index.specs.declared.written.Written.{Written}
-use Rattle.ft_index.specs.Kept.{AreHeld, KeepsOthers, StoreHolds, Stands, held_columns, table_info}
+use Rattle.ft_index.specs.Kept.{Reaches, AreHeld, KeepsOthers, StoreHolds, Stands, held_columns, table_info}
 use Rattle.ft_index.specs.Opened.{IsNamed}
 use Rattle.ft_index.specs.Written.{MakeTable}
 use Rattle.ft_index.proofs.CheckLemmas.{IsTold, told_here}
 use Rattle.ft_index.proofs.DeleteWrites.{due, made, leaves, is_write}
-use Rattle.ft_index.proofs.Executing.{Reaches}
 use Rattle.ft_index.proofs.KnownLemmas.{sound_held, sound_is}
 use Rattle.ft_index.proofs.Lifting.{LeavesRest, leaves_rest}
 use Rattle.ft_index.proofs.OneTable.{AreHeldIn, changes_one}

@@ -14,11 +14,10 @@ use Rattle.ft_content.specs.Views.{TableInfo}
 use Rattle.ft_content.specs.Deserved.{Contents, deserved}
 use Rattle.ft_content.specs.Step.{after, step, step_by}
 use Rattle.ft_index.specs.DocumentsRead.{Looks}
-use Rattle.ft_index.specs.Kept.{IsUp, AreHeld, StoreHolds}
+use Rattle.ft_index.specs.Kept.{Reaches, IsUp, AreHeld, StoreHolds}
 use Rattle.ft_index.specs.Changed.{with_tables}
 use Rattle.ft_index.specs.Crashes.{CommandSurvives}
 use Rattle.ft_index.proofs.Acting.{looks_same}
-use Rattle.ft_index.proofs.Executing.{Reaches}
 use Rattle.ft_index.proofs.ReadsLemmas.{nothing_done}
 
 -- what may be committed may be said otherwise

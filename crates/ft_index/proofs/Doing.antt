@@ -1,5 +1,5 @@
 -- What commands do that read, and then change rows.
-use Rattle.std.proofs.Common.{◌≡◌, inl, true, List, map, None, Ok, Err, Result, Vec, Global, sym, ap, subst, arith}
+use Rattle.std.proofs.Common.{◌≡◌, inl, inr, true, List, map, None, Ok, Err, Result, Vec, Global, sym, ap, subst, arith}
 use Rattle.std.specs.Prelude.{IsTrue}
 use Rattle.sqlite_trees.specs.View.{doubt}
 use Rattle.sqlite.specs.State.{HasCleanDisk}
@@ -18,11 +18,16 @@ use Rattle.ft_content.specs.Views.{TableInfo}
 use Rattle.ft_index.specs.Changed.{Does, MakesRows, with_tables}
 use Rattle.ft_index.specs.DocumentsRead.{Looks}
 use Rattle.ft_index.specs.declared.written.Written.{Written}
-use Rattle.ft_index.specs.Kept.{IsUp, AreHeld, is_outside, table_info}
+use Rattle.ft_index.specs.Kept.{Reaches, IsUp, AreHeld, is_outside, table_info}
 use Rattle.ft_index.specs.Written.{PlansIn, PlansTo, PlansWritten, WritesIn}
+use Rattle.sqlite.specs.Effect.{Database}
+use Rattle.ft_values.specs.declared.fault.Fault.TheVariants as faults
+use Rattle.ft_index.specs.Kept.{puts_rows}
+use Rattle.ft_index.specs.Refused.{AreOwn, BlamesDone, BlamesMade, CantMake}
+use Rattle.ft_index.proofs.Blaming.{then_either}
 use Rattle.ft_index.proofs.Acting.{executes_failed, executes_undone, then_changed}
 use Rattle.ft_index.proofs.Crashing.{crash_read, crash_reached}
-use Rattle.ft_index.proofs.Executing.{Reaches, executes_planned}
+use Rattle.ft_index.proofs.Executing.{executes_planned}
 
 module _ {S : Type 0} (g : Ghosts S) (old mid : StoreState S) (tables : List TableInfo) (command : Command) (looks : Looks g old mid) where
   -- reads that show its fault
@@ -58,9 +63,19 @@ module _ {S : Type 0} (g : Ghosts S) (old mid : StoreState S) (tables : List Tab
               made.live clean (live (omega (arith, c, made.crash.clean)) is_open);
         }
 
+    -- why they are refused
+    pub done_blamed : {X : Type 0} (answer : Result X Fault) → IsTrue (puts_rows command) → (IsUp g (with_tables mid tables) → (first : Contents) → AreHeld (value_in g old) tables first → AreOwn changes) → (answer ≡ Err faults.Store → result ≡ Err faults.Store) → BlamesMade g mid new result changes →
+        BlamesDone g tables old command new answer
+    done_blamed answer puts own by refused contents held clean told = then_either g old mid new looks live makes.crash clean (λ middle is_open same.
+        let up : IsUp g (with_tables mid tables) = record { clean = middle; is_open = is_open } in
+        elim (refused clean (by told)) [
+          | inl blamed ↦ inl blamed
+          | inr cant ↦ inr (record { puts = puts; changes = changes; own = own up contents held; reaches = reaches up contents held; cant = subst (λ (d : Database). CantMake d.trees changes) same cant })
+        ])
+
 -- the row changes of what was found are a plan
 pub plans_written : {S : Type 0} (g : Ghosts S) (tables : List TableInfo) (old new : StoreState S) (command : Command) (found : Result Written Fault) (answer : Result (Vec RowChange Global) Fault) →
     WritesIn g tables old new command found → PlansWritten found answer → PlansIn g tables old new command answer
-plans_written g tables old new command (Ok written) (Ok changes) writes planned = writes (map shown_change changes.items) planned
+plans_written g tables old new command (Ok written) (Ok changes) writes planned = writes.0 (map shown_change changes.items) planned
 plans_written g tables old new command (Ok written) (Err fault) writes planned = λ up contents held. inl (ap (λ f. is_outside (Err f)) planned)
 plans_written g tables old new command (Err fault) answer writes planned = subst (PlansIn g tables old new command) (sym planned) writes

@@ -2,7 +2,7 @@
 use Rattle.std.proofs.Common.{◌≡◌, ◌⊎◌, inl, inr, true, false, List, [], ◌∷◌, map, Option, Some, None, Result, Ok, Err, refl, sym, ap, subst, ◌∙◌}
 use Rattle.std.specs.Prelude.{IsTrue}
 use Rattle.sqlite.specs.Store.{Ghosts}
-use Rattle.ft_rows.specs.Store.{StoreValue, AreInOrder, Change, all_applied}
+use Rattle.ft_rows.specs.Store.{StoreValue, AreInOrder, Change}
 use Rattle.ft_store.specs.Kept.{StoreState, value_in}
 use Rattle.ft_values.specs.declared.fault.Fault.{Fault}
 use Rattle.ft_values.specs.declared.fault.Fault.TheVariants as faults
@@ -15,7 +15,7 @@ use Rattle.ft_content.specs.Step.{after, reply_to, step, step_by}
 use Rattle.ft_documents.specs.Found.{with_info}
 use Rattle.ft_index.specs.Planned.{Makes, table_change}
 use Rattle.ft_index.specs.Changed.{Changed, with_tables}
-use Rattle.ft_index.specs.Kept.{FullText, IsUp, KeepsOthers, PlansFrom, AreHeld, StoreHolds, Holds, Executes, Answers, is_outside, table_info, value_of}
+use Rattle.ft_index.specs.Kept.{Reaches, FullText, IsUp, KeepsOthers, PlansFrom, AreHeld, Holds, Executes, Answers, is_outside, table_info, value_of}
 use Rattle.ft_index.proofs.NameLemmas.{apart_after}
 use Rattle.ft_index.proofs.OtherRows.{keeps_same, makes_table}
 use Rattle.ft_index.proofs.CreateLemmas.{made_is_held, create_answers, refused_answers, nothing_made}
@@ -82,10 +82,6 @@ executes_refused g old new tables changes command fault outside changed = record
 pub done_answers : (contents : Contents) (command : Command) → deserved contents command ≡ None → reply_to contents command ≡ Done → step contents command ≡ (Ok Done, after contents command)
 unfolding step
 done_answers contents command fine done = ap (λ due. step_by due contents command) fine ∙ ap (λ r. (Ok r, after contents command)) done
-
--- Row changes that lead to what a command leaves, which deserves no fault.
-abbrev pub Reaches : Contents → Command → StoreValue → List Change → Type 0
-Reaches contents command store changes = (deserved contents command ≡ None) × StoreHolds (all_applied changes store) (after contents command) × KeepsOthers store (all_applied changes store)
 
 pub reached : (contents : Contents) (command : Command) (store : StoreValue) (changes : List Change) → PlansFrom contents command store (Ok changes) → Reaches contents command store changes
 reached contents command store changes plans = (plans.0, plans.1, plans.2)

@@ -1,10 +1,11 @@
 -- Documents that are written group by group.
-use Rattle.std.proofs.Common.{◌≡◌, inr, Ok, Err, Result, List, [], ◌∷◌, ◌++◌, map, Option, Some, None, ℤ, refl, sym, ap, subst, ◌∙◌, append-nil}
+use Rattle.std.proofs.Common.{◌≡◌, inr, Ok, Err, Result, List, [], ◌∷◌, ◌++◌, map, Option, Some, None, ℤ, pos, refl, sym, ap, subst, ◌∙◌, append-nil}
 use Rattle.std.specs.Prelude.{All, Vec}
 use Rattle.std.specs.declared.alloc.Global.{Global}
 use Rattle.std.specs.List.{flat_map}
 use Rattle.std.specs.Vec.{vec_items}
 use Rattle.std.proofs.lemmas.List.{map-append}
+use Rattle.std.proofs.lemmas.List.Elements.{All-nil}
 use Rattle.sqlite.specs.Store.{Ghosts}
 use Rattle.ft_rows.specs.Store.{Change}
 use Rattle.ft_store.specs.Kept.{StoreState, shows}
@@ -15,13 +16,15 @@ use Rattle.ft_values.specs.declared.fault.Fault.TheVariants as faults
 use Rattle.ft_content.specs.Content.{Column}
 use Rattle.ft_content.specs.Views.{column_of}
 use Rattle.ft_documents.specs.declared.rewrite.Rewrite as source
-use Rattle.ft_documents.specs.Rewrite.{Rewrite, AreRight, shown_rewrite, docids_of}
+use Rattle.ft_documents.specs.Rewrite.{Rewrite, AreOf, AreRight, shown_rewrite, docids_of}
 use Rattle.ft_documents.specs.RewriteRows.{rewrite_changes}
 use Rattle.ft_documents.specs.Tables.{IsOfDocids}
 use Rattle.ft_documents.proofs.GroupsRight.{groups_right, groups_near}
 use Rattle.ft_index.specs.declared.written.Written.{Written}
 use Rattle.ft_index.specs.Planned.{table_change}
-use Rattle.ft_index.specs.Written.{first_parts, AreOfWritten, MakesWritten, MakesAnew}
+use Rattle.ft_index.specs.Refused.{AreRewrites, alone, behind}
+use Rattle.ft_index.specs.Written.{first_parts, AreOfWritten, IsOfContent, MakesWritten, MakesAnew}
+use Rattle.ft_index.proofs.Blaming.{no_rewrites}
 use Rattle.ft_index.proofs.ReadsLemmas.{nothing_done}
 use Rattle.ft_index.proofs.Crashing.{survives_as}
 
@@ -62,11 +65,22 @@ module _ (written : Written) where
       subst (λ rewrites. P rewrites (changes_in (parts_of tab columns groups))) all
       (subst (P (flat_map (λ group. group) (shown groups))) (parts_are tab columns groups) (groups_right tab columns (shown groups), groups_near tab columns (shown groups)))
 
+  -- and each of them once, where the documents are of a content
+  pub own_groups : (groups : Groups) → flat_map vec_items groups ≡ written.rewrites.items → IsOfContent written → AreRewrites tab (changes_in (parts_of tab columns groups))
+  own_groups groups is of_content = record {
+    content = of_content.content;
+    groups = shown groups;
+    are_of = subst (AreOf of_content.content) (sym (joined groups ∙ ap (map shown_rewrite) is)) of_content.are_of;
+    are = sym (parts_are tab columns groups) ∙ ap (λ cs. flat_map (rewrite_changes tab cs) (shown groups)) (sym of_content.columns_are);
+  }
+
   -- where nothing is made, for want of memory
   pub makes_nothing : {S : Type 0} (g : Ghosts S) (first : List Change) (store : StoreState S) → MakesWritten {X = Unit {0}} g first written store store (Err faults.Memory)
   makes_nothing g first store = record {
     changes = changes_in (parts_of tab columns (written.rewrites ∷ []));
     of_written = of_groups (written.rewrites ∷ []) (append-nil written.rewrites.items);
+    own = own_groups (written.rewrites ∷ []) (append-nil written.rewrites.items);
+    refused = λ clean told. absurd (let no = told in cc);
     makes = record {
       changed = record { was_up = λ tables others up. record { clean = up.clean; is_open = up.is_open }; value = λ tables up. refl };
       crash = survives_as (shows g store) (shows g store) _ _ (λ clean db none is_open. absurd (none is_open)) (nothing_done (shows g store));
@@ -78,13 +92,15 @@ module _ (written : Written) where
 
   -- a table that is made first is made anew
   pub makes_anew : {S : Type 0} (g : Ghosts S) (old new : StoreState S) (result : Result (Unit {0}) Fault) → MakesWritten g (table_change written.table.now ∷ []) written old new result → MakesAnew g (Some written) old new result
-  makes_anew g old new result made = record { changes = table_change written.table.now ∷ made.changes; of_anew = record { rest = made.changes; are = refl; of_written = made.of_written }; makes = made.makes }
+  makes_anew g old new result made = record { changes = table_change written.table.now ∷ made.changes; of_anew = record { rest = made.changes; are = refl; of_written = made.of_written }; own = λ some. behind _ _ _ _ made.changes (made.own some); makes = made.makes; refused = made.refused }
 
 -- where nothing is to be made
 pub made_already : {S : Type 0} (g : Ghosts S) (store : StoreState S) → MakesAnew {X = Unit {0}} g None store store (Ok tt)
 made_already g store = record {
   changes = [];
   of_anew = refl;
+  own = λ _. alone (pos 0) [] (no_rewrites (pos 0) []);
+  refused = λ clean told. absurd (let no = told in cc);
   makes = record {
     changed = record { was_up = λ tables others up. record { clean = up.clean; is_open = up.is_open }; value = λ tables up. refl };
     crash = survives_as (shows g store) (shows g store) _ _ (λ clean db none is_open. absurd (none is_open)) (nothing_done (shows g store));
@@ -92,4 +108,12 @@ made_already g store = record {
     cause = tt;
     unread = refl;
   };
+}
+
+-- no documents are of any content
+pub none_written : (columns : List Column) (written : Written) → map column_of written.table.now.columns.items ≡ columns → map shown_rewrite written.rewrites.items ≡ [] → IsOfContent written
+none_written columns written same none = record {
+  content = record { columns = columns; documents = [] };
+  columns_are = sym same;
+  are_of = subst (AreOf (record { columns = columns; documents = [] })) (sym none) (record { rising = refl; befores = All-nil _; afters = All-nil _ });
 }

@@ -24,6 +24,8 @@ pub mod Acting
 pub mod InsertWrites
 pub mod Planning
 pub mod Pinging
+pub mod Blaming
+pub mod NoStore
 pub mod LookLemmas
 pub mod ChosenWrites
 pub mod DeleteWrites

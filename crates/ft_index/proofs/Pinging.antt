@@ -1,5 +1,5 @@
 -- Calls that ask first whether the store is open.
-use Rattle.std.proofs.Common.{◌≡◌, ◌⊎◌, ℕ, true, List, [], ◌∷◌, map, Option, Some, None, Result, Ok, Err, ℤ, refl, sym, ap, subst, ◌∙◌, inl, inr, arith}
+use Rattle.std.proofs.Common.{◌≡◌, ◌⊎◌, ℕ, Bool, true, false, List, [], ◌∷◌, map, Option, Some, None, Result, Ok, Err, ℤ, refl, sym, ap, subst, ◌∙◌, inl, inr, arith}
 use Rattle.std.specs.Prelude.{IsTrue, OnOk, is_ok}
 use Rattle.sqlite_trees.specs.View.{doubt}
 use Rattle.sqlite.specs.State.{State, HasCleanDisk, Survives}
@@ -18,7 +18,7 @@ use Rattle.ft_store.specs.Kept.{StoreState, Pings, ReadsRows, shows, value_in}
 use Rattle.ft_store.proofs.ChainLemmas.{kept_then}
 use Rattle.ft_store.specs.declared.fault.StoreFault.{StoreFault}
 use Rattle.ft_store.specs.declared.fault.StoreFault.TheVariants as causes
-use Rattle.ft_rows.specs.Store.{StoreValue, Change, Note, all_applied}
+use Rattle.ft_rows.specs.Store.{StoreValue, Change, AddTable, PutEntries, Note, all_applied}
 use Rattle.ft_values.specs.declared.fault.Fault.{Fault}
 use Rattle.ft_values.specs.declared.fault.Fault.TheVariants as faults
 use Rattle.ft_content.specs.declared.command.Reply.{Reply as RustReply}
@@ -92,7 +92,7 @@ unasked {S} {X} g old changes result f is outside = subst (λ (r : Result X Faul
 })
 
 module _ {S : Type 0} (g : Ghosts S) (old mid : StoreState S) (result : Result (Unit {0}) StoreFault) (it : Pings g old mid result) where
-  pinged : Looks g old mid
+  pub pinged : Looks g old mid
   pinged = record { kept = it.kept; survives = survives_as (shows g old) (shows g mid) _ _ (λ clean db none is_open. none) it.survives }
 
   nothing_left : (P : Trees → Type 0) → Survives (shows g old) (shows g mid) P
@@ -231,14 +231,25 @@ pub plain_if : (changes : List RowChange) (fault : StoreFault) → AllOf CanAppl
 plain_if changes fault can (inl plain) = plain
 plain_if changes fault can (inr damaged) = absurd (damaged.1 can)
 
-one_note : (name : List ℕ) (change : RowChange) → shown_change change ≡ Note name → CanApply change
-one_note name (row.PutEntries tab term docid spots) is = absurd cc
-one_note name _ is = tt
+abbrev pub puts_list : Change → Bool
+puts_list (PutEntries tab term docid spots) = true
+puts_list _ = false
+
+one_other : (other : Change) → puts_list other ≡ false → (change : RowChange) → shown_change change ≡ other → CanApply change
+one_other other none (row.PutEntries tab term docid spots) is = absurd (let no : true ≡ false = ap puts_list is ∙ none in cc)
+one_other other none _ is = tt
+
+-- one change that puts no list
+pub other_can : (other : Change) → puts_list other ≡ false → (changes : List RowChange) → map shown_change changes ≡ other ∷ [] → AllOf CanApply changes
+other_can other none [] is = absurd cc
+other_can other none (c ∷ changes) is = All-from_recursion CanApply (c ∷ changes) (one_other other none c (let first : shown_change c ≡ other = cc in first), none_left changes (let rest : map shown_change changes ≡ [] = cc in rest))
+  where
+    none_left : (cs : List RowChange) → map shown_change cs ≡ [] → AllByRecursion CanApply cs
+    none_left [] none = tt
+    none_left (d ∷ cs) none = absurd cc
 
 pub note_can : (name : List ℕ) (changes : List RowChange) → map shown_change changes ≡ Note name ∷ [] → AllOf CanApply changes
-note_can name [] is = absurd cc
-note_can name (c ∷ changes) is = All-from_recursion CanApply (c ∷ changes) (one_note name c (let first : shown_change c ≡ Note name = cc in first), note_rest changes (let rest : map shown_change changes ≡ [] = cc in rest))
-  where
-    note_rest : (cs : List RowChange) → map shown_change cs ≡ [] → AllByRecursion CanApply cs
-    note_rest [] none = tt
-    note_rest (d ∷ cs) none = absurd cc
+note_can name = other_can (Note name) refl
+
+pub made_can : (tab : ℤ) (name : List ℕ) (columns : List (List ℕ)) (skipped : List ℤ) (changes : List RowChange) → map shown_change changes ≡ AddTable tab name columns skipped ∷ [] → AllOf CanApply changes
+made_can tab name columns skipped = other_can (AddTable tab name columns skipped) refl

@@ -1,5 +1,5 @@
 -- The plan of a command that writes documents of a table which is told as sound.
-use Rattle.std.proofs.Common.{◌≡◌, ℕ, List, map, Option, Result, Ok, Err, ℤ, sym, ap, subst, ◌∙◌}
+use Rattle.std.proofs.Common.{◌≡◌, ℕ, List, map, Option, Result, Ok, Err, ℤ, string_bytes, sym, ap, subst, ◌∙◌}
 use Rattle.std.specs.Prelude.{All, Vec}
 use Rattle.std.specs.declared.alloc.Global.{Global}
 use Rattle.sqlite.specs.Store.{Ghosts}
@@ -8,7 +8,7 @@ use Rattle.ft_store.specs.Kept.{StoreState, value_in}
 use Rattle.ft_values.specs.declared.fault.Fault.{Fault}
 use Rattle.ft_content.specs.Content.{Column, Content, Documents}
 use Rattle.ft_content.specs.Command.{Command}
-use Rattle.ft_content.specs.Views.{TableInfo}
+use Rattle.ft_content.specs.Views.{TableInfo, column_of, shown_info}
 use Rattle.ft_content.specs.Deserved.{Contents}
 use Rattle.ft_documents.specs.declared.rewrite.Rewrite as source
 use Rattle.ft_documents.specs.Found.{IsSoundNamed, IsUnfit}
@@ -60,3 +60,15 @@ module _ {S : Type 0} (g : Ghosts S) (command : Command) (name : List ℕ) (due 
         plan_written command name due change touch is (value_in g old) tables contents held known t (map shown_rewrite rewrites.items) changes order written.0 written.1
         (subst (λ (columns : List Column). AreRight t.table.0 columns (map shown_rewrite rewrites.items) changes) (sym has.columns_are) (subst (λ k. AreRight k known.columns (map shown_rewrite rewrites.items) changes) id right))
         (subst (λ k. All (IsOfDocids k (docids_of (map shown_rewrite rewrites.items))) changes) id near)
+
+  -- the same of documents that were found to be written
+  pub writes_do : (written : Written) (order : AreInOrder (value_in g old)) (named : IsSoundNamed tables name (shown_info written.table.now)) → ((content : Content) → HasAll g written.table.now.id (string_bytes written.table.now.name) (map column_of written.table.now.columns.items) old new content
+      → Writes content (due (string_bytes written.table.now.name) content) (change content) (touch content) (Ok written.rewrites)) → WritesIn g tables old new command (Ok written)
+  writes_do written order named writes =
+      let known = shown_info written.table.now in (
+        λ changes of_written. plans_do known order named written.rewrites changes writes of_written.0 of_written.1,
+        λ up contents held.
+            let t = here known order named contents held in
+            let has = has_all known order named contents held up in
+            record { content = t.content; columns_are = has.columns_are; are_of = (writes t.content has).1.are_of },
+      )

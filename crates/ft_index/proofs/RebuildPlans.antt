@@ -17,7 +17,7 @@ use Rattle.ft_content.specs.Deserved.{TableState, Sound, Stale, Loose, Table, Co
 use Rattle.ft_content.specs.Step.{rebuilt, on_table, after, reply_to}
 use Rattle.ft_documents.specs.Found.{info_named, with_sound}
 use Rattle.ft_documents.specs.NewDocuments.{new_rewrite}
-use Rattle.ft_documents.specs.Rewrite.{Rewrite, AreRight, docids_of, rewritten}
+use Rattle.ft_documents.specs.Rewrite.{AreOf, Rewrite, AreRight, docids_of, rewritten}
 use Rattle.ft_documents.specs.Tables.{table_rows, table_index, IsOfDocids}
 use Rattle.ft_documents.proofs.AddLemmas.{bare}
 use Rattle.ft_documents.proofs.InsertOf.{are_of}
@@ -56,6 +56,16 @@ none_there documents (d ∷ ds) none = (ap (find int_cmp d.0) none, none_there d
 all_put_back : (name : List ℕ) (content : Content) → IsContent name content → rewritten (map new_rewrite content.documents) [] ≡ content.documents
 all_put_back name content is = rewritten_new content.documents [] ∙ put_in_order int_cmp int_cmp_total exact_signed content.documents is.rising
 
+-- rewrites make all documents that the rows of a table are of
+abbrev pub IsAll : {store : StoreValue} {contents : Contents} {name : List ℕ} {known : TableInfo} → IsTold store contents name known → List Rewrite → Type 0
+IsAll {store} t rewrites = (content : Content) → IsContent t.table.1.name content → table_rows t.table.0 store ≡ content_rows content → rewrites ≡ map new_rewrite content.documents
+
+-- what was read of a table whose rows are put into it anew
+pub record IsPutAnew (store : StoreValue) (contents : Contents) (name : List ℕ) (known : TableInfo) (rewrites : List Rewrite) : Type 0 where
+  pub told : IsTold store contents name known
+  pub stale : states.Stale ≡ state_of told.table.1.held
+  pub all : IsAll told rewrites
+
 -- ---- its plan, by how the rows of the table stand
 
 module _ (store : StoreValue) (tables : List TableInfo) (contents : Contents) (name : List ℕ) (known : TableInfo) (order : AreInOrder store) (held : AreHeld store tables contents) (t : IsTold store contents name known) where
@@ -80,8 +90,28 @@ module _ (store : StoreValue) (tables : List TableInfo) (contents : Contents) (n
       go (Stale content) e is = absurd (let no = is in cc)
       go (Loose rows) e is = absurd (let no = is in cc)
 
+  -- the documents of rows that are others, as they are put into a table without any
+  put_anew : (content : Content) (rewrites : List Rewrite) → t.table.1.held ≡ Stale content → IsAll t rewrites → (map new_rewrite content.documents ≡ rewrites) × AreOf (bare content.columns) (map new_rewrite content.documents)
+  put_anew content rewrites e all =
+      let stands = stands_at (Stale content) e in
+      let made = all_put_back t.table.1.name content stands.0 in (
+        sym (all content stands.0 stands.1),
+        are_of t.table.1.name (bare content.columns) (map new_rewrite content.documents) (sorted_new content.documents ∙ stands.0.rising) (befores_new [] content.documents (none_there [] content.documents refl))
+            (subst (λ ds. IsContent t.table.1.name (record content { documents = ds })) (sym made) stands.0),
+      )
+
+  pub stale_content : (rewrites : List Rewrite) → states.Stale ≡ state_of t.table.1.held → IsAll t rewrites → (content : Content) × (content.columns ≡ known.columns) × AreOf content rewrites
+  stale_content rewrites is all = go t.table.1.held refl is
+    where
+      go : (state : TableState) → t.table.1.held ≡ state → states.Stale ≡ state_of state → (content : Content) × (content.columns ≡ known.columns) × AreOf content rewrites
+      go (Sound content) e is = absurd (let no = is in cc)
+      go (Loose rows) e is = absurd (let no = is in cc)
+      go (Stale content) e is =
+          let put = put_anew content rewrites e all in
+          (bare content.columns, ap held_columns (sym e) ∙ ap (λ (k : TableInfo). k.columns) t.told, subst (AreOf (bare content.columns)) put.0 put.1)
+
   -- others are put into the table anew
-  pub plan_stale : (rewrites : List Rewrite) (changes : List Change) → states.Stale ≡ state_of t.table.1.held → ((content : Content) → IsContent t.table.1.name content → table_rows t.table.0 store ≡ content_rows content → rewrites ≡ map new_rewrite content.documents) →
+  pub plan_stale : (rewrites : List Rewrite) (changes : List Change) → states.Stale ≡ state_of t.table.1.held → IsAll t rewrites →
       AreRight known.id known.columns rewrites changes → All (IsOfDocids known.id (docids_of rewrites)) changes → PlansFrom contents (Rebuild name) store (Ok (anew_change known ∷ changes))
   plan_stale rewrites changes is all right near = go t.table.1.held refl is
     where
@@ -90,10 +120,10 @@ module _ (store : StoreValue) (tables : List TableInfo) (contents : Contents) (n
       go (Loose rows) e is = absurd (let no = is in cc)
       go (Stale content) e is =
           let stands = stands_at (Stale content) e in
-          let same : map new_rewrite content.documents ≡ rewrites = sym (all content stands.0 stands.1) in
           let made = all_put_back t.table.1.name content stands.0 in
-          let are = are_of t.table.1.name (bare content.columns) (map new_rewrite content.documents) (sorted_new content.documents ∙ stands.0.rising) (befores_new [] content.documents (none_there [] content.documents refl))
-          (subst (λ ds. IsContent t.table.1.name (record content { documents = ds })) (sym made) stands.0) in
+          let put = put_anew content rewrites e all in
+          let same = put.0 in
+          let are = put.1 in
           let done = anew_holds store tables contents name known order held t content (map new_rewrite content.documents) changes rebuilt stands.0 (ap held_columns e) are made (ap rebuilt e)
           (subst (λ rs. AreRight known.id known.columns rs changes) (sym same) right) (subst (λ rs. All (IsOfDocids known.id (docids_of rs)) changes) (sym same) near) in (
             due_at (Stale content) e,

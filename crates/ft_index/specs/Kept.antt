@@ -129,11 +129,17 @@ BlamesStore old new result = HasCleanDisk new → result ≡ Err faults.Store �
 abbrev pub BlamesChanges : {X : Type 0} → State → State → Result X Fault → List Change → Type 0
 BlamesChanges old new result changes = HasCleanDisk new → result ≡ Err faults.Store → IsBlamed old new ⊎ CantPutAll old.now.trees changes
 
--- the command takes a table out, or looks at one
-abbrev pub IsDropOrCheck : Command → Type 0
-IsDropOrCheck (Drop table if_there) = Unit {0}
-IsDropOrCheck (Check table) = Unit {0}
-IsDropOrCheck _ = ⊥
+-- the command puts rows
+abbrev pub puts_rows : Command → Bool
+puts_rows (Create table module_name options columns if_new) = true
+puts_rows (Drop table if_there) = false
+puts_rows (Insert table columns rows) = true
+puts_rows (Update table sets f) = true
+puts_rows (Delete table f) = true
+puts_rows (Select table items f limit offset) = false
+puts_rows (Rebuild table) = true
+puts_rows (Check table) = false
+puts_rows (Optimize table) = false
 
 abbrev pub AreSound : Contents → Type 0
 AreSound contents = All (λ (table : ℤ × Table). IsTrue (is_sound table.1.held)) contents
@@ -177,6 +183,11 @@ StaysNear contents (Select table items f limit offset) changes = changes ≡ []
 StaysNear contents (Rebuild table) changes = Unit {0}
 StaysNear contents (Check table) changes = changes ≡ []
 StaysNear contents (Optimize table) changes = changes ≡ []
+
+-- Row changes that lead to what a command leaves, which deserves no fault.
+abbrev pub Reaches : Contents → Command → StoreValue → List Change → Type 0
+Reaches contents command store changes =
+    (deserved contents command ≡ None) × StoreHolds (all_applied changes store) (after contents command) × KeepsOthers store (all_applied changes store)
 
 -- What a plan is: row changes that lead to what the command leaves, or the fault that it deserves.
 abbrev pub PlansFrom : Contents → Command → StoreValue → Result (List Change) Fault → Type 0

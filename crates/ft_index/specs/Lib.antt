@@ -4,6 +4,7 @@ pub mod RowsRead
 pub mod DocumentsRead
 pub mod Planned
 pub mod Opened
+pub mod Refused
 pub mod Crashes
 pub mod Called
 -- Steps

@@ -1,8 +1,9 @@
 -- Steps. The posting lists of a table in a store, as a walk asks for them.
-use Rattle.std.specs.Prelude.{◌≡◌, ℕ, ◌+◌, ◌-◌, ◌^◌, min, Bool, List, ℤ, IsTrue}
+use Rattle.std.specs.Prelude.{◌≡◌, ◌⊎◌, ℕ, ◌+◌, ◌-◌, ◌^◌, min, Bool, true, false, List, ℤ, IsTrue}
 use Rattle.sqlite.specs.State.{HasCleanDisk, Survives}
 use Rattle.sqlite.specs.Store.{Ghosts}
 use Rattle.ft_query.specs.Documents.{Document, AreDocuments}
+use Rattle.ft_store.specs.Blame.{IsBlamed}
 use Rattle.ft_store.specs.Calls.{Keeps}
 use Rattle.ft_store.specs.Kept.{StoreState, shows, value_in, more_rows}
 use Rattle.ft_content.specs.Content.{Content, IsContent}
@@ -34,6 +35,17 @@ pub record Reads {S : Type 0} (g : Ghosts S) (old : StoreState S) (given : ℕ) 
   pub live : HasCleanDisk (shows g new) → IsTrue all → IsTrue (shows g new).is_open
   pub survives : Survives (shows g old) (shows g new) (λ _. IsTrue (shows g old).is_open → ⊥)
   pub counted : IsTrue all → (n : ℕ) × (new.rows_read ≡ more_rows n old) × (given_now ≡ min (given + n) (2 ^ 64 - 1))
+
+-- Where the index rows of a table were those of a content, its lists fail only for what lies outside
+-- the store: none of them is damaged.
+abbrev pub Fails : {S : Type 0} → Ghosts S → ℤ → StoreState S → Bool → StoreState S → Bool → Type 0
+Fails g tab old failed new failed_now = HasCleanDisk (shows g new) → (name : List ℕ) (content : Content) → IsContent name content
+    → table_index tab (value_in g old) ≡ index_rows content → failed_now ≡ true → (failed ≡ true) ⊎ IsBlamed (shows g old) (shows g new)
+
+-- the same of one call: one that is answered has not failed
+abbrev pub FailsIf : {S : Type 0} → Ghosts S → ℤ → StoreState S → Bool → Bool → StoreState S → Bool → Type 0
+FailsIf g tab old failed true new failed_now = failed_now ≡ failed
+FailsIf g tab old failed false new failed_now = Fails g tab old failed new failed_now
 
 -- The index rows of a table were those of a content, and the store is up as the call ends.
 pub record IsIndexed {S : Type 0} (g : Ghosts S) (tab : ℤ) (old new : StoreState S) (content : Content) : Type 0 where

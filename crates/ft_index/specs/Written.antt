@@ -1,5 +1,5 @@
 -- Steps. Commands that write documents of one table anew. All of it is our own choice.
-use Rattle.std.specs.Prelude.{◌≡◌, ◌⊎◌, ℕ, List, [], ◌∷◌, ◌++◌, map, Option, Some, None, Result, Ok, Err, ℤ, IsTrue, All, Contains, Vec}
+use Rattle.std.specs.Prelude.{◌≡◌, ◌⊎◌, ℕ, List, [], ◌∷◌, ◌++◌, map, Option, Some, None, Result, Ok, Err, ℤ, IsTrue, All, Contains, Vec, IfSome}
 use Rattle.std.specs.declared.alloc.Global.{Global}
 use Rattle.std.specs.List.{AllByRecursion}
 use Rattle.sqlite.specs.State.{HasCleanDisk}
@@ -18,7 +18,8 @@ use Rattle.ft_documents.specs.declared.rewrite.Rewrite as source
 use Rattle.ft_documents.specs.Rewrite.{Rewrite, AreOf, AreRight, HasContent, shown_rewrite, docids_of, rewritten}
 use Rattle.ft_documents.specs.Tables.{IsOfDocids}
 use Rattle.ft_index.specs.declared.written.Written.{Written}
-use Rattle.ft_index.specs.Kept.{IsUp, AreHeld, PlansFrom}
+use Rattle.ft_index.specs.Kept.{IsUp, AreHeld, PlansFrom, puts_rows}
+use Rattle.ft_index.specs.Refused.{AreOwn, AreRewrites, BlamesDone, BlamesMade, BlamesOver}
 use Rattle.ft_index.specs.Planned.{changes_of, table_change}
 use Rattle.ft_content.specs.declared.command.Reply.{Reply}
 use Rattle.ft_content.specs.Command.{Done}
@@ -61,10 +62,18 @@ AreOfWritten written changes =
     AreRight written.table.now.id (map column_of written.table.now.columns.items) (map shown_rewrite written.rewrites.items) changes
     × All (IsOfDocids written.table.now.id (docids_of (map shown_rewrite written.rewrites.items))) changes
 
+-- Documents are rewrites of some content that has their table's columns.
+pub record IsOfContent (written : Written) : Type 0 where
+  pub content : Content
+  pub columns_are : content.columns ≡ map column_of written.table.now.columns.items
+  pub are_of : AreOf content (map shown_rewrite written.rewrites.items)
+
 -- What reads lead to: documents whose row changes, as long as they are right, are a plan of the
--- command, or its fault.
+-- command, or its fault. Where the store is up as they end the documents are of a content.
 abbrev pub WritesIn : {S : Type 0} → Ghosts S → List TableInfo → StoreState S → StoreState S → Command → Result Written Fault → Type 0
-WritesIn g tables old new command (Ok written) = (changes : List Change) → AreOfWritten written changes → PlansTo g tables old new command (Ok changes)
+WritesIn g tables old new command (Ok written) =
+    ((changes : List Change) → AreOfWritten written changes → PlansTo g tables old new command (Ok changes))
+    × (IsUp g (with_tables new tables) → (contents : Contents) → AreHeld (value_in g old) tables contents → IsOfContent written)
 WritesIn g tables old new command (Err fault) = PlansTo g tables old new command (Err fault)
 
 -- a change that comes first, if there is one, as a part of its own
@@ -73,12 +82,14 @@ first_parts None = []
 first_parts (Some change) = (shown_change change ∷ []) ∷ []
 
 -- What the writing of documents after other changes does: the store holds these and all of some
--- right changes of its rows, or none.
+-- right changes of its rows, each once, or none.
 pub record MakesWritten {S X : Type 0} (g : Ghosts S) (first : List Change) (written : Written) (old new : StoreState S)
     (result : Result X Fault) : Type 0 where
   pub changes : List Change
   pub of_written : AreOfWritten written changes
+  pub own : IsOfContent written → AreRewrites written.table.now.id changes
   pub makes : MakesRows g old new (first ++ changes) result
+  pub refused : BlamesMade g old new result (first ++ changes)
 
 -- Row changes that make a table anew, with documents after it.
 pub record MakeTable (written : Written) (changes : List Change) : Type 0 where
@@ -95,12 +106,16 @@ AreOfAnew (Some written) changes = MakeTable written changes
 pub record MakesAnew {S X : Type 0} (g : Ghosts S) (anew : Option Written) (old new : StoreState S) (result : Result X Fault) : Type 0 where
   pub changes : List Change
   pub of_anew : AreOfAnew anew changes
+  pub own : IfSome anew IsOfContent → AreOwn changes
   pub makes : MakesRows g old new changes result
+  pub refused : BlamesMade g old new result changes
 
 -- What reads of a Rebuild lead to: a table that is to be made anew, or none, whose row changes are
 -- a plan of the command; or its fault.
 abbrev pub RebuildsIn : {S : Type 0} → Ghosts S → List TableInfo → StoreState S → StoreState S → Command → Result (Option Written) Fault → Type 0
-RebuildsIn g tables old new command (Ok anew) = (changes : List Change) → AreOfAnew anew changes → PlansTo g tables old new command (Ok changes)
+RebuildsIn g tables old new command (Ok anew) =
+    ((changes : List Change) → AreOfAnew anew changes → PlansTo g tables old new command (Ok changes))
+    × (IsUp g (with_tables new tables) → (contents : Contents) → AreHeld (value_in g old) tables contents → IfSome anew IsOfContent)
 RebuildsIn g tables old new command (Err fault) = PlansTo g tables old new command (Err fault)
 
 -- A command that writes documents of one table alone.
@@ -115,6 +130,12 @@ pub record WritesTable (command : Command) : Type 0 where
 abbrev pub AnswersWritten : {S : Type 0} → Ghosts S → Result Written Fault → StoreState S → StoreState S → Result Reply Fault → Type 0
 AnswersWritten {S} g found mid new answer = (old : StoreState S) (tables : List TableInfo) (command : Command) → WritesTable command
     → LooksTo g old mid found (WritesIn g tables old mid command found) → Does g (with_tables old tables) command answer (with_tables new tables)
+
+-- Where the command puts rows, it is refused by the store only for what lies outside it, or since
+-- the row changes that it comes to can't be put.
+abbrev pub BlamesWritten : {S : Type 0} → Ghosts S → Result Written Fault → StoreState S → StoreState S → Result Reply Fault → Type 0
+BlamesWritten {S} g found mid new answer = (old : StoreState S) (tables : List TableInfo) (command : Command) → IsTrue (puts_rows command)
+    → LooksTo g old mid found (WritesIn g tables old mid command found) → BlamesOver g tables old mid found → BlamesDone g tables old command new answer
 
 -- the row changes of such documents, or the fault
 abbrev pub PlansWritten : Result Written Fault → Result (Vec RowChange Global) Fault → Type 0

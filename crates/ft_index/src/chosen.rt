@@ -1,5 +1,5 @@
 //! The documents that a filter chooses, read from a store.
-ghost use Rattle.std.specs.Prelude.{◌≡◌, ◌*◌, false, length, map, option_map, vec_len, Some, IfOk, OnOk};
+ghost use Rattle.std.specs.Prelude.{◌≡◌, ◌*◌, false, length, map, option_map, vec_len, Some, IsSome, IfOk, OnOk};
 ghost use Rattle.std.specs.Ordering.{int_cmp};
 ghost use Rattle.std.specs.FinMap.Entries.{find};
 ghost use Rattle.ft_query.specs.Trees.{tree_of};
@@ -14,6 +14,7 @@ ghost use Rattle.ft_documents.specs.Gathered.{shown_document};
 ghost use Rattle.ft_index.specs.Walked.{IsIndexed};
 ghost use Rattle.ft_documents.specs.Chosen.{ReadsAs, document_at};
 ghost use Rattle.ft_index.specs.Kept.{IsOutside};
+ghost use Rattle.ft_index.specs.Refused.{BlamesIn, AreThere};
 
 use crate::documents::{all_documents, document};
 use crate::matching::matched;
@@ -45,6 +46,8 @@ pub(crate) fn chosen_documents<S: Alter>(
         → is_match (filter_of filter.now) ≡ false
         → store.new.rows_read ≡ more_rows (length content.columns
         * length (chosen content (filter_of filter.now))) store.old) }
+    ensures refused { BlamesIn S.Store tab store.old store.new result (λ content. ReadsAs content
+        (filter_of filter.now) (option_map (λ q. tree_of q.now) query.entry)) }
 {
     match filter {
         Filter::All => all_documents(alloc, store, tab),
@@ -70,10 +73,12 @@ fn documents_under<S: Alter>(
     tab: i64,
     docids: &[i64],
 ) -> Result<Vec<Document>, Fault>
-    ensures { LooksFor S.Store store.old store.new result IsOutside
+    ensures looks { LooksFor S.Store store.old store.new result IsOutside
         (IfOk result (λ found. (content : Content)
         → HasRows S.Store tab store.old store.new content → map shown_document found.items
         ≡ map (document_at content) docids.now)) }
+    ensures refused { BlamesIn S.Store tab store.old store.new result
+        (λ content. AreThere content docids.now) }
 {
     let mut documents = Vec::new(alloc);
     for &docid in docids {
@@ -96,6 +101,8 @@ pub(crate) fn found_cells<S: Alter>(
         ≡ Some (cells_of cells))) }
     ensures counted { IfOk result (λ cells. store.new.rows_read
         ≡ more_rows (vec_len cells) store.old) }
+    ensures refused { BlamesIn S.Store tab store.old store.new result
+        (λ content. IsSome (find int_cmp docid content.documents)) }
 {
     document(alloc, store, tab, docid)?.ok_or(Fault::Store)
 }

@@ -2,11 +2,9 @@
 ghost use Rattle.std.specs.Prelude.{map};
 ghost use Rattle.ft_content.specs.Views.{shown_info, command_of, answer_of};
 ghost use Rattle.ft_index.specs.Changed.{with_tables, Does};
-ghost use Rattle.ft_index.specs.Kept.{BlamesStore, IsDropOrCheck};
-ghost use Rattle.ft_store.specs.Blame.{AreTableTexts};
-ghost use Rattle.ft_store.specs.Kept.{shows, value_in};
 ghost use Rattle.ft_index.specs.RowsRead.{CountsRows};
 ghost use Rattle.ft_index.specs.DocumentsRead.{Looks};
+ghost use Rattle.ft_index.specs.Refused.{BlamesOver, BlamesDone};
 ghost use Rattle.ft_index.specs.Written.{PlansIn};
 
 use crate::select::{select_changes, select_from};
@@ -32,9 +30,8 @@ pub(crate) fn execute_command<S: Alter>(
     ensures counts { CountsRows S.Store (with_tables store.old (map shown_info tables.old.items))
         (command_of command.now) (answer_of result)
         (with_tables store.new (map shown_info tables.new.items)) }
-    ensures refused { IsDropOrCheck (command_of command.now)
-        → AreTableTexts (value_in S.Store store.old)
-        → BlamesStore (shows S.Store store.old) (shows S.Store store.new) result }
+    ensures refused { BlamesDone S.Store (map shown_info tables.old.items) store.old
+        (command_of command.now) store.new result }
 {
     match command {
         Command::Create(creation) => create_table(alloc, store, tables, creation),
@@ -68,6 +65,7 @@ pub(crate) fn planned_changes<S: Alter>(
     ensures plans { PlansIn S.Store (map shown_info tables.now) store.old store.new
         (command_of command.now) result }
     ensures looks { Looks S.Store store.old store.new }
+    ensures refused { BlamesOver S.Store (map shown_info tables.now) store.old store.new result }
 {
     store.is_in_order();
     match command {

@@ -14,7 +14,7 @@ ghost use Rattle.ft_content.specs.Views as views;
 ghost use Rattle.ft_index.specs.DocumentsRead.{HasRows, Looks, Asks};
 ghost use Rattle.ft_index.specs.RowsRead.{are_short, docids_asked};
 ghost use Rattle.ft_documents.specs.Gathered.{shown_document, has_given};
-ghost use Rattle.ft_index.specs.Kept.{IsOutside};
+ghost use Rattle.ft_index.specs.Kept.{BlamesStore, IsOutside};
 
 use ft_content::{Fault, Value, cut};
 use ft_documents::{Document, gathered};
@@ -36,6 +36,7 @@ pub(crate) fn document<S: Alter>(
         ≡ find int_cmp docid content.documents)) }
     ensures counted { IfOk result (λ found. store.new.rows_read
         ≡ more_rows (option_map_or vec_len found 0) store.old) }
+    ensures refused { BlamesStore (shows S.Store store.old) (shows S.Store store.new) result }
 {
     let rows = store.document(tab, docid)?;
     if rows.is_empty() {
@@ -57,6 +58,7 @@ pub(crate) fn all_documents<S: Alter>(
     ensures counted { OnOk result ((content : Content)
         → HasRows S.Store tab store.old store.new content → store.new.rows_read
         ≡ more_rows (length content.columns * length content.documents) store.old) }
+    ensures refused { BlamesStore (shows S.Store store.old) (shows S.Store store.new) result }
 {
     Ok(gathered(alloc, store.cells(tab)?)?)
 }
@@ -78,6 +80,7 @@ pub(crate) fn docids<S: Alter>(
     ensures counted { OnOk result ((content : Content)
         → HasRows S.Store tab store.old store.new content → store.new.rows_read
         ≡ more_rows (docids_asked content limit offset) store.old) }
+    ensures refused { BlamesStore (shows S.Store store.old) (shows S.Store store.new) result }
 {
     if let Some((most, first)) = short(limit, offset) {
         return Ok(store.docids(tab, most, first)?);
@@ -113,6 +116,7 @@ pub(crate) fn has_document<S: Alter>(
         → IsTrue (shows S.Store store.old).is_open) → HasCleanDisk (shows S.Store store.new)
         → OnOk result (IsTrue (shows S.Store store.new).is_open) }
     ensures looks { Looks S.Store store.old store.new }
+    ensures refused { BlamesStore (shows S.Store store.old) (shows S.Store store.new) result }
 {
     match given {
         Some(docid) => Ok(store.has_document(tab, docid)?),

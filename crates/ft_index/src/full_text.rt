@@ -58,7 +58,8 @@ impl<S: Alter> FullText<S> {
     ghost use Rattle.ft_index.specs.RowsRead.{CountsRows};
     ghost use Rattle.ft_index.specs.DocumentsRead.{Looks};
     ghost use Rattle.ft_index.specs.Opened.{Opens, OpensWhatIsLeft};
-    ghost use Rattle.ft_index.specs.Kept.{IsUp, value_of, Holds, AreSound, OnlyLooks, BlamesStore, BlamesChanges, IsDropOrCheck, Executes, Plans, Notes};
+    ghost use Rattle.ft_index.specs.Kept.{IsUp, value_of, Holds, AreSound, OnlyLooks, BlamesStore, BlamesChanges, Executes, Plans, Notes};
+    ghost use Rattle.ft_index.specs.Refused.{BlamesCommand};
     ghost use Rattle.ft_index.specs.Called.{KeptByCalls, NoneGetsUnsound, NamesStayApart, HoldsOneContents};
 
     /// Takes a store, and marks each table whose rows aren't documents with exactly the index rows
@@ -111,9 +112,8 @@ impl<S: Alter> FullText<S> {
         // documents that it answers.
         ensures counts { CountsRows S.Store self.old (command_of command.now) (answer_of result)
             self.new }
-        ensures refused { IsDropOrCheck (command_of command.now)
-            → AreTableTexts (value_of S.Store self.old)
-            → BlamesStore (shows S.Store self.old.store) (shows S.Store self.new.store) result }
+        ensures refused { BlamesCommand S.Store self.old (command_of command.now)
+            (answer_of result) self.new }
     {
         if let Err(fault) = self.store.ping() {
             self.store.is_settled();
@@ -133,6 +133,8 @@ impl<S: Alter> FullText<S> {
         ensures plan { IsUp S.Store self.new
             → Plans S.Store self.old (command_of command.now) (changes_of result) }
         ensures looks { OnlyLooks S.Store self.old self.new }
+        ensures refused { BlamesStore (shows S.Store self.old.store) (shows S.Store self.new.store)
+            result }
     {
         let tables = self.tables.as_slice();
         planned_changes(self.alloc, &mut self.store, tables, command)

@@ -1,5 +1,5 @@
 //! What a MATCH finds in a table's index.
-ghost use Rattle.std.specs.Prelude.{◌≡◌, ◌^◌, ◌<◌, ℕ, List, map, option_map, Ok, IfOk, OnOk};
+ghost use Rattle.std.specs.Prelude.{◌≡◌, ◌^◌, ◌<◌, ◌||◌, ℕ, List, map, option_map, Ok, IfOk, OnOk};
 ghost use Rattle.ft_query.specs.Trees.{tree_of};
 ghost use Rattle.ft_query.specs.Work.{entry_count};
 ghost use Rattle.ft_query.specs.Occurs.{plain_hit};
@@ -14,6 +14,9 @@ ghost use Rattle.ft_documents.specs.Matched.{chosen_hits, as_wanted};
 ghost use Rattle.ft_index.specs.RowsRead.{entries_asked};
 ghost use Rattle.ft_index.specs.DocumentsRead.{LooksOn, LooksFor};
 ghost use Rattle.ft_index.specs.Kept.{IsOutside};
+ghost use Rattle.ft_index.specs.Refused.{BlamesIn};
+ghost use Rattle.ft_index.specs.Walked.{Fails};
+ghost use Rattle.ft_query.specs.Lists.{is_failed};
 
 use crate::table_lists::TableLists;
 use ft_content::Fault;
@@ -40,6 +43,9 @@ fn opened<'q, S: Alter>(
         → lists.new.store.now.rows_read ≡ more_rows
         (entry_count (tree_of query.now) (content_documents content)) lists.old.store.now) }
     ensures looks { LooksOn S.Store lists.old.store.now lists.new.store.now result }
+    ensures failed { lists.new.has_failed ≡ (lists.old.has_failed || is_failed result) }
+    ensures refused { Fails S.Store lists.old.tab lists.old.store.now lists.old.has_failed
+        lists.new.store.now lists.new.has_failed }
 {
     Matches::open(alloc, query, lists)
 }
@@ -66,6 +72,7 @@ pub(crate) fn matched<S: Alter>(
         → IsIndexed S.Store tab store.old store.new content
         → store.new.rows_read ≡ more_rows (entries_asked content
         (query_in content (Match name text))) store.old) }
+    ensures refused { BlamesIn S.Store tab store.old store.new result (λ _. Unit {0}) }
 {
     // So the count of rows is known to be of 64 bits.
     let _read = store.rows_read();

@@ -14,6 +14,7 @@ ghost use Rattle.ft_content.specs.Deserved as deserved;
 ghost use Rattle.ft_content.specs.Views.{bare_content, rows_of, column_of, item_of, items_of, filter_of, selection_of, shown_info, answer_of};
 ghost use Rattle.ft_index.specs.Kept.{Executes, OnlyLooks, IsOutside};
 ghost use Rattle.ft_index.specs.Changed.{with_tables};
+ghost use Rattle.ft_index.specs.Refused.{BlamesIn, BlamesOver, AreThere, NeverStore};
 ghost use Rattle.ft_index.specs.Planned.{PlansOver};
 ghost use Rattle.ft_index.specs.DocumentsRead.{HasRows, LooksFor};
 ghost use Rattle.ft_documents.specs.Gathered.{shown_document};
@@ -53,6 +54,7 @@ pub(crate) fn select_from<S: Alter>(
     ensures live { HasCleanDisk (shows S.Store store.new)
         → OnOk result (IsTrue (shows S.Store store.old).is_open
         → IsTrue (shows S.Store store.new).is_open) }
+    ensures refused { BlamesOver S.Store (map shown_info tables.now) store.old store.new result }
 {
     store.is_in_order();
     let info = sound_table(tables, select.table.as_str())?;
@@ -69,7 +71,8 @@ pub(crate) fn select_changes(
     tables: &[TableInfo],
     select: &Selection,
 ) -> Result<Vec<RowChange>, Fault>
-    ensures { PlansOver tables.now (selection_of select.now) result }
+    ensures plans { PlansOver tables.now (selection_of select.now) result }
+    ensures never { NeverStore result }
 {
     let info = sound_table(tables, select.table.as_str())?;
     select_query(alloc, info, select)?;
@@ -86,6 +89,7 @@ fn select_query(alloc: Global, info: &TableInfo, select: &Selection) -> Result<O
     ensures fault { IfErr result (λ fault. (fault ≡ faults.Memory)
         ⊎ (deserved.select_fault (string_bytes info.now.name) (bare_content info.now.columns.items)
         (items_of select.now.items) (filter_of select.now.filter) ≡ Some fault)) }
+    ensures never { NeverStore result }
 {
     let columns = info.columns.as_slice();
     if let Some(fault) = select_tests(info.name.as_str(), columns, &select.items, &select.filter) {
@@ -116,6 +120,8 @@ fn selected_rows<S: Alter>(
         store.new content → store.new.rows_read
         ≡ more_rows (rows_asked content (items_of select.now.items)
         (filter_of select.now.filter) select.now.limit select.now.offset) store.old) }
+    ensures refused { BlamesIn S.Store tab store.old store.new result (λ content. ReadsAs content
+        (filter_of select.now.filter) (option_map (λ q. tree_of q.now) query.entry)) }
 {
     let Items::List(items) = &select.items else {
         let count = chosen_count(alloc, store, tab, &select.filter, query)?;
@@ -159,6 +165,8 @@ fn chosen_count<S: Alter>(
         → ReadsAs content (filter_of filter.now) (option_map (λ q. tree_of q.now) query.entry)
         → store.new.rows_read ≡ more_rows (rows.count_asked content (filter_of filter.now))
         store.old) }
+    ensures refused { BlamesIn S.Store tab store.old store.new result (λ content. ReadsAs content
+        (filter_of filter.now) (option_map (λ q. tree_of q.now) query.entry)) }
 {
     match filter {
         Filter::Match { .. } => Ok(matched(alloc, store, tab, query, false, None)?.len() as i64),
@@ -238,6 +246,8 @@ fn hit_rows<S: Alter>(
         → HasRows S.Store tab store.old store.new content
         → store.new.rows_read ≡ more_rows ((if list_any rows.is_column (map item_of items.now)
         then length content.columns else 0) * length hits.now) store.old) }
+    ensures refused { BlamesIn S.Store tab store.old store.new result
+        (λ content. AreThere content (map (λ h. h.docid) hits.now)) }
 {
     // So the count of rows is known to be of 64 bits.
     let _read = store.rows_read();

@@ -6,6 +6,7 @@ ghost use Rattle.ft_index.specs.DocumentsRead.{LooksTo};
 ghost use Rattle.ft_index.specs.Kept.{Executes, Answers, BlamesStore, table_info};
 ghost use Rattle.ft_store.specs.Kept.{shows};
 ghost use Rattle.ft_documents.specs.Found.{info_named};
+ghost use Rattle.ft_index.specs.Refused.{BlamesDone, NeverStore};
 ghost use Rattle.ft_index.specs.Written.{PlansIn, RebuildsIn};
 ghost use Rattle.ft_content.specs.Deserved.{Contents};
 ghost use Rattle.ft_content.specs.Command as plain;
@@ -51,8 +52,10 @@ pub(crate) fn rebuild_table<S: Alter>(
     tables: &mut Vec<TableInfo>,
     table: &str,
 ) -> Result<Reply, Fault>
-    ensures { Does S.Store (with_tables store.old (map shown_info tables.old.items))
+    ensures does { Does S.Store (with_tables store.old (map shown_info tables.old.items))
         (plain.Rebuild table.now) result (with_tables store.new (map shown_info tables.new.items)) }
+    ensures refused { BlamesDone S.Store (map shown_info tables.old.items) store.old
+        (plain.Rebuild table.now) store.new result }
 {
     store.is_in_order();
     let known = named_table(tables.as_slice(), table)?;
@@ -70,9 +73,10 @@ pub(crate) fn rebuild_changes<S: Alter>(
     tables: &[TableInfo],
     table: &str,
 ) -> Result<Vec<RowChange>, Fault>
-    ensures { LooksTo S.Store store.old store.new result
+    ensures looks { LooksTo S.Store store.old store.new result
         (PlansIn S.Store (map shown_info tables.now) store.old store.new (plain.Rebuild table.now)
         result) }
+    ensures refused { BlamesStore (shows S.Store store.old) (shows S.Store store.new) result }
 {
     let known = named_table(tables, table)?;
     let anew = rebuilt(alloc, store, known)?;
@@ -86,10 +90,11 @@ fn rebuilt<'t, S: Alter>(
     store: &mut Store<S>,
     table: &'t TableInfo,
 ) -> Result<Option<Written<'t>>, Fault>
-    ensures { LooksTo S.Store store.old store.new result
+    ensures looks { LooksTo S.Store store.old store.new result
         ((tables : List views.TableInfo) (name : List ℕ)
         → info_named tables name ≡ Some (shown_info table.now)
         → RebuildsIn S.Store tables store.old store.new (plain.Rebuild name) result) }
+    ensures refused { BlamesStore (shows S.Store store.old) (shows S.Store store.new) result }
 {
     store.is_in_order();
     let state = known_state(alloc, store, table)?;
@@ -106,8 +111,9 @@ fn rebuilt<'t, S: Alter>(
 
 /// Answers an Optimize.
 pub(crate) fn optimize(tables: &[TableInfo], table: &str) -> Result<Reply, Fault>
-    ensures { (contents : Contents) → map shown_info tables.now ≡ map table_info contents →
+    ensures answers { (contents : Contents) → map shown_info tables.now ≡ map table_info contents →
         Answers contents (plain.Optimize table.now) (answer_of result) contents }
+    ensures never { NeverStore result }
 {
     sound_table(tables, table)?;
     Ok(Reply::Done)

@@ -63,10 +63,11 @@ impl<'s, S: Alter> TableLists<'s, S> {
 
     /// Notes that a read was refused.
     fn refused(&mut self, fault: StoreFault) -> ListFault
-        ensures { self.new ≡ record self.old {
+        ensures noted { self.new ≡ record self.old {
           has_failed = self.old.has_failed || is_failed
               {X = Unit {0}} (Err result);
         } }
+        ensures memory { fault ≡ StoreFault.Memory → self.new.has_failed ≡ self.old.has_failed }
     {
         match fault {
             StoreFault::Memory => ListFault::Memory,
@@ -80,7 +81,7 @@ impl<'s, S: Alter> TableLists<'s, S> {
 
 impl<'s, S: Alter> Lists for TableLists<'s, S> {
     ghost use Rattle.std.specs.Prelude.{◌≡◌};
-    ghost use Rattle.ft_index.specs.Walked.{table_documents, AreReliable, Reads};
+    ghost use Rattle.ft_index.specs.Walked.{table_documents, AreReliable, Reads, FailsIf};
 
     ghost documents = { λ l. table_documents S.Store l.tab l.store.now };
 
@@ -92,7 +93,9 @@ impl<'s, S: Alter> Lists for TableLists<'s, S> {
 
     ghost becomes = { λ old is_answered new. (new.store.ghost_name ≡ old.store.ghost_name)
         × (new.tab ≡ old.tab)
-        × Reads S.Store old.store.now old.given is_answered new.store.now new.given };
+        × Reads S.Store old.store.now old.given is_answered new.store.now new.given
+        × FailsIf S.Store old.tab old.store.now old.has_failed is_answered new.store.now
+        new.has_failed };
 
     ghost in_order = { λ l reliable. reliable.in_order };
 

@@ -7,6 +7,7 @@ ghost use Rattle.ft_index.specs.Kept.{BlamesStore, BlamesChanges, table_info};
 ghost use Rattle.ft_index.specs.Planned.{PlansOver, Makes, table_change};
 ghost use Rattle.ft_index.specs.Changed.{with_tables, MakesRows, Does, LooksAsked, MakesAsked};
 ghost use Rattle.ft_documents.specs.Found.{with_info};
+ghost use Rattle.ft_index.specs.Refused.{BlamesDone, BlamesMade, NeverStore};
 ghost use Rattle.sqlite.specs.State.{HasCleanDisk};
 ghost use Rattle.ft_rows.specs.Shown.{shown_note};
 ghost use Rattle.ft_rows.specs.Store.{Note};
@@ -30,8 +31,9 @@ fn made_table(
     tables: &[TableInfo],
     creation: &Creation,
 ) -> Result<Option<TableInfo>, Fault>
-    ensures { (contents : Contents) → map shown_info tables.now ≡ map table_info contents
+    ensures makes { (contents : Contents) → map shown_info tables.now ≡ map table_info contents
         → Makes contents creation.now result }
+    ensures never { NeverStore result }
 {
     let names = made_names(alloc, creation.columns.as_slice())?;
     if let Some(fault) = create_fault(alloc, tables, creation, names.as_slice()) {
@@ -66,7 +68,8 @@ pub(crate) fn create_changes(
     tables: &[TableInfo],
     creation: &Creation,
 ) -> Result<Vec<RowChange>, Fault>
-    ensures { PlansOver tables.now (creation_of creation.now) result }
+    ensures plans { PlansOver tables.now (creation_of creation.now) result }
+    ensures never { NeverStore result }
 {
     let made = made_table(alloc, tables, creation)?;
     let mut changes = Vec::new(alloc);
@@ -83,9 +86,11 @@ pub(crate) fn create_table<S: Alter>(
     tables: &mut Vec<TableInfo>,
     creation: &Creation,
 ) -> Result<Reply, Fault>
-    ensures { Does S.Store (with_tables store.old (map shown_info tables.old.items))
+    ensures does { Does S.Store (with_tables store.old (map shown_info tables.old.items))
         (creation_of creation.now) result (with_tables store.new
         (map shown_info tables.new.items)) }
+    ensures refused { BlamesDone S.Store (map shown_info tables.old.items) store.old
+        (creation_of creation.now) store.new result }
 {
     store.is_in_order();
     let made = made_table(alloc, tables.as_slice(), creation)?;
@@ -106,6 +111,7 @@ fn add_table<S: Alter>(
     ensures told { map shown_info tables.new.items
         ≡ (if is_ok result then with_info (shown_info made) (map shown_info tables.old.items) else
         map shown_info tables.old.items) }
+    ensures refused { BlamesMade S.Store store.old store.new result (table_change made ∷ []) }
 {
     let mut changes = Vec::new(alloc);
     changes.push(adding(alloc, &made)?)?;
@@ -126,7 +132,7 @@ pub(crate) fn drop_changes(
 ) -> Result<Vec<RowChange>, Fault>
     ensures plans { PlansOver tables.now (plain.Drop table.now if_there) result }
     ensures drops { IfOk result (λ changes. All TakesOut changes.items) }
-    ensures fault { result ≡ Err Fault.Store → ⊥ }
+    ensures never { NeverStore result }
 {
     let mut changes = Vec::new(alloc);
     match table_place(tables, table) {

@@ -5,7 +5,7 @@ ghost use Rattle.ft_content.specs.Views.{column_of, cells_of, insertion_of, show
 ghost use Rattle.ft_documents.specs.Rewrite.{shown_rewrite};
 ghost use Rattle.ft_documents.specs.RewriteRows.{rewrite_changes};
 ghost use Rattle.ft_rows.specs.Changes.{shown_change};
-ghost use Rattle.ft_index.specs.Written.{first_parts, AnswersWritten, PlansWritten, AreOfAnew, MakesAnew, WritesIn};
+ghost use Rattle.ft_index.specs.Written.{first_parts, AnswersWritten, PlansWritten, AreOfAnew, MakesAnew, WritesIn, BlamesWritten};
 ghost use Rattle.sqlite.specs.State.{HasCleanDisk};
 ghost use Rattle.ft_store.specs.Kept.{shows};
 ghost use Rattle.ft_content.specs.Content.{Content};
@@ -14,6 +14,8 @@ ghost use Rattle.ft_index.specs.DocumentsRead.{HasRows, Looks, LooksTo};
 ghost use Rattle.ft_documents.specs.Gathered.{has_given};
 ghost use Rattle.ft_content.specs.Answer.{chosen};
 ghost use Rattle.ft_index.specs.Changed.{with_tables, Does};
+ghost use Rattle.ft_index.specs.Kept.{BlamesStore};
+ghost use Rattle.ft_index.specs.Refused.{BlamesOver, BlamesDone};
 ghost use Rattle.ft_content.specs.Content as content;
 ghost use Rattle.ft_values.specs.declared.fault.Fault.TheVariants as faults;
 
@@ -85,7 +87,8 @@ pub(crate) fn write_found<S: Alter>(
     store: &mut Store<S>,
     found: Result<Written, Fault>,
 ) -> Result<Reply, Fault>
-    ensures { AnswersWritten S.Store found.entry store.old store.new result }
+    ensures answers { AnswersWritten S.Store found.entry store.old store.new result }
+    ensures refused { BlamesWritten S.Store found.entry store.old store.new result }
 {
     found?.make(alloc, store, None)?;
     Ok(Reply::Done)
@@ -169,9 +172,10 @@ pub(crate) fn insert_written<'t, S: Alter>(
     tables: &'t [TableInfo],
     insertion: &Insertion,
 ) -> Result<Written<'t>, Fault>
-    ensures { LooksTo S.Store store.old store.new result
+    ensures looks { LooksTo S.Store store.old store.new result
         (WritesIn S.Store (map shown_info tables.now) store.old store.new
         (insertion_of insertion.now) result) }
+    ensures refused { BlamesOver S.Store (map shown_info tables.now) store.old store.new result }
 {
     store.is_in_order();
     let listed = insertion.columns.as_deref();
@@ -212,6 +216,9 @@ fn stored_docids<S: Alter>(
     ensures live { HasCleanDisk (shows S.Store store.new)
         → OnOk result (IsTrue (shows S.Store store.old).is_open
         → IsTrue (shows S.Store store.new).is_open) }
+    ensures refused { (HasCleanDisk (shows S.Store store.old)
+        → IsTrue (shows S.Store store.old).is_open)
+        → BlamesStore (shows S.Store store.old) (shows S.Store store.new) result }
 {
     let mut stored = Vec::new(alloc);
     for row in rows {
@@ -229,9 +236,10 @@ pub(crate) fn update_written<'t, S: Alter>(
     tables: &'t [TableInfo],
     modification: &Modification,
 ) -> Result<Written<'t>, Fault>
-    ensures { LooksTo S.Store store.old store.new result
+    ensures looks { LooksTo S.Store store.old store.new result
         (WritesIn S.Store (map shown_info tables.now) store.old store.new
         (modification_of modification.now) result) }
+    ensures refused { BlamesOver S.Store (map shown_info tables.now) store.old store.new result }
 {
     store.is_in_order();
     let sets = modification.sets.as_slice();
@@ -262,8 +270,10 @@ pub(crate) fn delete_from<S: Alter>(
     tables: &[TableInfo],
     deletion: &Deletion,
 ) -> Result<Reply, Fault>
-    ensures { Does S.Store (with_tables store.old (map shown_info tables.now))
+    ensures does { Does S.Store (with_tables store.old (map shown_info tables.now))
         (deletion_of deletion.now) result (with_tables store.new (map shown_info tables.now)) }
+    ensures refused { BlamesDone S.Store (map shown_info tables.now) store.old
+        (deletion_of deletion.now) store.new result }
 {
     store.is_in_order();
     if let Filter::All = &deletion.filter {
@@ -283,9 +293,10 @@ pub(crate) fn delete_written<'t, S: Alter>(
     tables: &'t [TableInfo],
     deletion: &Deletion,
 ) -> Result<Written<'t>, Fault>
-    ensures { LooksTo S.Store store.old store.new result
+    ensures looks { LooksTo S.Store store.old store.new result
         (WritesIn S.Store (map shown_info tables.now) store.old store.new
         (deletion_of deletion.now) result) }
+    ensures refused { BlamesOver S.Store (map shown_info tables.now) store.old store.new result }
 {
     store.is_in_order();
     let table = sound_table(tables, deletion.table.as_str())?;

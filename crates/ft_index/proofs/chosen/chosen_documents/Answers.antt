@@ -27,6 +27,8 @@ use Rattle.ft_store.specs.Kept.{more_rows}
 use Rattle.ft_index.proofs.LookLemmas.{rows_then, index_first}
 use Rattle.ft_index.proofs.ReadsLemmas.{on_ok_from}
 use Rattle.ft_index.proofs.RowCounts.{one_rows}
+use Rattle.ft_index.specs.Refused.{AreThere}
+use Rattle.ft_index.proofs.Blaming.{then_blamed, has_at, index_in, hits_there}
 use Rattle.ft_index.proofs.chosen.chosen_documents.Goals as goal
 use Rattle.ft_index.proofs.chosen.chosen_documents.Goals.{in-Some+in_ok-push-in-Docid, in_default}
 
@@ -74,7 +76,7 @@ returns-in_ok-docids-in-Match-clause-looks g c = record {
       let middle = c.matched.new.store in
       let last = c.documents_under.new.store in
       let one : Looks g.S.Store first middle = c.matched.ensures.looks.only in
-      let two = c.documents_under.ensures.only in
+      let two = c.documents_under.ensures.looks.only in
       let t = sym (to_z-of_z c.ranges.tab) in
       let tab : ℤ = to_z w64 (of_z w64 c.args.tab) in
       let name = string_bytes c.in-Match.name in
@@ -93,7 +95,7 @@ returns-in_ok-docids-in-Match-clause-looks g c = record {
       ∙ ap (map (document_at content)) (c.as_slice.ensures.value ∙ numbers ∙ ap (map (λ (h : Hit). h.docid)) c.deref.ensures.value)
       ∙ map-map (document_at content) (λ (h : Hit). h.docid) c.in_ok-hits-in-Match.hits.items
       ∙ of_hits (λ (h : Hit). h.docid) plain_hit (λ h. refl) rows.name content (Match name text) false c.in_ok-hits-in-Match.hits.items rows.is_content hits
-      ∙ sym (ap (λ (f : Filter). chosen content (filter_of f)) c.in-Match.is)) c.documents_under.ensures.told;
+      ∙ sym (ap (λ (f : Filter). chosen content (filter_of f)) c.in-Match.is)) c.documents_under.ensures.looks.told;
   only = search rules;
   live = search rules;
   cause = search rules;
@@ -114,3 +116,27 @@ returns-after-branch-2-clause-counted g c content rows plainly =
     c.in_ok-cells-in-Docid.ensures.counted
     ∙ ap (λ (n : ℕ). more_rows n c.args.store.now) (one_rows rows.name content docid read rows.is_content found)
     ∙ ap (λ (f : Filter). more_rows (length content.columns * length (chosen content (filter_of f))) c.args.store.now) (sym c.in-Docid.is)
+
+pub returns-in_err-cells-in-Docid-clause-refused : goal.returns-in_err-cells-in-Docid-clause-refused
+returns-in_err-cells-in-Docid-clause-refused g c = λ name content has reads clean told. c.document.ensures.refused clean (search rules)
+
+pub returns-in_ok-docids-in-Match-clause-refused : goal.returns-in_ok-docids-in-Match-clause-refused
+returns-in_ok-docids-in-Match-clause-refused g c = λ name content has reads clean told.
+    let first = c.args.store.now in
+    let middle = c.matched.new.store in
+    let last = c.documents_under.new.store in
+    let one = c.matched.ensures.looks in
+    let tab : ℤ = to_z w64 (of_z w64 c.args.tab) in
+    let t : tab ≡ c.args.tab = to_z-of_z c.ranges.tab in
+    let table = string_bytes c.in-Match.name in
+    let text = string_bytes c.in-Match.query in
+    let query : Option Tree = option_map {T = Bor _} (λ q. tree_of q.now) c.args.query in
+    let as_read = subst (λ (f : Filter). ReadsAs content (filter_of f) query) c.in-Match.is reads in
+    then_blamed g.S.Store first middle last one.only c.in_ok-hits-in-Match.ensures.looks.live c.documents_under.ensures.looks.only.survives clean (λ middle_clean is_open same.
+    let hits = c.in_ok-hits-in-Match.ensures.looks.told content table text as_read (index_in g.S.Store tab c.args.tab t first middle name content has middle_clean is_open) in
+    let ok : c.collect.result ≡ Ok c.in_ok-docids-in-Match.docids = search rules in
+    let numbers : c.in_ok-docids-in-Match.docids.items ≡ map (λ (h : Hit). h.docid) c.deref.result.now =
+    subst (λ (r : Result (Vec ℤ Global) AllocError). IfOk r (λ (v : Vec ℤ Global). v.items ≡ map (λ (h : Hit). h.docid) c.deref.result.now)) ok
+    (items_from_collect c.collect.result c.collect.ensures.ran (YieldsList-from_map _ (λ (h : Hit). h.docid) (YieldsList-from_slice c.deref.result.now cc) c.map.ensures.closure (λ x r q k. search rules))) in
+    let docids = c.as_slice.ensures.value ∙ numbers ∙ ap (map (λ (h : Hit). h.docid)) c.deref.ensures.value in
+    c.documents_under.ensures.refused name content (has_at (sym same) (sym t) has) (subst (AreThere content) (sym docids) (hits_there name content has.is_content (Match table text) false None 0 c.in_ok-hits-in-Match.hits.items hits)) clean told)

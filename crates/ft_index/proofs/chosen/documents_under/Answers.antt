@@ -10,6 +10,8 @@ use Rattle.ft_index.specs.DocumentsRead.{HasRows}
 use Rattle.ft_documents.specs.Gathered.{shown_document}
 use Rattle.ft_documents.specs.Chosen.{document_at}
 use Rattle.ft_index.proofs.LookLemmas.{looks_then, rows_first, rows_then}
+use Rattle.std.specs.Prelude.{IsSome}
+use Rattle.ft_index.proofs.Blaming.{then_blamed, has_at}
 use Rattle.ft_index.proofs.chosen.documents_under.Goals as goal
 
 pub loop-docid-preserved : goal.loop-docid-preserved
@@ -36,8 +38,8 @@ loop-docid-preserved g c =
           ∙ sym (ap (map f) more ∙ map-append f (take c.loop-docid.docid-index c.args.docids.now) (docid ∷ []));
     }
 
-pub returns : goal.returns
-returns g c = record {
+pub returns-clause-looks : goal.returns-clause-looks
+returns-clause-looks g c = record {
   told = λ content rows.
       let f : ℤ → ℤ × List Cell = document_at content in
       c.loop-docid.invariant.found content (subst (λ (k : ℤ). HasRows g.S.Store k c.args.store.now c.loop-docid.store content) (sym (to_z-of_z c.ranges.tab)) rows)
@@ -47,18 +49,28 @@ returns g c = record {
   cause = search rules;
 }
 
-pub returns-in_err-cells : goal.returns-in_err-cells
-returns-in_err-cells g c = record {
+pub returns-in_err-cells-clause-looks : goal.returns-in_err-cells-clause-looks
+returns-in_err-cells-clause-looks g c = record {
   told = search rules;
   only = looks_then g.S.Store c.args.store.now c.loop-docid.store c.found_cells.new.store c.loop-docid.invariant.looks c.found_cells.ensures.looks.only c.loop-docid.invariant.live;
   live = search rules;
   cause = search rules;
 }
 
-pub returns-in_err-push : goal.returns-in_err-push
-returns-in_err-push g c = record {
+pub returns-in_err-push-clause-looks : goal.returns-in_err-push-clause-looks
+returns-in_err-push-clause-looks g c = record {
   told = search rules;
   only = looks_then g.S.Store c.args.store.now c.loop-docid.store c.found_cells.new.store c.loop-docid.invariant.looks c.found_cells.ensures.looks.only c.loop-docid.invariant.live;
   live = search rules;
   cause = search rules;
 }
+
+pub returns-in_err-cells-clause-refused : goal.returns-in_err-cells-clause-refused
+returns-in_err-cells-clause-refused g c = λ name content has there clean told.
+    let so_far = c.loop-docid.invariant in
+    let t = to_z-of_z c.ranges.tab in
+    let docid : ℤ = get_or c.args.docids.now c.loop-docid.docid-index (pos 0) in
+    let fits : FitsSigned w64 docid = search rules in
+    then_blamed g.S.Store c.args.store.now c.loop-docid.store c.found_cells.new.store so_far.looks so_far.live c.found_cells.ensures.looks.only.survives clean (λ middle is_open same.
+    c.found_cells.ensures.refused name content (has_at (sym same) (sym t) has)
+    (subst (λ (k : ℤ). IsSome (find int_cmp k content.documents)) (sym (to_z-of_z fits)) (there c.loop-docid.docid-index (pos 0) c.loop-docid-test.true)) clean (search rules))

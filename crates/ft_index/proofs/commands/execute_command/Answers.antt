@@ -11,6 +11,8 @@ use Rattle.ft_index.specs.RowsRead.{CountsRows}
 use Rattle.ft_index.proofs.Counting.{counts_other}
 use Rattle.ft_index.proofs.InsertWrites as inserts
 use Rattle.ft_index.proofs.UpdateDue as updates
+use Rattle.std.proofs.Common.{refl}
+use Rattle.ft_index.specs.Refused.{BlamesDone, BlamesOver}
 use Rattle.ft_index.proofs.commands.execute_command.Goals as goal
 
 pub returns-in-Insert-clause-does : goal.returns-in-Insert-clause-does
@@ -20,9 +22,9 @@ returns-in-Insert-clause-does g c =
     let mid = c.insert_written-written.new.store in
     let found = c.insert_written-written.result in
     let tables = map shown_info c.args.tables.now.items in
-    let looks = subst (λ (ts : List TableInfo). LooksTo g.S.Store old mid found (WritesIn g.S.Store (map shown_info ts) old mid (insertion_of w) found)) c.as_slice.ensures.value c.insert_written-written.ensures in
+    let looks = subst (λ (ts : List TableInfo). LooksTo g.S.Store old mid found (WritesIn g.S.Store (map shown_info ts) old mid (insertion_of w) found)) c.as_slice.ensures.value c.insert_written-written.ensures.looks in
     subst (λ (x : Command). Does g.S.Store (with_tables old tables) (command_of x) c.write_found.result (with_tables c.write_found.new.store tables)) (sym c.in-Insert.is)
-    (c.write_found.ensures old tables (insertion_of w) (inserts.writes_table (option_map names_in w.columns) (rows_of w.rows) (string_bytes w.table)) looks)
+    (c.write_found.ensures.answers old tables (insertion_of w) (inserts.writes_table (option_map names_in w.columns) (rows_of w.rows) (string_bytes w.table)) looks)
 
 pub returns-in-Update-clause-does : goal.returns-in-Update-clause-does
 returns-in-Update-clause-does g c =
@@ -31,9 +33,9 @@ returns-in-Update-clause-does g c =
     let mid = c.update_written-written.new.store in
     let found = c.update_written-written.result in
     let tables = map shown_info c.args.tables.now.items in
-    let looks = subst (λ (ts : List TableInfo). LooksTo g.S.Store old mid found (WritesIn g.S.Store (map shown_info ts) old mid (modification_of w) found)) c.as_slice-in-Update.ensures.value c.update_written-written.ensures in
+    let looks = subst (λ (ts : List TableInfo). LooksTo g.S.Store old mid found (WritesIn g.S.Store (map shown_info ts) old mid (modification_of w) found)) c.as_slice-in-Update.ensures.value c.update_written-written.ensures.looks in
     subst (λ (x : Command). Does g.S.Store (with_tables old tables) (command_of x) c.write_found-in-Update.result (with_tables c.write_found-in-Update.new.store tables)) (sym c.in-Update.is)
-    (c.write_found-in-Update.ensures old tables (modification_of w) (updates.writes_table (map set_of w.sets.items) (filter_of w.filter) (string_bytes w.table)) looks)
+    (c.write_found-in-Update.ensures.answers old tables (modification_of w) (updates.writes_table (map set_of w.sets.items) (filter_of w.filter) (string_bytes w.table)) looks)
 
 pub returns-in-Select-clause-counts : goal.returns-in-Select-clause-counts
 returns-in-Select-clause-counts g c =
@@ -52,3 +54,25 @@ returns-in-Check-clause-counts g c =
     let answer = answer_of c.check_table.result in
     subst (λ (x : Command). CountsRows g.S.Store (with_tables c.args.store.now tables) (command_of x) answer (with_tables c.check_table.new.store tables)) (sym w.is)
     (counts_other g.S.Store (with_tables c.args.store.now tables) (with_tables c.check_table.new.store tables) (plain.Check (string_bytes w.table)) answer (λ contents. tt))
+
+pub returns-in-Insert-clause-refused : goal.returns-in-Insert-clause-refused
+returns-in-Insert-clause-refused g c =
+    let w = c.in-Insert.insertion in
+    let old = c.args.store.now in
+    let mid = c.insert_written-written.new.store in
+    let found = c.insert_written-written.result in
+    let tables = map shown_info c.args.tables.now.items in
+    let looks = subst (λ (ts : List TableInfo). LooksTo g.S.Store old mid found (WritesIn g.S.Store (map shown_info ts) old mid (insertion_of w) found)) c.as_slice.ensures.value c.insert_written-written.ensures.looks in
+    let blames = subst (λ (ts : List TableInfo). BlamesOver g.S.Store (map shown_info ts) old mid found) c.as_slice.ensures.value c.insert_written-written.ensures.refused in
+    subst (λ (x : Command). BlamesDone g.S.Store tables old (command_of x) c.write_found.new.store c.write_found.result) (sym c.in-Insert.is) (c.write_found.ensures.refused old tables (insertion_of w) refl looks blames)
+
+pub returns-in-Update-clause-refused : goal.returns-in-Update-clause-refused
+returns-in-Update-clause-refused g c =
+    let w = c.in-Update.modification in
+    let old = c.args.store.now in
+    let mid = c.update_written-written.new.store in
+    let found = c.update_written-written.result in
+    let tables = map shown_info c.args.tables.now.items in
+    let looks = subst (λ (ts : List TableInfo). LooksTo g.S.Store old mid found (WritesIn g.S.Store (map shown_info ts) old mid (modification_of w) found)) c.as_slice-in-Update.ensures.value c.update_written-written.ensures.looks in
+    let blames = subst (λ (ts : List TableInfo). BlamesOver g.S.Store (map shown_info ts) old mid found) c.as_slice-in-Update.ensures.value c.update_written-written.ensures.refused in
+    subst (λ (x : Command). BlamesDone g.S.Store tables old (command_of x) c.write_found-in-Update.new.store c.write_found-in-Update.result) (sym c.in-Update.is) (c.write_found-in-Update.ensures.refused old tables (modification_of w) refl looks blames)

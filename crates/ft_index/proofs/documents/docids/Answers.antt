@@ -8,6 +8,8 @@ use Rattle.ft_content.specs.Answer.{cut}
 use Rattle.ft_content.proofs.AnswerLemmas.{cut_of_map}
 use Rattle.ft_index.specs.RowsRead.{are_short}
 use Rattle.ft_index.proofs.DocidReads.{docids_read, cut_is}
+use Rattle.ft_store.specs.Kept.{shows}
+use Rattle.ft_index.proofs.Blaming.{store_blamed}
 use Rattle.ft_index.proofs.documents.docids.Goals as goal
 
 pub returns-in-Some-clause-looks : goal.returns-in-Some-clause-looks
@@ -61,3 +63,9 @@ returns-clause-counted g c content rows =
     c.in_ok-all.ensures.read.counted
     ∙ ap (λ (n : ℕ). more_rows n c.args.store.now) (c.in_ok-all.all.ok.0 ∙ ap length read ∙ length-map content.documents docid
     ∙ sym (ap (λ b. cond b (length (cut limit offset content.documents)) (length content.documents)) long))
+
+pub returns-in_err-docids-clause-refused : goal.returns-in_err-docids-clause-refused
+returns-in_err-docids-clause-refused g c = store_blamed (shows g.S.Store c.args.store.now) (shows g.S.Store c.docids.new.self) c.in_err-docids.field-0.0 c.docids.result c.from_residual.result (search rules) (search rules) (search rules) c.docids.ensures.refused
+
+pub returns-in_err-all-clause-refused : goal.returns-in_err-all-clause-refused
+returns-in_err-all-clause-refused g c = store_blamed (shows g.S.Store c.args.store.now) (shows g.S.Store c.docids-2.new.self) c.in_err-all.field-0.0 c.docids-2.result c.from_residual-in_err-all.result (search rules) (search rules) (search rules) c.docids-2.ensures.refused

@@ -3,6 +3,8 @@ use Rattle.std.proofs.Common.{rules, sym, ap, ◌∙◌, to_z-of_z, w64, FitsSig
 use Rattle.ft_store.specs.Kept.{value_in}
 use Rattle.ft_documents.specs.Gathered.{has_given}
 use Rattle.ft_index.proofs.DocidReads.{there_read}
+use Rattle.ft_store.specs.Kept.{shows}
+use Rattle.ft_index.proofs.Blaming.{store_blamed}
 use Rattle.ft_index.proofs.documents.has_document.Goals as goal
 
 pub returns-in_ok-has_document-in-Some-clause-found : goal.returns-in_ok-has_document-in-Some-clause-found
@@ -12,3 +14,6 @@ returns-in_ok-has_document-in-Some-clause-found g c content rows =
     (simp (to_z-of_z, c.ranges.tab, fits) at c.in_ok-has_document-in-Some.ensures.there) rows.clean
     ∙ there_read c.args.tab c.in-Some.docid store rows.name content rows.is_content rows.rows
     ∙ sym (ap (has_given content.documents) c.in-Some.is)
+
+pub returns-in_err-has_document-in-Some-clause-refused : goal.returns-in_err-has_document-in-Some-clause-refused
+returns-in_err-has_document-in-Some-clause-refused g c = store_blamed (shows g.S.Store c.args.store.now) (shows g.S.Store c.has_document.new.self) c.in_err-has_document-in-Some.field-0.0 c.has_document.result c.from_residual.result (search rules) (search rules) (search rules) c.has_document.ensures.refused

@@ -7,6 +7,7 @@ use Rattle.ft_query.specs.Walk.{StandsBefore}
 use Rattle.ft_content.specs.Meaning.{content_documents}
 use Rattle.ft_index.proofs.ReadsLemmas.{Grows, all_read, all_same, rows_of_walk, on_ok_from, on_ok_if}
 use Rattle.ft_index.proofs.WalkedLemmas.{now_reliable}
+use Rattle.ft_index.proofs.Blaming.{all_fails}
 use Rattle.ft_index.proofs.matching.opened.Goals as goal
 
 pub returns-clause-same_reference : goal.returns-clause-same_reference
@@ -39,3 +40,6 @@ returns-clause-counted g c =
     rows_of_walk rows rows_now c.open.new.lists.given (entry_count (tree_of c.args.query.now) (content_documents content)) fits
     (subst (λ (n : ℕ). Grows rows n rows_now c.open.new.lists.given) none (reads.counted whole))
     (given here.0 (omega (arith, none)) ∙ (λ i. min (none i + entry_count (tree_of c.args.query.now) (here.1 i)) (2 ^ 64 - 1)))) c.open.ensures.given
+
+pub returns-clause-refused : goal.returns-clause-refused
+returns-clause-refused g c = all_fails g.S.Store _ (λ l. l.store.now) (λ l. l.given) (λ l. l.tab) (λ l. l.has_failed) (λ x all y h. h.2) (λ x all y h. h.1) (λ x all y h. h.3) _ _ _ c.open.ensures.becomes

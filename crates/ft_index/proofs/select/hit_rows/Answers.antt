@@ -20,6 +20,8 @@ use Rattle.ft_index.specs.RowsRead.{is_column}
 use Rattle.ft_index.specs.Selected.{hit_cells}
 use Rattle.ft_index.proofs.LookLemmas.{looks_then, rows_first, rows_then}
 use Rattle.ft_index.proofs.SelectRows.{row_unread, found_wide, counted_more}
+use Rattle.std.specs.Prelude.{IsSome}
+use Rattle.ft_index.proofs.Blaming.{then_blamed, has_at, there_of}
 use Rattle.ft_index.proofs.select.hit_rows.Goals as goal
 use Rattle.ft_index.proofs.select.hit_rows.Goals.{then-reads+in_ok-cells, else-reads}
 
@@ -113,3 +115,12 @@ returns-in_err-push-clause-looks g c = record {
   live = search rules;
   cause = search rules;
 }
+
+pub returns-in_err-cells-clause-refused : goal.returns-in_err-cells-clause-refused
+returns-in_err-cells-clause-refused g c = λ name content has there clean told.
+    let so_far = c.loop-hit.invariant in
+    let hit : Hit = c.hit-item.result in
+    let fits : FitsSigned w64 hit.docid = search rules in
+    let here = subst (λ (h : Hit). IsSome (find int_cmp h.docid content.documents)) (sym c.hit-item.is) (there_of content c.args.hits.now there c.loop-hit.hit-index hit c.loop-hit-test.true) in
+    then_blamed g.S.Store c.args.store.now c.loop-hit.store c.found_cells.new.store so_far.looks so_far.live c.found_cells.ensures.looks.only.survives clean (λ middle is_open same.
+    c.found_cells.ensures.refused name content (has_at (sym same) (sym (to_z-of_z c.ranges.tab)) has) (subst (λ (k : ℤ). IsSome (find int_cmp k content.documents)) (sym (to_z-of_z fits)) here) clean (search rules))

@@ -11,8 +11,8 @@ use Rattle.ft_index.specs.Planned.{changes_of}
 use Rattle.ft_index.proofs.PlanAnswers.{select_unplanned, select_fails, select_plans}
 use Rattle.ft_index.proofs.select.select_changes.Goals as goal
 
-pub returns-in_err-info : goal.returns-in_err-info
-returns-in_err-info c store contents order held =
+pub returns-in_err-info-clause-plans : goal.returns-in_err-info-clause-plans
+returns-in_err-info-clause-plans c store contents order held =
     let tables = map shown_info c.args.tables.now in
     let select = c.args.select.now in
     let fault : Fault = c.in_err-info.field-0.0 in
@@ -21,8 +21,8 @@ returns-in_err-info c store contents order held =
     subst (λ (r : Result (Vec RowChange Global) Fault). PlansFrom contents (selection_of select) store (changes_of r)) (sym is)
     (select_unplanned contents (string_bytes select.table) (items_of select.items) (filter_of select.filter) select.limit select.offset store tables held fault unfit)
 
-pub returns-in_err-select_query : goal.returns-in_err-select_query
-returns-in_err-select_query c store contents order held =
+pub returns-in_err-select_query-clause-plans : goal.returns-in_err-select_query-clause-plans
+returns-in_err-select_query-clause-plans c store contents order held =
     let tables = map shown_info c.args.tables.now in
     let select = c.args.select.now in
     let fault : Fault = c.in_err-select_query.field-0.0 in
@@ -32,8 +32,8 @@ returns-in_err-select_query c store contents order held =
     subst (λ (r : Result (Vec RowChange Global) Fault). PlansFrom contents (selection_of select) store (changes_of r)) (sym is)
     (select_fails contents (string_bytes select.table) (items_of select.items) (filter_of select.filter) select.limit select.offset store tables held known named fault c.in_err-select_query.ensures.fault)
 
-pub returns : goal.returns
-returns c store contents order held =
+pub returns-clause-plans : goal.returns-clause-plans
+returns-clause-plans c store contents order held =
     let tables = map shown_info c.args.tables.now in
     let select = c.args.select.now in
     let known = shown_info c.in_ok-info.info.now in

@@ -14,6 +14,11 @@ use Rattle.ft_index.specs.Kept.{Executes}
 use Rattle.ft_index.specs.Selected.{IsAsked}
 use Rattle.ft_index.proofs.LookLemmas.{no_look}
 use Rattle.ft_index.proofs.SelectAnswers.{names_bare, select_unfit, select_undone, select_done, select_counts}
+use Rattle.std.proofs.Common.{refl}
+use Rattle.ft_store.specs.Kept.{value_in}
+use Rattle.ft_documents.specs.Chosen.{ReadsAs}
+use Rattle.ft_documents.proofs.BareLemmas.{reads_bare}
+use Rattle.ft_index.proofs.Blaming.{over_sound, has_at}
 use Rattle.ft_index.proofs.select.select_from.Goals as goal
 
 pub returns-in_err-info-clause-executes : goal.returns-in_err-info-clause-executes
@@ -90,3 +95,15 @@ returns-clause-counts g c =
     (subst (λ (cs : List Column). IsAsked g.S.Store (to_z w64 (of_z w64 info.id)) (map column_of cs) items f passed_on first last content) (sym c.as_slice-columns.ensures.value)
     (subst (λ (k : ℤ). IsAsked g.S.Store k columns items f passed_on first last content) (sym (to_z-of_z fits))
     (subst (λ (q : Option Tree). IsAsked g.S.Store info.id columns items f q first last content) (sym query_is) asked))))
+
+pub returns-in_err-rows-clause-refused : goal.returns-in_err-rows-clause-refused
+returns-in_err-rows-clause-refused g c = λ contents held clean told.
+    let select = c.args.select.now in
+    let f = filter_of select.filter in
+    let info : RustTableInfo = c.in_ok-info.info.now in
+    let over = over_sound (value_in g.S.Store c.args.store.now) (map shown_info c.args.tables.now) contents c.as_str.result.now (shown_info info) c.is_in_order.ensures.order held c.in_ok-info.ensures in
+    let query : Option Tree = option_map tree_of c.in_ok-query.query in
+    let query_is : option_map {T = Bor _} (λ q. tree_of q.now) c.as_ref.result ≡ query = passed tree_of c.as_ref.result c.in_ok-query.query c.as_ref.ensures.value in
+    let reads = reads_bare over.content info.columns.items over.columns_are f query c.in_ok-query.ensures.query in
+    let fits : FitsSigned w64 info.id = search rules in
+    c.selected_rows.ensures.refused (string_bytes info.name) over.content (has_at refl (sym (to_z-of_z fits)) over.has) (subst (ReadsAs over.content f) (sym query_is) reads) clean (search rules)

@@ -1,5 +1,6 @@
 -- a count, the hits of a MATCH, the documents by their docids, or those that are read
-use Rattle.std.proofs.Common.{rules, ◌≡◌, ◌+◌, ◌-◌, ◌*◌, ◌^◌, ◌||◌, not, min, cond, ℕ, ℤ, List, [], false, true, Option, map, length, string_bytes, refl, sym, ap, subst, ◌∙◌, to_z, of_z, w64, to_z-of_z}
+use Rattle.ft_query.specs.Trees.{tree_of}
+use Rattle.std.proofs.Common.{option_map, Bor, rules, ◌≡◌, ◌+◌, ◌-◌, ◌*◌, ◌^◌, ◌||◌, not, min, cond, ℕ, ℤ, List, [], false, true, Option, map, length, string_bytes, refl, sym, ap, subst, ◌∙◌, to_z, of_z, w64, to_z-of_z}
 use Rattle.std.specs.Prelude.{is_some}
 use Rattle.std.specs.List.{list_any}
 use Rattle.std.proofs.lemmas.List.{length-map}
@@ -30,6 +31,10 @@ use Rattle.ft_index.proofs.ReadsLemmas.{on_ok_from}
 use Rattle.ft_index.proofs.SelectRows.{hit_rows, hits_answered, as_many, counted_both, asked_items, bare_hit_rows, listed_rows_are, documents_again, document_rows_are, no_offsets}
 use Rattle.ft_content.proofs.AnswerLemmas.{cut_of_map}
 use Rattle.ft_index.proofs.RowCounts.{asked_count, asked_all, asked_whole}
+use Rattle.ft_index.specs.Refused.{AreThere}
+use Rattle.ft_documents.specs.Chosen.{ReadsAs}
+use Rattle.ft_content.specs.declared.command.Filter.{Filter}
+use Rattle.ft_index.proofs.Blaming.{then_blamed, has_at, rows_in, index_in, hits_there, docids_there, bare_docids}
 use Rattle.ft_index.proofs.select.selected_rows.Goals as goal
 
 -- what is asked, as its items and its filter are written
@@ -205,3 +210,36 @@ returns-in_ok-document_rows-in-All-2-clause-counted g c content as_asked =
     c.in_ok-documents-in-All-2.ensures.counted content (subst (λ (k : ℤ). HasRows g.S.Store k first last content) (sym (to_z-of_z c.ranges.tab)) asked.held.rows) plainly
     ∙ ap (λ (n : ℕ). min (first.rows_read + n) (2 ^ 64 - 1)) (asked_whole content items f select.limit select.offset plainly whole
     ∙ (λ i. rows_asked content (sym items_are i) f select.limit select.offset))
+
+pub returns-in_ok-hits-in-Match-clause-refused : goal.returns-in_ok-hits-in-Match-clause-refused
+returns-in_ok-hits-in-Match-clause-refused g c = λ name content has reads clean told.
+    let first = c.args.store.now in
+    let middle = c.matched.new.store in
+    let last = c.hit_rows.new.store in
+    let tab : ℤ = to_z w64 (of_z w64 c.args.tab) in
+    let t : tab ≡ c.args.tab = to_z-of_z c.ranges.tab in
+    let select = c.args.select.now in
+    let f = Match (string_bytes c.in-Match.name) (string_bytes c.in-Match.query) in
+    let as_read = subst (λ (x : Filter). ReadsAs content (filter_of x) (option_map {T = Bor _} (λ q. tree_of q.now) c.args.query)) c.in-Match.is reads in
+    let all = map (as_wanted c.any_offsets.result) (chosen_hits content f) in
+    then_blamed g.S.Store first middle last c.matched.ensures.looks.only c.in_ok-hits-in-Match.ensures.looks.live c.hit_rows.ensures.looks.only.survives clean (λ middle_clean is_open same.
+    let hits = c.in_ok-hits-in-Match.ensures.looks.told content (string_bytes c.in-Match.name) (string_bytes c.in-Match.query) as_read (index_in g.S.Store tab c.args.tab t first middle name content has middle_clean is_open) in
+    let answered : map plain_hit c.cut-answered.result.now ≡ cut select.limit select.offset all =
+    hits_answered select.limit c.most_hits-most.result select.offset c.in_ok-hits-in-Match.hits.items c.cut-answered.result.now all
+    (c.cut-answered.ensures ∙ ap (λ (hs : List Hit). cut select.limit select.offset hs) c.as_slice.ensures.value) hits (c.most_hits-most.ensures.enough all) in
+    c.hit_rows.ensures.refused name content (has_at (sym same) (sym t) has) (hits_there name content has.is_content f c.any_offsets.result select.limit select.offset c.cut-answered.result.now answered) clean told)
+
+pub returns-in_ok-hits-in-All-clause-refused : goal.returns-in_ok-hits-in-All-clause-refused
+returns-in_ok-hits-in-All-clause-refused g c = λ name content has reads clean told.
+    let first = c.args.store.now in
+    let middle = c.docids.new.store in
+    let last = c.hit_rows-in-All.new.store in
+    let tab : ℤ = to_z w64 (of_z w64 c.args.tab) in
+    let t : tab ≡ c.args.tab = to_z-of_z c.ranges.tab in
+    let select = c.args.select.now in
+    let docids = c.in_ok-docids-in-All.docids.items in
+    let hits = ap (map plain_hit) c.as_slice-in-All-2.ensures.value ∙ c.in_ok-hits-in-All.ensures ∙ ap (map (λ (k : ℤ). record { docid = k; offsets = [] })) c.as_slice-in-All.ensures.value in
+    then_blamed g.S.Store first middle last c.docids.ensures.looks.only (λ middle_clean _. c.in_ok-docids-in-All.ensures.looks.live middle_clean) c.hit_rows-in-All.ensures.looks.only.survives clean (λ middle_clean is_open same.
+    let read = c.in_ok-docids-in-All.ensures.looks.told content (rows_in g.S.Store tab c.args.tab t first middle name content has middle_clean is_open) in
+    c.hit_rows-in-All.ensures.refused name content (has_at (sym same) (sym t) has)
+    (subst (AreThere content) (sym (bare_docids c.as_slice-in-All-2.result.now docids hits)) (docids_there name content has.is_content select.limit select.offset docids read)) clean told)

@@ -10,8 +10,8 @@ use Rattle.ft_index.specs.Written.{PlansIn, RebuildsIn}
 use Rattle.ft_index.proofs.RebuildPlans.{plan_missing}
 use Rattle.ft_index.proofs.special.rebuild_changes.Goals as goal
 
-pub returns-in_err-known : goal.returns-in_err-known
-returns-in_err-known g c = record {
+pub returns-in_err-known-clause-looks : goal.returns-in_err-known-clause-looks
+returns-in_err-known-clause-looks g c = record {
   told =
       let tables = map shown_info c.args.tables.now in
       let old = c.args.store.now in
@@ -23,8 +23,8 @@ returns-in_err-known g c = record {
   live = search rules;
 }
 
-pub returns-in_err-anew : goal.returns-in_err-anew
-returns-in_err-anew g c = record {
+pub returns-in_err-anew-clause-looks : goal.returns-in_err-anew-clause-looks
+returns-in_err-anew-clause-looks g c = record {
   told =
       let tables = map shown_info c.args.tables.now in
       let command = plain.Rebuild c.args.table.now in
@@ -34,20 +34,20 @@ returns-in_err-anew g c = record {
       let is : c.from_residual-in_err-anew.result ≡ Err fault = search rules in
       let failed : c.rebuilt.result ≡ Err fault = search rules in
       subst (λ (r : Result (Vec RowChange Global) Fault). PlansIn g.S.Store tables old mid command r) (sym is)
-      (subst (RebuildsIn g.S.Store tables old mid command) failed (c.rebuilt.ensures.told tables c.args.table.now c.in_ok-known.ensures));
+      (subst (RebuildsIn g.S.Store tables old mid command) failed (c.rebuilt.ensures.looks.told tables c.args.table.now c.in_ok-known.ensures));
   only = search rules;
   live = search rules;
 }
 
-pub returns : goal.returns
-returns g c = record {
+pub returns-clause-looks : goal.returns-clause-looks
+returns-clause-looks g c = record {
   told =
       let tables = map shown_info c.args.tables.now in
       let command = plain.Rebuild c.args.table.now in
       let old = c.args.store.now in
       let mid = c.rebuilt.new.store in
       let anew : c.rebuilt.result ≡ Ok c.in_ok-anew.anew = search rules in
-      subst (RebuildsIn g.S.Store tables old mid command) anew (c.rebuilt.ensures.told tables c.args.table.now c.in_ok-known.ensures)
+      (subst (RebuildsIn g.S.Store tables old mid command) anew (c.rebuilt.ensures.looks.told tables c.args.table.now c.in_ok-known.ensures)).0
       (map shown_change c.in_ok-anew_changes.field-0.items) c.in_ok-anew_changes.ensures;
   only = search rules;
   live = search rules;

@@ -11,21 +11,21 @@ use Rattle.ft_index.proofs.PlanAnswers.{create_refused, create_nothing, create_m
 use Rattle.ft_index.proofs.tables.create_changes.Goals as goal
 use Rattle.ft_index.proofs.tables.create_changes.Goals.{in-Some+in_ok-adding+in_ok-push, in_default}
 
-pub returns-in_err-made : goal.returns-in_err-made
-returns-in_err-made c store contents order held =
+pub returns-in_err-made-clause-plans : goal.returns-in_err-made-clause-plans
+returns-in_err-made-clause-plans c store contents order held =
     let fault : Fault = c.in_err-made.field-0.0 in
     let is : c.from_residual.result ≡ Err fault = search rules in
     let made : c.made_table.result ≡ Err fault = search rules in
     subst (λ (r : Result (Vec RowChange Global) Fault). PlansFrom contents (creation_of c.args.creation.now) store (changes_of r)) (sym is)
     (create_refused contents c.args.creation.now store (map shown_info c.args.tables.now) fault
-    (subst (Makes contents c.args.creation.now) made (c.made_table.ensures contents held.told)))
+    (subst (Makes contents c.args.creation.now) made (c.made_table.ensures.makes contents held.told)))
 
-pub returns : goal.returns
-returns c store contents order held =
+pub returns-clause-plans : goal.returns-clause-plans
+returns-clause-plans c store contents order held =
     let tables = map shown_info c.args.tables.now in
     let command = creation_of c.args.creation.now in
     let made : c.made_table.result ≡ Ok c.in_ok-made.made = search rules in
-    let makes = subst (Makes contents c.args.creation.now) made (c.made_table.ensures contents held.told) in
+    let makes = subst (Makes contents c.args.creation.now) made (c.made_table.ensures.makes contents held.told) in
     elim c.match-made.branch [
       | in-Some+in_ok-adding+in_ok-push w ↦
           let same : map shown_change c.match-made.changes.items ≡ table_change w.in-Some.made ∷ [] = ap (λ (v : Vec RowChange Global). map shown_change v.items) w.changes-is ∙ search rules in

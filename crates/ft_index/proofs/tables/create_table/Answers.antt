@@ -18,11 +18,16 @@ use Rattle.ft_store.specs.Kept.{StoreState, value_in}
 use Rattle.ft_index.specs.Crashes.{CommandSurvives}
 use Rattle.ft_index.proofs.CreateLemmas.{made_is_held}
 use Rattle.ft_index.proofs.Crashing.{crash_same, crash_changed}
+use Rattle.std.proofs.Common.{refl}
+use Rattle.ft_index.specs.Refused.{behind}
+use Rattle.ft_index.proofs.Blaming.{no_rewrites}
+use Rattle.ft_index.proofs.Doing.{done_blamed}
+use Rattle.ft_index.proofs.LookLemmas.{no_look}
 use Rattle.ft_index.proofs.tables.create_table.Goals as goal
 use Rattle.ft_index.proofs.tables.create_table.Goals.{in-Some+in_ok-add_table, in_default}
 
-pub returns-in_err-made : goal.returns-in_err-made
-returns-in_err-made g c = record {
+pub returns-in_err-made-clause-does : goal.returns-in_err-made-clause-does
+returns-in_err-made-clause-does g c = record {
   executes =
       let fault : Fault = c.in_err-made.field-0.0 in
       let is : c.from_residual.result ≡ Err fault = search rules in
@@ -30,13 +35,13 @@ returns-in_err-made g c = record {
       let old = with_tables c.args.store.now (map shown_info c.args.tables.now.items) in
       subst (λ (a : Result Reply Fault). Executes g.S.Store old (creation_of c.args.creation.now) (answer_of a) old) (sym is)
       (create_refused g.S.Store c.args.creation.now old fault
-      (λ contents told. subst (Makes contents c.args.creation.now) made (c.made_table.ensures contents (ap (map shown_info) c.as_slice.ensures.value ∙ told))));
+      (λ contents told. subst (Makes contents c.args.creation.now) made (c.made_table.ensures.makes contents (ap (map shown_info) c.as_slice.ensures.value ∙ told))));
   crash = search rules;
   live = search rules;
 }
 
-pub returns-in_err-add_table : goal.returns-in_err-add_table
-returns-in_err-add_table g c = record {
+pub returns-in_err-add_table-clause-does : goal.returns-in_err-add_table-clause-does
+returns-in_err-add_table-clause-does g c = record {
   executes =
       let fault : Fault = c.in_err-add_table.field-0.0 in
       let is : c.from_residual-in_err-add_table.result ≡ Err fault = search rules in
@@ -55,21 +60,21 @@ returns-in_err-add_table g c = record {
       let made : c.made_table.result ≡ Ok c.in_ok-made.made = search rules in
       let makes : (contents : Contents) → tables ≡ map table_info contents → Makes contents c.args.creation.now (Ok (Some c.in-Some.made)) =
       λ contents told. subst (λ o. Makes contents c.args.creation.now (Ok o)) c.in-Some.is
-      (subst (Makes contents c.args.creation.now) made (c.made_table.ensures contents (ap (map shown_info) c.as_slice.ensures.value ∙ told))) in
+      (subst (Makes contents c.args.creation.now) made (c.made_table.ensures.makes contents (ap (map shown_info) c.as_slice.ensures.value ∙ told))) in
       crash_changed g.S.Store c.args.store.now c.add_table.new.store tables (map shown_info c.add_table.new.tables.items) command (table_change c.in-Some.made ∷ [])
       (λ up first holds. ((makes first holds.told).0, (made_is_held first c.args.creation.now c.in-Some.made (value_in g.S.Store c.args.store.now) tables (makes first holds.told) c.is_in_order.ensures.order holds).held, makes_table c.in-Some.made (value_in g.S.Store c.args.store.now)))
       c.add_table.ensures.makes.crash;
   live = search rules;
 }
 
-pub returns : goal.returns
-returns g c = record {
+pub returns-clause-does : goal.returns-clause-does
+returns-clause-does g c = record {
   executes =
       let tables = map shown_info c.args.tables.now.items in
       let command = creation_of c.args.creation.now in
       let made : c.made_table.result ≡ Ok c.in_ok-made.made = search rules in
       let makes : (contents : Contents) → tables ≡ map table_info contents → Makes contents c.args.creation.now (Ok c.in_ok-made.made) =
-      λ contents told. subst (Makes contents c.args.creation.now) made (c.made_table.ensures contents (ap (map shown_info) c.as_slice.ensures.value ∙ told)) in
+      λ contents told. subst (Makes contents c.args.creation.now) made (c.made_table.ensures.makes contents (ap (map shown_info) c.as_slice.ensures.value ∙ told)) in
       elim c.match-made.branch [
         | in-Some+in_ok-add_table w ↦
             let added : w.add_table.result ≡ Ok tt = search rules in
@@ -94,7 +99,7 @@ returns g c = record {
         | in-Some+in_ok-add_table w ↦
             let makes : (contents : Contents) → tables ≡ map table_info contents → Makes contents c.args.creation.now (Ok (Some w.in-Some.made)) =
             λ contents told. subst (λ o. Makes contents c.args.creation.now (Ok o)) w.in-Some.is
-            (subst (Makes contents c.args.creation.now) made (c.made_table.ensures contents (ap (map shown_info) c.as_slice.ensures.value ∙ told))) in
+            (subst (Makes contents c.args.creation.now) made (c.made_table.ensures.makes contents (ap (map shown_info) c.as_slice.ensures.value ∙ told))) in
             subst (λ (s : StoreState g.row.S.Denot). CommandSurvives g.S.Store (with_tables c.args.store.now tables) command (with_tables s after)) (sym w.store-is)
             (crash_changed g.S.Store c.args.store.now w.add_table.new.store tables after command (table_change w.in-Some.made ∷ [])
             (λ up first holds. ((makes first holds.told).0, (made_is_held first c.args.creation.now w.in-Some.made (value_in g.S.Store c.args.store.now) tables (makes first holds.told) c.is_in_order.ensures.order holds).held, makes_table w.in-Some.made (value_in g.S.Store c.args.store.now)))
@@ -105,3 +110,18 @@ returns g c = record {
       ];
   live = search rules;
 }
+
+pub returns-in_err-made-clause-refused : goal.returns-in_err-made-clause-refused
+returns-in_err-made-clause-refused g c = λ contents held clean told. absurd (c.made_table.ensures.never (search rules))
+
+pub returns-in_err-add_table-clause-refused : goal.returns-in_err-add_table-clause-refused
+returns-in_err-add_table-clause-refused g c =
+    let old = c.args.store.now in
+    let tables = map shown_info c.args.tables.now.items in
+    let made : c.made_table.result ≡ Ok c.in_ok-made.made = search rules in
+    let makes : (contents : Contents) → tables ≡ map table_info contents → Makes contents c.args.creation.now (Ok (Some c.in-Some.made)) =
+    λ contents told. subst (λ o. Makes contents c.args.creation.now (Ok o)) c.in-Some.is
+    (subst (Makes contents c.args.creation.now) made (c.made_table.ensures.makes contents (ap (map shown_info) c.as_slice.ensures.value ∙ told))) in
+    done_blamed g.S.Store old old tables (creation_of c.args.creation.now) (no_look g.S.Store old) (λ clean is_open. is_open) c.add_table.new.store (table_change c.in-Some.made ∷ []) c.add_table.result c.add_table.ensures.makes
+    (λ up first holds. ((makes first holds.told).0, (made_is_held first c.args.creation.now c.in-Some.made (value_in g.S.Store old) tables (makes first holds.told) c.is_in_order.ensures.order holds).held, makes_table c.in-Some.made (value_in g.S.Store old)))
+    c.from_residual-in_err-add_table.result refl (λ _ _ _. behind _ _ _ _ [] (no_rewrites _ [])) (λ told. search rules) c.add_table.ensures.refused

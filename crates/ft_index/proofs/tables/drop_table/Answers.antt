@@ -19,7 +19,8 @@ use Rattle.ft_index.specs.Planned.{changes_of}
 use Rattle.ft_index.specs.Changed.{Changed, with_tables}
 use Rattle.ft_documents.proofs.FoundLemmas.{placed, unplaced}
 use Rattle.ft_index.proofs.TablePlans.{told_dropped, told_spared, drop_done}
-use Rattle.ft_index.proofs.Executing.{Reaches, reached, executes_unplanned, executes_refused, executes_planned}
+use Rattle.ft_index.specs.Kept.{Reaches}
+use Rattle.ft_index.proofs.Executing.{reached, executes_unplanned, executes_refused, executes_planned}
 use Rattle.sqlite.specs.State.{Survives}
 use Rattle.ft_store.specs.Kept.{shows}
 use Rattle.ft_index.proofs.Crashing.{CommitsRows, crash_changed}

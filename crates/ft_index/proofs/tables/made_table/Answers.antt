@@ -10,10 +10,12 @@ use Rattle.ft_content.specs.Views.{TableInfo, shown_info, option_of, names_in}
 use Rattle.ft_documents.specs.Found.{info_named}
 use Rattle.ft_documents.proofs.FoundLemmas.{found_is, unplaced, not_some}
 use Rattle.ft_index.proofs.KnownLemmas.{same_names, same_ids, create_due, is_named, none_named}
+use Rattle.ft_index.proofs.Blaming.{err_of}
+use Rattle.ft_index.proofs.NoStore.{created_other, names_as, some_contents}
 use Rattle.ft_index.proofs.tables.made_table.Goals as goal
 
-pub returns-in-Some : goal.returns-in-Some
-returns-in-Some c = λ contents told.
+pub returns-in-Some-clause-makes : goal.returns-in-Some-clause-makes
+returns-in-Some-clause-makes c = λ contents told.
     let t = c.args.creation.now in
     let table = string_bytes t.table in
     let module_name = string_bytes t.module in
@@ -23,8 +25,8 @@ returns-in-Some c = λ contents told.
     (sym c.in-Some.is ∙ c.create_fault.ensures contents (same_names c.args.tables.now contents told)
     ∙ ap (λ (v : List (String Global)). create_fault contents table module_name options (map string_bytes v) t.if_new) c.as_slice-2.ensures.value))
 
-pub returns-then-is_some : goal.returns-then-is_some
-returns-then-is_some c = λ contents told.
+pub returns-then-is_some-clause-makes : goal.returns-then-is_some-clause-makes
+returns-then-is_some-clause-makes c = λ contents told.
     let t = c.args.creation.now in
     let tables = c.args.tables.now in
     let table = string_bytes t.table in
@@ -41,8 +43,8 @@ returns-then-is_some c = λ contents told.
           ∙ ap is_some (sym placed) ∙ sym c.is_some.ensures ∙ c.if-is_some.true,
     )
 
-pub returns : goal.returns
-returns c = λ contents told.
+pub returns-clause-makes : goal.returns-clause-makes
+returns-clause-makes c = λ contents told.
     let t = c.args.creation.now in
     let tables = c.args.tables.now in
     let table = string_bytes t.table in
@@ -62,3 +64,10 @@ returns c = λ contents told.
         sound = refl;
       },
     )
+
+pub returns-in-Some-clause-never : goal.returns-in-Some-clause-never
+returns-in-Some-clause-never c = λ told.
+    let t = c.args.creation.now in
+    let tables = c.args.tables.now in
+    created_other (some_contents tables) (string_bytes t.table) (string_bytes t.module) (map option_of t.options.items) (map string_bytes c.as_slice-2.result.now) t.if_new
+    (sym (c.create_fault.ensures (some_contents tables) (names_as tables)) ∙ c.in-Some.is ∙ ap Some (err_of _ c.in-Some.fault refl told))

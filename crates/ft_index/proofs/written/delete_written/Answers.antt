@@ -13,12 +13,15 @@ use Rattle.ft_documents.proofs.BareLemmas.{reads_bare}
 use Rattle.ft_index.specs.declared.written.Written.{Written}
 use Rattle.ft_index.specs.Written.{Writes, WritesIn, LeadsTo}
 use Rattle.ft_index.proofs.DeleteWrites.{due, made, gone, is_write, leads, tested_due, text_due, none_due}
-use Rattle.ft_index.proofs.Planning.{plans_unfit, plans_failed, plans_do}
+use Rattle.ft_index.proofs.Planning.{plans_unfit, plans_failed, writes_do}
 use Rattle.ft_index.proofs.WholeReads.{rows_of, index_of}
+use Rattle.std.proofs.Common.{refl}
+use Rattle.ft_store.specs.Kept.{value_in}
+use Rattle.ft_index.proofs.Blaming.{over_sound, has_at}
 use Rattle.ft_index.proofs.written.delete_written.Goals as goal
 
-pub returns-in_err-table : goal.returns-in_err-table
-returns-in_err-table g c = record {
+pub returns-in_err-table-clause-looks : goal.returns-in_err-table-clause-looks
+returns-in_err-table-clause-looks g c = record {
   told =
       let deletion = c.args.deletion.now in
       let f = filter_of deletion.filter in
@@ -33,8 +36,8 @@ returns-in_err-table g c = record {
   live = search rules;
 }
 
-pub returns-in-Some : goal.returns-in-Some
-returns-in-Some g c = record {
+pub returns-in-Some-clause-looks : goal.returns-in-Some-clause-looks
+returns-in-Some-clause-looks g c = record {
   told =
       let deletion = c.args.deletion.now in
       let f = filter_of deletion.filter in
@@ -51,8 +54,8 @@ returns-in-Some g c = record {
   live = search rules;
 }
 
-pub returns-in_err-query : goal.returns-in_err-query
-returns-in_err-query g c = record {
+pub returns-in_err-query-clause-looks : goal.returns-in_err-query-clause-looks
+returns-in_err-query-clause-looks g c = record {
   told =
       let deletion = c.args.deletion.now in
       let f = filter_of deletion.filter in
@@ -71,8 +74,8 @@ returns-in_err-query g c = record {
   live = search rules;
 }
 
-pub returns-in_err-documents : goal.returns-in_err-documents
-returns-in_err-documents g c = record {
+pub returns-in_err-documents-clause-looks : goal.returns-in_err-documents-clause-looks
+returns-in_err-documents-clause-looks g c = record {
   told =
       let deletion = c.args.deletion.now in
       let f = filter_of deletion.filter in
@@ -87,8 +90,8 @@ returns-in_err-documents g c = record {
   live = search rules;
 }
 
-pub returns-in_err-rewrites : goal.returns-in_err-rewrites
-returns-in_err-rewrites g c = record {
+pub returns-in_err-rewrites-clause-looks : goal.returns-in_err-rewrites-clause-looks
+returns-in_err-rewrites-clause-looks g c = record {
   told =
       let deletion = c.args.deletion.now in
       let f = filter_of deletion.filter in
@@ -103,15 +106,15 @@ returns-in_err-rewrites g c = record {
   live = search rules;
 }
 
-pub returns : goal.returns
-returns g c = record {
-  told = λ changes of_written.
+pub returns-clause-looks : goal.returns-clause-looks
+returns-clause-looks g c = record {
+  told =
       let deletion = c.args.deletion.now in
       let f = filter_of deletion.filter in
       let name = string_bytes deletion.table in
       let info : RustTableInfo = c.in_ok-table.table.now in
       let named : IsSoundNamed (map shown_info c.args.tables.now) name (shown_info info) = subst (λ n. IsSoundNamed (map shown_info c.args.tables.now) n (shown_info info)) c.as_str.ensures.value c.in_ok-table.ensures in
-      plans_do g.S.Store (deletion_of deletion) name (due f) (made f) (gone f) (is_write f name) c.args.store.now c.chosen_documents.new.store (map shown_info c.args.tables.now) (shown_info info) c.is_in_order.ensures.order named c.in_ok-rewrites.rewrites changes (λ content has.
+      writes_do g.S.Store (deletion_of deletion) name (due f) (made f) (gone f) (is_write f name) c.args.store.now c.chosen_documents.new.store (map shown_info c.args.tables.now) (record { table = c.in_ok-table.table; rewrites = c.in_ok-rewrites.rewrites }) c.is_in_order.ensures.order named (λ content has.
       let cols = c.as_slice-columns.result.now in
       let columns_are : content.columns ≡ map column_of cols = has.columns_are ∙ ap (map column_of) (sym c.as_slice-columns.ensures.value) in
       let tested : delete_tests c.as_str-2.result.now (bare_content cols) f ≡ None = search rules in
@@ -126,7 +129,19 @@ returns g c = record {
       let found = c.in_ok-documents.ensures.looks.told content rows index here in (
         subst (λ n. due f n content ≡ None) c.as_str-2.ensures.value (none_due f content cols columns_are c.as_str-2.result.now tested fine),
         subst (LeadsTo content (made f content) (gone f content)) (sym (c.in_ok-rewrites.ensures ∙ ap (map removal) found)) (leads f (string_bytes info.name) content has.has.is_content),
-      )) of_written.0 of_written.1;
+      ));
   only = search rules;
   live = search rules;
 }
+
+pub returns-in_err-documents-clause-refused : goal.returns-in_err-documents-clause-refused
+returns-in_err-documents-clause-refused g c = λ contents held clean told.
+    let info : RustTableInfo = c.in_ok-table.table.now in
+    let f = filter_of c.args.deletion.now.filter in
+    let cols = c.as_slice-columns.result.now in
+    let over = over_sound (value_in g.S.Store c.args.store.now) (map shown_info c.args.tables.now) contents c.as_str.result.now (shown_info info) c.is_in_order.ensures.order held c.in_ok-table.ensures in
+    let columns_are : over.content.columns ≡ map column_of cols = over.columns_are ∙ ap (map column_of) (sym c.as_slice-columns.ensures.value) in
+    let reads : ReadsAs (bare_content cols) f (option_map tree_of c.in_ok-query.query) = search rules in
+    let shown : option_map (λ q. tree_of q.now) c.as_ref.result ≡ option_map tree_of c.in_ok-query.query = search rules in
+    let fits : FitsSigned w64 info.id = search rules in
+    c.chosen_documents.ensures.refused (string_bytes info.name) over.content (has_at refl (sym (to_z-of_z fits)) over.has) (subst (ReadsAs over.content f) (sym shown) (reads_bare over.content cols columns_are f (option_map tree_of c.in_ok-query.query) reads)) clean (search rules)

@@ -31,14 +31,16 @@ use Rattle.ft_documents.proofs.InsertRows.{given_is}
 use Rattle.ft_index.specs.declared.written.Written.{Written}
 use Rattle.ft_index.specs.Written.{HasAll, Writes, PlansTo, WritesIn}
 use Rattle.ft_index.proofs.LookLemmas.{looks_then, rows_first, rows_then, index_first}
-use Rattle.ft_index.proofs.Planning.{plans_unfit, plans_failed, plans_do}
+use Rattle.ft_index.proofs.Planning.{plans_unfit, plans_failed, writes_do}
 use Rattle.ft_index.proofs.WholeReads.{rows_of, index_of}
 use Rattle.ft_index.proofs.UpdateDue.{due, made, touches, is_write, repeats_due, tested_due, text_due, moves_due}
 use Rattle.ft_index.proofs.UpdateWrites.{docids_shown, leads}
+use Rattle.ft_index.proofs.Blaming.{err_of, over_sound, has_at}
+use Rattle.ft_index.proofs.NoStore.{moved_other}
 use Rattle.ft_index.proofs.written.update_written.Goals as goal
 
-pub returns-then-repeats_set : goal.returns-then-repeats_set
-returns-then-repeats_set g c = record {
+pub returns-then-repeats_set-clause-looks : goal.returns-then-repeats_set-clause-looks
+returns-then-repeats_set-clause-looks g c = record {
   told =
       subst (λ (command : Command). PlansTo g.S.Store (map shown_info c.args.tables.now) c.args.store.now c.args.store.now command (Err faults.DuplicateColumn)) (λ i. plain.Update (string_bytes c.args.modification.now.table) (map set_of (c.as_slice-sets.ensures.value i)) (filter_of c.args.modification.now.filter))
       (λ up contents held.
@@ -49,8 +51,8 @@ returns-then-repeats_set g c = record {
   live = search rules;
 }
 
-pub returns-in_err-table : goal.returns-in_err-table
-returns-in_err-table g c = record {
+pub returns-in_err-table-clause-looks : goal.returns-in_err-table-clause-looks
+returns-in_err-table-clause-looks g c = record {
   told =
       subst (λ (command : Command). WritesIn g.S.Store (map shown_info c.args.tables.now) c.args.store.now c.args.store.now command c.from_residual.result) (λ i. plain.Update (c.as_str.ensures.value i) (map set_of (c.as_slice-sets.ensures.value i)) (filter_of c.args.modification.now.filter))
       (
@@ -80,8 +82,8 @@ fails g w sets info tables old new order same apart text is named fault found fa
     subst (λ (x : Command). WritesIn g tables old new x found) (λ i. plain.Update name (map set_of (same i)) f)
     (plans_failed g (plain.Update name shown f) name (due shown f) (made shown f) (touches shown f) (is_write shown f name apart) old new tables (shown_info info) order (subst (λ n. IsSoundNamed tables n (shown_info info)) is named) fault found failed writes)
 
-pub returns-in-Some : goal.returns-in-Some
-returns-in-Some g c = record {
+pub returns-in-Some-clause-looks : goal.returns-in-Some-clause-looks
+returns-in-Some-clause-looks g c = record {
   told = fails g.S.Store c.args.modification.now c.as_slice-sets.result.now c.in_ok-table.table.now (map shown_info c.args.tables.now) c.args.store.now c.args.store.now c.is_in_order.ensures.order c.as_slice-sets.ensures.value (sym c.repeats_set.ensures ∙ c.if-repeats_set.false) _ c.as_str.ensures.value c.in_ok-table.ensures c.in-Some.fault (Err c.in-Some.fault) refl (λ content has.
       let sets = map set_of c.as_slice-sets.result.now in
       let f = filter_of c.args.modification.now.filter in
@@ -94,8 +96,8 @@ returns-in-Some g c = record {
   live = search rules;
 }
 
-pub returns-in_err-query : goal.returns-in_err-query
-returns-in_err-query g c = record {
+pub returns-in_err-query-clause-looks : goal.returns-in_err-query-clause-looks
+returns-in_err-query-clause-looks g c = record {
   told = fails g.S.Store c.args.modification.now c.as_slice-sets.result.now c.in_ok-table.table.now (map shown_info c.args.tables.now) c.args.store.now c.args.store.now c.is_in_order.ensures.order c.as_slice-sets.ensures.value (sym c.repeats_set.ensures ∙ c.if-repeats_set.false) _ c.as_str.ensures.value c.in_ok-table.ensures c.in_err-query.field-0.0 c.from_residual-in_err-query.result (search rules) (λ content has.
       let sets = map set_of c.as_slice-sets.result.now in
       let f = filter_of c.args.modification.now.filter in
@@ -110,32 +112,32 @@ returns-in_err-query g c = record {
   live = search rules;
 }
 
-pub returns-in_err-documents : goal.returns-in_err-documents
-returns-in_err-documents g c = record {
+pub returns-in_err-documents-clause-looks : goal.returns-in_err-documents-clause-looks
+returns-in_err-documents-clause-looks g c = record {
   told = fails g.S.Store c.args.modification.now c.as_slice-sets.result.now c.in_ok-table.table.now (map shown_info c.args.tables.now) c.args.store.now c.chosen_documents.new.store c.is_in_order.ensures.order c.as_slice-sets.ensures.value (sym c.repeats_set.ensures ∙ c.if-repeats_set.false) _ c.as_str.ensures.value c.in_ok-table.ensures c.in_err-documents.field-0.0 c.from_residual-in_err-documents.result (search rules) (λ content has.
       inl c.in_err-documents.ensures.looks.cause);
   only = search rules;
   live = search rules;
 }
 
-pub returns-in_err-docids : goal.returns-in_err-docids
-returns-in_err-docids g c = record {
+pub returns-in_err-docids-clause-looks : goal.returns-in_err-docids-clause-looks
+returns-in_err-docids-clause-looks g c = record {
   told = fails g.S.Store c.args.modification.now c.as_slice-sets.result.now c.in_ok-table.table.now (map shown_info c.args.tables.now) c.args.store.now c.chosen_documents.new.store c.is_in_order.ensures.order c.as_slice-sets.ensures.value (sym c.repeats_set.ensures ∙ c.if-repeats_set.false) _ c.as_str.ensures.value c.in_ok-table.ensures faults.Memory c.from_residual-in_err-docids.result (search rules) (λ content has.
       inl (inr refl));
   only = search rules;
   live = search rules;
 }
 
-pub returns-in_err-is_taken : goal.returns-in_err-is_taken
-returns-in_err-is_taken g c = record {
+pub returns-in_err-is_taken-clause-looks : goal.returns-in_err-is_taken-clause-looks
+returns-in_err-is_taken-clause-looks g c = record {
   told = fails g.S.Store c.args.modification.now c.as_slice-sets.result.now c.in_ok-table.table.now (map shown_info c.args.tables.now) c.args.store.now c.has_document.new.store c.is_in_order.ensures.order c.as_slice-sets.ensures.value (sym c.repeats_set.ensures ∙ c.if-repeats_set.false) _ c.as_str.ensures.value c.in_ok-table.ensures c.in_err-is_taken.field-0.0 c.from_residual-in_err-is_taken.result (search rules) (λ content has.
       inl c.in_err-is_taken.ensures.faults);
   only = looks_then g.S.Store c.args.store.now c.chosen_documents.new.store c.has_document.new.store c.in_ok-documents.ensures.looks.only c.has_document.ensures.looks c.in_ok-documents.ensures.looks.live;
   live = search rules;
 }
 
-pub returns-in-Some-moves_fault : goal.returns-in-Some-moves_fault
-returns-in-Some-moves_fault g c = record {
+pub returns-in-Some-moves_fault-clause-looks : goal.returns-in-Some-moves_fault-clause-looks
+returns-in-Some-moves_fault-clause-looks g c = record {
   told = fails g.S.Store c.args.modification.now c.as_slice-sets.result.now c.in_ok-table.table.now (map shown_info c.args.tables.now) c.args.store.now c.has_document.new.store c.is_in_order.ensures.order c.as_slice-sets.ensures.value (sym c.repeats_set.ensures ∙ c.if-repeats_set.false) _ c.as_str.ensures.value c.in_ok-table.ensures c.in-Some-moves_fault.fault (Err c.in-Some-moves_fault.fault) refl (λ content has.
       let sets = map set_of c.as_slice-sets.result.now in
       let f = filter_of c.args.modification.now.filter in
@@ -175,17 +177,17 @@ returns-in-Some-moves_fault g c = record {
   live = search rules;
 }
 
-pub returns-in_err-rewrites : goal.returns-in_err-rewrites
-returns-in_err-rewrites g c = record {
+pub returns-in_err-rewrites-clause-looks : goal.returns-in_err-rewrites-clause-looks
+returns-in_err-rewrites-clause-looks g c = record {
   told = fails g.S.Store c.args.modification.now c.as_slice-sets.result.now c.in_ok-table.table.now (map shown_info c.args.tables.now) c.args.store.now c.has_document.new.store c.is_in_order.ensures.order c.as_slice-sets.ensures.value (sym c.repeats_set.ensures ∙ c.if-repeats_set.false) _ c.as_str.ensures.value c.in_ok-table.ensures faults.Memory c.from_residual-in_err-rewrites.result (search rules) (λ content has.
       inl (inr refl));
   only = looks_then g.S.Store c.args.store.now c.chosen_documents.new.store c.has_document.new.store c.in_ok-documents.ensures.looks.only c.has_document.ensures.looks c.in_ok-documents.ensures.looks.live;
   live = search rules;
 }
 
-pub returns : goal.returns
-returns g c = record {
-  told = λ changes of_written.
+pub returns-clause-looks : goal.returns-clause-looks
+returns-clause-looks g c = record {
+  told =
       let modification = c.args.modification.now in
       let sets = map set_of c.as_slice-sets.result.now in
       let f = filter_of modification.filter in
@@ -195,8 +197,9 @@ returns g c = record {
       let named : IsSoundNamed tables name (shown_info info) = subst (λ n. IsSoundNamed tables n (shown_info info)) c.as_str.ensures.value c.in_ok-table.ensures in
       let apart = sym c.repeats_set.ensures ∙ c.if-repeats_set.false in
       let command = plain.Update name sets f in
-      subst (λ (x : Command). PlansTo g.S.Store tables c.args.store.now c.has_document.new.store x (Ok changes)) (λ i. plain.Update name (map set_of (c.as_slice-sets.ensures.value i)) f)
-      (plans_do g.S.Store command name (due sets f) (made sets f) (touches sets f) (is_write sets f name apart) c.args.store.now c.has_document.new.store tables (shown_info info) c.is_in_order.ensures.order named c.in_ok-rewrites.rewrites changes (λ content has.
+      let written : Written = record { table = c.in_ok-table.table; rewrites = c.in_ok-rewrites.rewrites } in
+      subst (λ (x : Command). WritesIn g.S.Store tables c.args.store.now c.has_document.new.store x (Ok written)) (λ i. plain.Update name (map set_of (c.as_slice-sets.ensures.value i)) f)
+      (writes_do g.S.Store command name (due sets f) (made sets f) (touches sets f) (is_write sets f name apart) c.args.store.now c.has_document.new.store tables written c.is_in_order.ensures.order named (λ content has.
       let cols = c.as_slice-columns.result.now in
       let columns_are : content.columns ≡ map column_of cols = has.columns_are ∙ ap (map column_of) (sym c.as_slice-columns.ensures.value) in
       let table = c.as_str-2.result.now in
@@ -234,7 +237,23 @@ returns g c = record {
       (subst (λ (cs : List Column). MayMove c.set_docid-given.result (map (changing sets cs) (map shown_document documents)) rewrites) (sym columns_are) c.in_ok-rewrites.ensures)) in (
         none,
         leads sets f (string_bytes info.name) content (docids_in sets) (chosen content f) rewrites (λ i. chosen content f) has.has.is_content stays (update_keeps_content (string_bytes info.name) content sets f has.has.is_content none) moves,
-      )) of_written.0 of_written.1);
+      )));
   only = looks_then g.S.Store c.args.store.now c.chosen_documents.new.store c.has_document.new.store c.in_ok-documents.ensures.looks.only c.has_document.ensures.looks c.in_ok-documents.ensures.looks.live;
   live = search rules;
 }
+
+pub returns-in_err-documents-clause-refused : goal.returns-in_err-documents-clause-refused
+returns-in_err-documents-clause-refused g c = λ contents held clean told.
+    let info : RustTableInfo = c.in_ok-table.table.now in
+    let f = filter_of c.args.modification.now.filter in
+    let cols = c.as_slice-columns.result.now in
+    let over = over_sound (value_in g.S.Store c.args.store.now) (map shown_info c.args.tables.now) contents c.as_str.result.now (shown_info info) c.is_in_order.ensures.order held c.in_ok-table.ensures in
+    let columns_are : over.content.columns ≡ map column_of cols = over.columns_are ∙ ap (map column_of) (sym c.as_slice-columns.ensures.value) in
+    let reads : ReadsAs (bare_content cols) f (option_map tree_of c.in_ok-query.query) = search rules in
+    let shown : option_map (λ q. tree_of q.now) c.as_ref.result ≡ option_map tree_of c.in_ok-query.query = search rules in
+    let fits : FitsSigned w64 info.id = search rules in
+    c.chosen_documents.ensures.refused (string_bytes info.name) over.content (has_at refl (sym (to_z-of_z fits)) over.has) (subst (ReadsAs over.content f) (sym shown) (reads_bare over.content cols columns_are f (option_map tree_of c.in_ok-query.query) reads)) clean (search rules)
+
+pub returns-in-Some-moves_fault-clause-refused : goal.returns-in-Some-moves_fault-clause-refused
+returns-in-Some-moves_fault-clause-refused g c = λ contents held clean told.
+    absurd (moved_other c.as_slice.result.now c.set_docid-given.result c.in_ok-is_taken.is_taken c.moves_fault.result c.moves_fault.ensures (c.in-Some-moves_fault.is ∙ ap Some (err_of _ c.in-Some-moves_fault.fault refl told)))

@@ -1,5 +1,5 @@
 -- the store is asked, and then the command is executed
-use Rattle.std.proofs.Common.{◌≡◌, Err, Result, map, rules, subst}
+use Rattle.std.proofs.Common.{◌≡◌, inl, inr, Err, Result, map, rules, sym, subst}
 use Rattle.std.specs.Prelude.{is_ok}
 use Rattle.ft_store.specs.Calls.{fault_of_read}
 use Rattle.ft_values.specs.declared.fault.Fault.{Fault}
@@ -9,15 +9,14 @@ use Rattle.ft_index.specs.Kept.{FullText, Executes}
 use Rattle.ft_index.specs.Crashes.{LeavesCommand}
 use Rattle.ft_index.specs.Changed.{with_tables}
 use Rattle.ft_index.specs.RowsRead.{CountsRows}
-use Rattle.ft_index.proofs.Pinging.{counts_nothing, counts_then, does_nothing, does_then, outside_of, ok_then}
-use Rattle.std.proofs.Common.{sym}
+use Rattle.ft_index.specs.Kept.{AreHeld}
+use Rattle.ft_index.proofs.Acting.{looks_up}
 use Rattle.sqlite.specs.Effect.{Database}
-use Rattle.ft_store.specs.Blame.{AreTableTexts}
-use Rattle.ft_store.specs.Kept.{shows}
-use Rattle.ft_store.specs.declared.fault.StoreFault.TheVariants as causes
 use Rattle.ft_store.specs.Rows.{value_of as rows_of}
-use Rattle.ft_store.proofs.BlameLemmas.{blamed_then}
-use Rattle.ft_index.proofs.Pinging.{is_refused, clean_before}
+use Rattle.ft_index.specs.Refused.{CantDo}
+use Rattle.ft_index.proofs.Blaming.{store_answer, store_blamed, then_either}
+use Rattle.ft_index.proofs.Pinging.{pinged, counts_nothing, counts_then, does_nothing, does_then, outside_of, ok_then}
+use Rattle.ft_store.specs.Kept.{shows}
 use Rattle.ft_index.proofs.full_text.FullText.execute.Goals as goal
 
 pub returns-in-Err : goal.returns-in-Err
@@ -39,10 +38,7 @@ returns-in-Err g c =
       });
       counts = subst (λ (k : FullText g.row.S.Denot). CountsRows g.S.Store k command (answer_of answer) new) c.self.view_is
           (counts_nothing g.S.Store old mid _ c.ping.ensures tables command answer (fault_of_read c.in-Err.fault) is);
-      refused = λ only texts clean told.
-          let why = is_refused c.in-Err.fault answer is (search rules) told in
-          let refused : c.ping.result ≡ Err causes.Refused = search rules in
-          rw (sym c.self.view_is) (c.ping.ensures.refused clean refused);
+      refused = rw (sym c.self.view_is) (λ clean told. inl (store_blamed (shows g.S.Store old) (shows g.S.Store mid) c.in-Err.fault c.ping.result answer (search rules) (search rules) is c.ping.ensures.refused clean (store_answer answer told)));
     }
 
 pub returns : goal.returns
@@ -52,6 +48,7 @@ returns g c =
     let tables = map shown_info c.self.inside.tables.items in
     let command = command_of c.args.command.now in
     let done = c.execute_command-result in
+    let looks = pinged g.S.Store old mid _ c.ping.ensures in
     let new = with_tables done.new.store (map shown_info done.new.tables.items) in
     let does = does_then g.S.Store old mid _ c.ping.ensures c.in_default.ensures.live tables new command done.result done.ensures.does in
     record {
@@ -63,9 +60,10 @@ returns g c =
       });
       counts = subst (λ (k : FullText g.row.S.Denot). CountsRows g.S.Store k command (answer_of done.result) new) c.self.view_is
           (counts_then g.S.Store old mid _ c.ping.ensures c.in_default.ensures.live tables new command done.result done.ensures.does done.ensures.counts);
-      refused = λ only texts clean told.
-          let mid_clean = clean_before (shows g.S.Store mid) (shows g.S.Store done.new.store) done.ensures.does.crash clean in
-          let same = (c.ping.ensures.kept mid_clean (c.in_default.ensures.live mid_clean)).0 in
-          rw (sym c.self.view_is) (blamed_then (shows g.S.Store old) (shows g.S.Store mid) (shows g.S.Store done.new.store) _ _ mid_clean c.ping.ensures.survives done.ensures.does.crash
-          (done.ensures.refused only (subst (λ (d : Database). AreTableTexts (rows_of d.trees)) (sym same) (rw (← c.self.view_is) at texts)) clean told));
+      refused = rw (sym c.self.view_is) (λ clean told. then_either g.S.Store old mid done.new.store looks (λ middle _. c.in_default.ensures.live middle) done.ensures.does.crash clean (λ middle is_open same.
+          let held = c.self.invariant (looks_up g.S.Store old mid tables tables looks (record { clean = middle; is_open = is_open })) in
+          elim (done.ensures.refused held.0 (subst (λ (d : Database). AreHeld (rows_of d.trees) tables held.0) (sym same) held.1) clean (store_answer done.result told)) [
+            | inl blamed ↦ inl blamed
+            | inr cant ↦ inr (held.0, held.1, subst (λ (d : Database). CantDo held.0 command (rows_of d.trees) d.trees) same cant)
+          ]));
     }

@@ -1,11 +1,15 @@
 -- the rows of one term
-use Rattle.std.proofs.Common.{ℤ, ◌+◌, ◌-◌, ◌^◌, min, w64, SFits, to_z-of_z, ◌&&◌, map, sym, ap, ◌∙◌, rules}
+use Rattle.std.proofs.Common.{◌≡◌, ◌⊎◌, true, subst, ℤ, ◌+◌, ◌-◌, ◌^◌, min, w64, SFits, to_z-of_z, ◌&&◌, map, sym, ap, ◌∙◌, rules}
 use Rattle.std.specs.Prelude.{bytes_eq}
 use Rattle.std.specs.Ordering.{int_eq, is_eq}
 use Rattle.ft_query.specs.Documents.{plain_list, lists_with}
 use Rattle.ft_rows.specs.Store.{name_cmp}
 use Rattle.ft_index.specs.Walked.{table_documents}
 use Rattle.ft_documents.proofs.AskedLemmas.{rows_count}
+use Rattle.sqlite.specs.State.{HasCleanDisk}
+use Rattle.ft_store.specs.Blame.{IsBlamed}
+use Rattle.ft_store.specs.Kept.{shows, value_in}
+use Rattle.ft_index.proofs.Blaming.{none_damaged, read_failed}
 use Rattle.ft_index.proofs.WalkedLemmas.{still_reliable, walk_answer, asks_term}
 use Rattle.ft_index.proofs.table_lists.TableListsLists.word.Goals as goal
 
@@ -39,6 +43,23 @@ returns-in_err-answered-in-Ok-clause-clean g c reliable =
 
 pub returns-in-Err-clause-clean : goal.returns-in-Err-clause-clean
 returns-in-Err-clause-clean g c reliable =
-    let same = c.refused.ensures in
+    let same = c.refused.ensures.noted in
     let stays = still_reliable g.S.Store c.args.self.now.tab c.args.self.now.store.now c.term_lists.new.self c.in-Err.ensures.read.kept c.in-Err.ensures.read.survives (rw same at reliable) in
     (stays.0, ap (λ l. table_documents g.S.Store l.tab l.store.now) same ∙ stays.1)
+
+pub returns-in-Err-clause-becomes : goal.returns-in-Err-clause-becomes
+returns-in-Err-clause-becomes g c =
+    let same = c.refused.ensures.noted in
+    let tab : ℤ = c.args.self.now.tab in
+    let fits : SFits w64 c.args.self.now.tab = search rules in (
+      search rules,
+      search rules,
+      search rules,
+      λ clean name content is index has.
+          let read = c.term_lists.ensures in
+          let whole = none_damaged tab (value_in g.S.Store c.args.self.now.store.now) content (λ k. int_eq tab k.0 && is_eq (name_cmp c.args.term.now k.1)) (λ k. bytes_eq k.1 c.args.term.now) (asks_term tab c.args.term.now) index in
+          let now = ap (λ l. l.store.now) same in
+          subst (λ s. (c.args.self.now.has_failed ≡ true) ⊎ IsBlamed (shows g.S.Store c.args.self.now.store.now) (shows g.S.Store s)) (sym now)
+          (read_failed g.S.Store c.args.self.now.store.now c.term_lists.new.self c.in-Err.fault c.term_lists.result _ c.args.self.now.has_failed c.refused.new.self.has_failed (search rules) (search rules) read.refused
+          (simp (to_z-of_z, fits) at read.damaged) whole c.refused.ensures.memory (subst (λ s. HasCleanDisk (shows g.S.Store s)) now clean) has),
+    )

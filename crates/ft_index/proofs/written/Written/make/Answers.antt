@@ -9,7 +9,9 @@ use Rattle.ft_values.specs.declared.fault.Fault.TheVariants as faults
 use Rattle.ft_content.specs.Views.{column_of}
 use Rattle.ft_index.specs.Changed.{MakesRows}
 use Rattle.ft_index.specs.Written.{first_parts, MakesWritten}
-use Rattle.ft_index.proofs.GroupLemmas.{parts_of, parts_behind, of_groups, makes_nothing}
+use Rattle.ft_index.proofs.GroupLemmas.{parts_of, parts_behind, of_groups, own_groups, makes_nothing}
+use Rattle.ft_index.proofs.Blaming.{made_blamed}
+use Rattle.ft_index.specs.Refused.{BlamesMade}
 use Rattle.ft_index.proofs.written.Written.make.Goals as goal
 
 pub returns-in_err-groups : goal.returns-in_err-groups
@@ -26,7 +28,10 @@ returns-in_err-change_parts g c =
     record {
       changes = changes_in parts;
       of_written = of_groups c.args.self groups (ap (flat_map vec_items) c.into_iter.ensures.rest ∙ c.in_ok-groups.ensures.whole);
+      own = own_groups c.args.self groups (ap (flat_map vec_items) c.into_iter.ensures.rest ∙ c.in_ok-groups.ensures.whole);
       makes = subst (λ (cs : List Change). MakesRows g.S.Store c.args.store.now c.change_parts.new.self cs c.from_residual-in_err-change_parts.result) (parts_behind c.args.first parts) makes;
+      refused = subst (BlamesMade g.S.Store c.args.store.now c.change_parts.new.self c.from_residual-in_err-change_parts.result) (parts_behind c.args.first parts)
+          (made_blamed g.S.Store c.args.store.now c.change_parts.new.self (changes_in (first_parts c.args.first ++ parts)) c.in_err-change_parts.field-0.0 c.change_parts.result c.from_residual-in_err-change_parts.result (search rules) (search rules) (search rules) (search rules));
     }
 
 pub returns : goal.returns
@@ -38,5 +43,7 @@ returns g c =
     record {
       changes = changes_in parts;
       of_written = of_groups c.args.self groups (ap (flat_map vec_items) c.into_iter.ensures.rest ∙ c.in_ok-groups.ensures.whole);
+      own = own_groups c.args.self groups (ap (flat_map vec_items) c.into_iter.ensures.rest ∙ c.in_ok-groups.ensures.whole);
       makes = subst (λ (cs : List Change). MakesRows g.S.Store c.args.store.now c.change_parts.new.self cs (Ok (tt {0}))) (parts_behind c.args.first parts) makes;
+      refused = λ clean told. absurd (let no = told in cc);
     }

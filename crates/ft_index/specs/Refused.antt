@@ -1,0 +1,88 @@
+-- Meaning. Why a call over tables is answered `Store`. All of it is our own choice.
+use Rattle.std.specs.Prelude.{◌≡◌, ◌⊎◌, ℕ, List, ◌∷◌, ℤ, Result, Err, All, IsSome, IsTrue}
+use Rattle.std.specs.List.{flat_map}
+use Rattle.std.specs.Ordering.{int_cmp}
+use Rattle.std.specs.FinMap.Entries.{find}
+use Rattle.sqlite.specs.State.{HasCleanDisk}
+use Rattle.sqlite.specs.Store.{Ghosts}
+use Rattle.sqlite.specs.Tree.{Trees}
+use Rattle.ft_rows.specs.Store.{StoreValue, Change, AddTable}
+use Rattle.ft_store.specs.Blame.{IsBlamed}
+use Rattle.ft_store.specs.Kept.{StoreState, shows, value_in}
+use Rattle.ft_store.specs.Parts.{CanMake}
+use Rattle.ft_store.specs.Puts.{CantPutAll}
+use Rattle.ft_values.specs.declared.fault.Fault.{Fault}
+use Rattle.ft_values.specs.declared.fault.Fault.TheVariants as faults
+use Rattle.ft_content.specs.Command.{Command, Reply}
+use Rattle.ft_content.specs.Content.{Content}
+use Rattle.ft_content.specs.Views.{TableInfo}
+use Rattle.ft_content.specs.Deserved.{Contents}
+use Rattle.ft_documents.specs.Rewrite.{Rewrite, AreOf, HasContent}
+use Rattle.ft_documents.specs.RewriteRows.{rewrite_changes}
+use Rattle.ft_index.specs.Kept.{FullText, AreHeld, Holds, Reaches, BlamesStore, puts_rows, value_of}
+
+-- ---- calls that read at most
+
+-- a call that reads nothing is never answered so
+abbrev pub NeverStore : {X : Type 0} → Result X Fault → Type 0
+NeverStore result = result ≡ Err faults.Store → ⊥
+
+-- Where a table has a content of which this holds, a call is answered so only for what lies outside
+-- the store.
+abbrev pub BlamesIn : {S X : Type 0} → Ghosts S → ℤ → StoreState S → StoreState S → Result X Fault → (Content → Type 0) → Type 0
+BlamesIn g tab old new result Asked = (name : List ℕ) (content : Content) → HasContent name content tab (value_in g old) → Asked content
+    → BlamesStore (shows g old) (shows g new) result
+
+-- the same where the store holds contents, and these are its tables
+abbrev pub BlamesOver : {S X : Type 0} → Ghosts S → List TableInfo → StoreState S → StoreState S → Result X Fault → Type 0
+BlamesOver g tables old new result = (contents : Contents) → AreHeld (value_in g old) tables contents → BlamesStore (shows g old) (shows g new) result
+
+-- a content has a document of each of these docids
+abbrev pub AreThere : Content → List ℤ → Type 0
+AreThere content docids = All (λ docid. IsSome (find int_cmp docid content.documents)) docids
+
+-- ---- commands that put rows
+
+-- Row changes that follow from documents of one table which are written anew, each of them once: its
+-- rows that differ, and those of its index.
+pub record AreRewrites (tab : ℤ) (changes : List Change) : Type 0 where
+  pub content : Content
+  pub groups : List (List Rewrite)
+  pub are_of : AreOf content (flat_map (λ group. group) groups)
+  pub are : changes ≡ flat_map (rewrite_changes tab content.columns) groups
+
+-- the same, perhaps after the table is made
+pub data AreOwn : List Change → Type 0 where
+  alone : (tab : ℤ) (changes : List Change) → AreRewrites tab changes → AreOwn changes
+  behind : (tab : ℤ) (name : List ℕ) (columns : List (List ℕ)) (skipped : List ℤ) (changes : List Change) → AreRewrites tab changes
+      → AreOwn (AddTable tab name columns skipped ∷ changes)
+
+-- row changes can't be put over these trees, or a list of places among them can't be packed
+abbrev pub CantMake : Trees → List Change → Type 0
+CantMake db changes = CantPutAll db changes ⊎ ¬ All CanMake changes
+
+-- Row changes can't be made that a command comes to: they are of documents which are written anew,
+-- and lead to what it leaves.
+pub record CantDo (contents : Contents) (command : Command) (store : StoreValue) (db : Trees) : Type 0 where
+  pub puts : IsTrue (puts_rows command)
+  pub changes : List Change
+  pub own : AreOwn changes
+  pub reaches : Reaches contents command store changes
+  pub cant : CantMake db changes
+
+-- why a call that makes changes is answered so
+abbrev pub BlamesMade : {S X : Type 0} → Ghosts S → StoreState S → StoreState S → Result X Fault → List Change → Type 0
+BlamesMade g old new result changes = HasCleanDisk (shows g new) → result ≡ Err faults.Store
+    → IsBlamed (shows g old) (shows g new) ⊎ CantMake (shows g old).now.trees changes
+
+-- why a command is, where the store holds contents, and these are its tables
+abbrev pub BlamesDone : {S X : Type 0} → Ghosts S → List TableInfo → StoreState S → Command → StoreState S → Result X Fault → Type 0
+BlamesDone g tables old command new result = (contents : Contents) → AreHeld (value_in g old) tables contents → HasCleanDisk (shows g new)
+    → result ≡ Err faults.Store → IsBlamed (shows g old) (shows g new) ⊎ CantDo contents command (value_in g old) (shows g old).now.trees
+
+-- A command is answered `Store` only for what lies outside the store, or since the row changes that
+-- it comes to can't be put over what the store held before. One that puts no rows has the first
+-- cause alone.
+abbrev pub BlamesCommand : {S : Type 0} → Ghosts S → FullText S → Command → Result Reply Fault → FullText S → Type 0
+BlamesCommand g old command answer new = HasCleanDisk (shows g new.store) → answer ≡ Err faults.Store → IsBlamed (shows g old.store) (shows g new.store)
+    ⊎ ((contents : Contents) × Holds g old contents × CantDo contents command (value_of g old) (shows g old.store).now.trees)
