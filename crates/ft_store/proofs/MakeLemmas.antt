@@ -39,6 +39,7 @@ use Rattle.ft_store.proofs.ChangeLemmas.{inserts, cast_null, cast_int}
 use Rattle.sqlite_keyed.proofs.ListLemmas.{all-append, all_both}
 use Rattle.ft_store.specs.Tables.{store_schema, meta_table, tab_table, col_table, cell_table, posting_table, sizes_table, noted_table, skip_table}
 use Rattle.ft_store.proofs.Texts.{make_meta_text, make_tab_text, make_col_text, make_cell_text, make_posting_text, make_sizes_text, make_noted_text, make_skip_text, mark_text}
+use Rattle.ft_store.specs.Anew.{HasFirst}
 use Rattle.ft_store.specs.Made.{first_tables, IsAllowed, IsEmptyOf, IsUnmarked, Makes, MakesNext}
 use Rattle.ft_store.proofs.StepLemmas.{shaped_after, same_rows}
 use Rattle.std.specs.Borrow.{MutBor}
@@ -476,10 +477,10 @@ module _ {S : Type 0} (g : Ghosts S) (a b c : MutBor (Held S)) (n : ℕ) (so : M
     live = λ clean inside was some. (then it clean inside was).2.is_open;
   }
 
-  pub made_blamed : {X : Type 0} (result : Result X StoreFault) → StaysUncommitted g b c result → BlamesIn g b.now c.now result (IsEmptyOf (first_tables n)) → BlamesIn g a.now c.now result (IsEmptyOf no_schema)
+  pub made_blamed : {X : Type 0} (result : Result X StoreFault) → StaysUncommitted g b c result → BlamesIn g b.now c.now result (HasFirst n) → BlamesIn g a.now c.now result (IsEmptyOf no_schema)
   made_blamed result stays blames clean inside was is =
       let before : HasCleanDisk (state g b.now) = omega (arith, stays.survives.clean, clean) in
-      blamed_then (state g a.now) (state g b.now) (state g c.now) _ _ before so.stays.survives stays.survives (blames clean (so.inside before inside was) (λ is_open. (so.seen before inside was is_open).0) is)
+      blamed_then (state g a.now) (state g b.now) (state g c.now) _ _ before so.stays.survives stays.survives (blames clean (so.inside before inside was) (λ is_open. let it = (so.seen before inside was is_open).0 in record { schema = it.schema; sound = it.sound }) is)
 
 -- all of them
 pub all_made : {S : Type 0} (g : Ghosts S) (a b : MutBor (Held S)) (n : ℕ) → 8 ≤ n → Making g a b n → MakesInside g a b (Ok tt) (IsEmptyOf no_schema) (λ _ new. IsUnmarked new × (value_of new.trees ≡ nothing_held))

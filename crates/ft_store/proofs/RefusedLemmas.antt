@@ -51,7 +51,7 @@ use Rattle.ft_store.proofs.AskedLemmas.{is_statement, IsTyped, table_limited}
 
 -- ---- any statement
 
-fails_unless : (old new : State) (e : Error) (TooBig Why : Type 0) → (IsBlamed old new → Why) → (TooBig → Why) → e ≢ SqliteFailure code.OutOfMemory → Fails old new TooBig e → Why
+pub fails_unless : (old new : State) (e : Error) (TooBig Why : Type 0) → (IsBlamed old new → Why) → (TooBig → Why) → e ≢ SqliteFailure code.OutOfMemory → Fails old new TooBig e → Why
 fails_unless old new e TooBig Why blamed big other h = go h.0 h.1 h.2
   where
     go : (cause : StoreError) → e ≡ store_error cause → HasCause old new TooBig cause → Why

@@ -31,7 +31,7 @@ at_least_zero-lt (pos m) (pos n) h = omega (arith, ints, h)
 at_least_zero-lt (pos m) (negsuc n) h = absurd (omega (arith, ints, h))
 at_least_zero-lt (negsuc m) n h = omega arith
 
-ids_rise : (a b : Row) → IsInt a → IsInt b → value_cmp (rowid a) (rowid b) ≡ Less → id_in (rowid a) <ℤ id_in (rowid b)
+pub ids_rise : (a b : Row) → IsInt a → IsInt b → value_cmp (rowid a) (rowid b) ≡ Less → id_in (rowid a) <ℤ id_in (rowid b)
 ids_rise a b p q h = lt_from_Less _ _ (sym (value_cmp-Int _ _) ∙ (λ i. value_cmp (sym (int_is _ p) i) (sym (int_is _ q) i)) ∙ h)
 
 -- the last number of what is left is no higher

@@ -144,3 +144,50 @@ unmark_text = codes "DELETE FROM meta"
 
 abbrev pub version_text : List ℕ
 version_text = codes "SELECT version FROM meta"
+
+-- ---- tables that are made anew
+
+abbrev pub drop_cell_table : List ℕ
+drop_cell_table = codes "DROP TABLE cell"
+
+abbrev pub drop_posting_table : List ℕ
+drop_posting_table = codes "DROP TABLE posting"
+
+abbrev pub drop_sizes_table : List ℕ
+drop_sizes_table = codes "DROP TABLE sizes"
+
+abbrev pub drop_noted_table : List ℕ
+drop_noted_table = codes "DROP TABLE noted"
+
+abbrev pub drop_skip_table : List ℕ
+drop_skip_table = codes "DROP TABLE skip"
+
+abbrev pub blank_text : List ℕ
+blank_text = codes ""
+
+abbrev pub cells_below_text : List ℕ
+cells_below_text = codes "SELECT tab FROM cell WHERE tab < ?1 ORDER BY tab, docid, col LIMIT 1"
+
+abbrev pub cells_above_text : List ℕ
+cells_above_text = codes "SELECT tab FROM cell WHERE tab > ?1 ORDER BY tab, docid, col LIMIT 1"
+
+abbrev pub lists_below_text : List ℕ
+lists_below_text = codes "SELECT tab FROM posting WHERE tab < ?1 ORDER BY tab, term, docid LIMIT 1"
+
+abbrev pub lists_above_text : List ℕ
+lists_above_text = codes "SELECT tab FROM posting WHERE tab > ?1 ORDER BY tab, term, docid LIMIT 1"
+
+abbrev pub sizes_below_text : List ℕ
+sizes_below_text = codes "SELECT tab FROM sizes WHERE tab < ?1 ORDER BY tab, docid, col LIMIT 1"
+
+abbrev pub sizes_above_text : List ℕ
+sizes_above_text = codes "SELECT tab FROM sizes WHERE tab > ?1 ORDER BY tab, docid, col LIMIT 1"
+
+abbrev pub any_skip_text : List ℕ
+any_skip_text = codes "SELECT tab FROM skip WHERE ?1 = 1 ORDER BY tab, col LIMIT 1"
+
+abbrev pub low_note_text : List ℕ
+low_note_text = codes "SELECT rowid FROM noted WHERE rowid < ?1 ORDER BY rowid LIMIT 1"
+
+abbrev pub many_lists_text : List ℕ
+many_lists_text = codes "SELECT tab FROM posting WHERE tab = ?1 ORDER BY tab, term, docid LIMIT 1 OFFSET 200"

@@ -1,5 +1,6 @@
 -- Meaning
 pub mod Adopted
+pub mod Anew
 pub mod Blame
 pub mod Calls
 pub mod Docids

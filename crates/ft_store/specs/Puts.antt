@@ -134,6 +134,21 @@ RefusesAdd g old new result sql params =
     → (e : Error) × (e ≢ SqliteFailure code.OutOfMemory) × ((rule : Constraint) → e ≢ SqliteFailure (code.ConstraintViolation rule))
     × ExecutesInside 0 sql params (state g old) (state g new) (Err e)
 
+-- the tables whose rowids the database gives keep their rows, but for one
+abbrev pub KeepsRest : ℕ → Trees → Trees → Type 0
+KeepsRest tree old new = AllByRecursion (λ t. t ≢ tree → new t ≡ old t) chosen_trees
+
+-- so does a call in a transaction of a store, or in an open one, that is answered Ok
+abbrev pub KeepsRestOnOk : {S X : Type 0} → Ghosts S → Held S → Held S → Result X StoreFault → ℕ → Type 0
+KeepsRestOnOk g old new result tree =
+    HasCleanDisk (state g new) → IsTrue (state g old).in_transaction → (IsTrue (state g old).is_open → IsStore (state g old).now)
+    → OnOk result (KeepsRest tree (state g old).now.trees (state g new).now.trees)
+
+abbrev pub KeepsRestIfOpen : {S X : Type 0} → Ghosts S → Held S → Held S → Result X StoreFault → ℕ → Type 0
+KeepsRestIfOpen g old new result tree =
+    HasCleanDisk (state g new) → IsTrue (state g old).in_transaction → IsTrue (state g old).is_open → IsStore (state g old).now
+    → OnOk result (KeepsRest tree (state g old).now.trees (state g new).now.trees)
+
 -- a list that is added is too big
 abbrev pub IsBigEntry : Entry → Type 0
 IsBigEntry e = IsTooBig 5 (length e.0.1 + length e.1)

@@ -2,6 +2,7 @@
 #![tactic(auto)]
 
 mod adopt;
+mod clear;
 mod examine;
 mod expected;
 mod fault;

@@ -9,6 +9,7 @@ ghost use Rattle.ft_store.specs.Settled.{IsSettled, IsBare, IsEmptyStore, Finds,
 ghost use Rattle.ft_store.specs.Made.{first_tables, IsEmptyOf, IsUnmarked, MakesNext};
 ghost use Rattle.ft_store.specs.Inside.{MakesInside};
 ghost use Rattle.ft_store.specs.Blame.{Blames, BlamesIn};
+ghost use Rattle.ft_store.specs.Anew.{HasFirst, AddsNext};
 
 use crate::fault::StoreFault;
 use crate::sql::{
@@ -37,12 +38,13 @@ fn table_text(at: usize) -> &'static str
 }
 
 /// A table of a store, where those before it were made.
-fn create<S: Alter>(tx: &mut Transaction<'_, S>, at: usize) -> Result<(), StoreFault>
+pub(crate) fn create<S: Alter>(tx: &mut Transaction<'_, S>, at: usize) -> Result<(), StoreFault>
     requires { at < 8 }
     ensures done { MakesInside S.Store tx.old.conn tx.new.conn result (IsEmptyOf (first_tables at))
         (λ _ new. IsEmptyOf (first_tables (at + 1)) new) }
-    ensures refused { BlamesIn S.Store tx.old.conn.now tx.new.conn.now result
-        (IsEmptyOf (first_tables at)) }
+    ensures adds { MakesInside S.Store tx.old.conn tx.new.conn result (HasFirst at)
+        (AddsNext at) }
+    ensures refused { BlamesIn S.Store tx.old.conn.now tx.new.conn.now result (HasFirst at) }
 {
     run(tx, table_text(at), &[])
 }

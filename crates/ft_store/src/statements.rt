@@ -12,7 +12,7 @@ ghost use Rattle.ft_rows.specs.Packed.{spots_in};
 ghost use Rattle.ft_rows.specs.Store.{cell_key_cmp, list_key_cmp, column_key_cmp, name_cmp};
 ghost use Rattle.ft_values.specs.Cells.{shown_value};
 ghost use Rattle.ft_store.specs.Blame.{RefusesRun, BlamesOutside};
-ghost use Rattle.ft_store.specs.Puts.{IsFull, IsTooBig, IsBigEntry, GrowsOnOk, GrowsIfAdded, BlamesRows, RefusesAdd};
+ghost use Rattle.ft_store.specs.Puts.{IsFull, IsTooBig, IsBigEntry, GrowsOnOk, GrowsIfAdded, KeepsRestOnOk, BlamesRows, RefusesAdd};
 ghost use Rattle.ft_store.specs.Rows.{cell_in, num_of, txt_of};
 ghost use Rattle.ft_store.specs.Inside.{DoneInside, StepsInside, RunsOnOk, RunsOrKeeps, without_name, without_columns, without_skips, without_contents, without_lists, without_sizes};
 ghost use Rattle.ft_store.specs.Groups.{Entry, entry_values, with_entries, GoesOnOk};
@@ -342,6 +342,7 @@ pub(crate) fn put_note<S: Alter>(tx: &mut Transaction<'_, S>, name: &str) -> Res
     ensures done { StepsInside S.Store tx.old.conn tx.new.conn result
         (λ v. record v { noted = put name_cmp (without_case name.now) name.now v.noted }) }
     ensures grown { GrowsOnOk S.Store tx.old.conn.now tx.new.conn.now result 1 }
+    ensures others { KeepsRestOnOk S.Store tx.old.conn.now tx.new.conn.now result 11 }
     ensures refused { BlamesRows S.Store tx.old.conn.now tx.new.conn.now result
         (λ db. IsFull 1 (db 11) ⊎ IsTooBig 2 (length name.now)) }
 {

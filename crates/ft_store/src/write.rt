@@ -19,12 +19,12 @@ ghost use Rattle.ft_store.specs.Puts.{IsFull, IsTooBig, rows_of, CantPut, CantPu
 ghost use Rattle.ft_store.specs.Rows.{value_of};
 ghost use Rattle.ft_store.specs.Parts.{changes_in, CanMake};
 
+use crate::clear::{clear_documents, clear_index};
 use crate::fault::StoreFault;
 use crate::parts::Parts;
 use crate::statements::{
-    add_lists, beside, drop_cells, drop_columns, drop_contents, drop_list, drop_lists, drop_name,
-    drop_size, drop_sizes, drop_skips, put_cell, put_column, put_list, put_note, put_size,
-    put_skip, run,
+    add_lists, beside, drop_cells, drop_columns, drop_list, drop_name, drop_size, drop_skips,
+    put_cell, put_column, put_list, put_note, put_size, put_skip, run,
 };
 use ft_rows::{can_pack, pack};
 use ft_values::{RowChange, Spot, Value};
@@ -56,28 +56,6 @@ fn put_entries<S: Alter>(
     put_list(tx, tab, term, docid, list.as_slice())
 }
 
-/// Takes all index rows of a table out.
-fn clear_index<S: Alter>(tx: &mut Transaction<'_, S>, tab: i64) -> Result<(), StoreFault>
-    ensures done { StepsInside S.Store tx.old.conn tx.new.conn result
-        (λ v. without_index tab v) }
-    ensures grown { GrowsOnOk S.Store tx.old.conn.now tx.new.conn.now result 0 }
-    ensures refused { BlamesOutside S.Store tx.old.conn.now tx.new.conn.now result }
-{
-    drop_lists(tx, tab)?;
-    drop_sizes(tx, tab)
-}
-
-/// Takes the documents of a table out, with its index rows.
-fn clear_documents<S: Alter>(tx: &mut Transaction<'_, S>, tab: i64) -> Result<(), StoreFault>
-    ensures done { StepsInside S.Store tx.old.conn tx.new.conn result
-        (λ v. without_contents tab (without_index tab v)) }
-    ensures grown { GrowsOnOk S.Store tx.old.conn.now tx.new.conn.now result 0 }
-    ensures refused { BlamesOutside S.Store tx.old.conn.now tx.new.conn.now result }
-{
-    clear_index(tx, tab)?;
-    drop_contents(tx, tab)
-}
-
 /// Takes the columns of a table out.
 fn clear_columns<S: Alter>(tx: &mut Transaction<'_, S>, tab: i64) -> Result<(), StoreFault>
     ensures done { StepsInside S.Store tx.old.conn tx.new.conn result
@@ -96,8 +74,8 @@ fn clear_rows<S: Alter>(tx: &mut Transaction<'_, S>, tab: i64) -> Result<(), Sto
     ensures grown { GrowsOnOk S.Store tx.old.conn.now tx.new.conn.now result 0 }
     ensures refused { BlamesOutside S.Store tx.old.conn.now tx.new.conn.now result }
 {
-    clear_documents(tx, tab)?;
     clear_columns(tx, tab)?;
+    clear_documents(tx, tab)?;
     drop_name(tx, tab)
 }
 

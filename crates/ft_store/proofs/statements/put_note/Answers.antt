@@ -19,6 +19,7 @@ use Rattle.sqlite.specs.declared.types.Value.TheVariants.{Text}
 use Rattle.sqlite_value.specs.Keys.{without_case}
 use Rattle.std.proofs.Common.{Ok, [], arith, ℕ, ◌∷◌}
 use Rattle.std.proofs.lemmas.Result.{on_ok_weaker}
+use Rattle.ft_store.proofs.NoteLemmas.{drop_note_keeps, add_note_keeps, rest_then}
 use Rattle.ft_store.proofs.statements.put_note.Goals as goal
 
 pub returns-clause-done : goal.returns-clause-done
@@ -69,3 +70,16 @@ returns-clause-refused g c = λ clean inside kept is.
       | inr (inl full) ↦ inr (inl (full_since 0 1 (old.now.trees 11) (mid.now.trees 11) (drop_note_grown c.args.name.now old mid gone.0 store gone.1.0).1.1.1.1.0 full))
       | inr (inr big) ↦ inr (inr big)
     ]
+
+pub returns-clause-others : goal.returns-clause-others
+returns-clause-others g c = λ clean inside kept.
+    let old = state g.S.Store c.args.tx.now.conn.now in
+    let mid = state g.S.Store c.run.new.tx.conn.now in
+    let new = state g.S.Store c.run-2.new.tx.conn.now in
+    let clean_1 : HasCleanDisk mid = omega (arith, c.run-2.ensures.done.stays.survives.clean) in
+    let gone : (count : ℕ) × ExecutesInside 0 drop_note_text (Text c.args.name.now ∷ []) old mid (Ok count) = (rw c.to_sql.ensures at c.in_ok-run.ensures.done.steps) clean_1 inside in
+    let store = kept gone.1.1.was_open in
+    let one = does_drop_note old mid store gone.1.1 c.args.name.now gone.0 gone.1.0 in
+    on_ok_weaker c.run-2.result (λ (ran : (count : ℕ) × ExecutesInside 0 add_note_text (Text c.args.name.now ∷ []) mid new (Ok count)).
+    rest_then old.now.trees mid.now.trees new.now.trees (drop_note_keeps c.args.name.now old mid gone.0 store gone.1.0) (add_note_keeps c.args.name.now mid new ran.0 one.store ran.1.0))
+    ((rw c.to_sql-2.ensures at c.run-2.ensures.done.steps) clean one.shown.mode)

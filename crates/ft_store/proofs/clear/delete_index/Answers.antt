@@ -2,7 +2,7 @@ use Rattle.std.proofs.Common.{to_z-of_z}
 use Rattle.ft_store.specs.Inside.{without_lists, without_sizes}
 use Rattle.ft_store.proofs.CantLemmas.{grows_then}
 use Rattle.ft_store.proofs.InsideLemmas.{inside_then, blames_then}
-use Rattle.ft_store.proofs.write.clear_index.Goals as goal
+use Rattle.ft_store.proofs.clear.delete_index.Goals as goal
 
 pub returns-clause-done : goal.returns-clause-done
 returns-clause-done g c =
