@@ -2,9 +2,9 @@
 use Rattle.std.specs.Prelude.{ℕ, ◌≡◌, ◌⊎◌, ◌<◌, ◌≤◌, ◌^◌, true, List, length, Option, None, Result, Vec, IfSome, IfOk, IfErr}
 use Rattle.std.specs.declared.io.ErrorKind.{ErrorKind}
 use Rattle.std.specs.declared.io.ErrorKind.TheVariants as kind
-use Rattle.plain_shell.specs.declared.source.SourceFault.{SourceFault}
-use Rattle.plain_shell.specs.declared.source.SourceFault.TheVariants as fault
-use Rattle.plain_shell.specs.Sources.{Files}
+use Rattle.shell_io.specs.declared.source.SourceFault.{SourceFault}
+use Rattle.shell_io.specs.declared.source.SourceFault.TheVariants as fault
+use Rattle.shell_io.specs.Sources.{Files}
 
 -- nothing is known of the files of the system
 abbrev pub unknown_files : Files

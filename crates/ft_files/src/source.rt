@@ -5,7 +5,7 @@ ghost use Rattle.ft_files.specs.Reading as forms;
 ghost use Rattle.std.specs.Prelude.{◌≡◌};
 ghost use Rattle.std.specs.IoError.{error_kind};
 
-use plain_shell::{Source, SourceFault};
+use shell_io::{Source, SourceFault};
 use std::alloc::Global;
 use std::fs;
 use std::io::{self, ErrorKind, Read};

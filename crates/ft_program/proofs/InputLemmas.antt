@@ -4,8 +4,8 @@ use Rattle.std.specs.Prelude.{MatchBool, MatchResult, if◌then◌else◌, ◌==
 use Rattle.std.proofs.lemmas.Bool.Decides.{nat_tests}
 use Rattle.std.proofs.lemmas.List.{drop_all, drop_more}
 use Rattle.sqlite.specs.Store.{Ghosts}
-use Rattle.plain_shell.specs.declared.run.Status.{Status}
-use Rattle.plain_shell.specs.declared.run.RunFault.{RunFault}
+use Rattle.shell_io.specs.declared.run.Status.{Status}
+use Rattle.shell_io.specs.declared.run.RunFault.{RunFault}
 use Rattle.ft_shell.specs.Shell.{Parts}
 use Rattle.ft_shell.specs.Effects.{Effects, idle, and_then}
 use Rattle.ft_shell.specs.Promise.{IsClean, Ran, AllRan, PromiseKept, KeptByRuns, none_ran, last_ran, first_ran, read_by}
@@ -21,8 +21,8 @@ use Rattle.ft_index.specs.Kept.{FullText, Holds, IsUp}
 use Rattle.ft_index.specs.Crashes.{IsSettled}
 use Rattle.ft_index.proofs.Calls.{clean_before}
 use Rattle.ft_index.specs.Opened.{Opens}
-use Rattle.plain_shell.specs.Writing.{AppendsUpTo, Sends}
-use Rattle.plain_shell.proofs.WriteLemmas.{up_to_part, up_to_whole}
+use Rattle.shell_io.specs.Writing.{AppendsUpTo, Sends}
+use Rattle.shell_io.proofs.WriteLemmas.{up_to_part, up_to_whole}
 use Rattle.ft_program.specs.Inputs.{AreRead, Closes, EndsAs, InTurn, Outputs, RunsAndKeeps, RunsInTurn, RunsOne, RunsOver, Stage, WritesOwn, console, due, exit_status}
 
 module _ {P S : Type 0} (g : Ghosts P) (h : Ghosts S) where

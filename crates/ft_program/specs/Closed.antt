@@ -12,7 +12,7 @@ use Rattle.shell_text.specs.Print.{Settings}
 use Rattle.ft_store.specs.Calls.{IsStored}
 use Rattle.ft_store.specs.Kept.{StoreState, value_in}
 use Rattle.ft_index.specs.DocumentsRead.{Looks}
-use Rattle.plain_shell.specs.Writing.{AppendsUpTo}
+use Rattle.shell_io.specs.Writing.{AppendsUpTo}
 use Rattle.ft_shell.specs.Shell.{Parts}
 use Rattle.ft_files.specs.declared.databases.OpenFault.TheVariants as opening
 use Rattle.ft_files.specs.Hosts.{IsLeft, IsRefusedClose}

@@ -12,15 +12,15 @@ use Rattle.ft_index.specs.Crashes.{IsSettled}
 use Rattle.ft_index.specs.Opened.{Opens}
 use Rattle.ft_content.specs.Deserved.{Contents}
 use Rattle.std.specs.Fmt.{signed_decimal}
-use Rattle.plain_shell.specs.declared.run.Outputs.{Outputs as RustOutputs}
-use Rattle.plain_shell.specs.declared.run.Status.{Status}
-use Rattle.plain_shell.specs.declared.run.RunFault.{RunFault}
-use Rattle.plain_shell.specs.declared.run.RunFault.TheVariants as causes
+use Rattle.shell_io.specs.declared.run.Outputs.{Outputs as RustOutputs}
+use Rattle.shell_io.specs.declared.run.Status.{Status}
+use Rattle.shell_io.specs.declared.run.RunFault.{RunFault}
+use Rattle.shell_io.specs.declared.run.RunFault.TheVariants as causes
 use Rattle.ft_shell.specs.Shell.{Parts, shell_with}
 use Rattle.ft_shell.specs.Effects.{Effects, idle, and_then}
 use Rattle.ft_shell.specs.Runs.{Console}
 use Rattle.ft_shell.specs.Promise.{IsClean, Ran, AllRan, PromiseKept}
-use Rattle.plain_shell.specs.Writing.{AppendsUpTo}
+use Rattle.shell_io.specs.Writing.{AppendsUpTo}
 use Rattle.ft_files.specs.declared.databases.OpenFault.{OpenFault}
 use Rattle.ft_files.specs.declared.databases.OpenFault.TheVariants as opening
 use Rattle.ft_files.specs.Reading.{unknown_files}

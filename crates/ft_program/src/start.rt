@@ -2,7 +2,7 @@
 
 ghost use Rattle.std.specs.Prelude.{◌≡◌, ◌&&◌, false, is_ok, map, Some, string_bytes};
 ghost use Rattle.sqlite.specs.Files.{over_files};
-ghost use Rattle.plain_shell.specs.Writing.{AppendsUpTo, SameWriters, Sends};
+ghost use Rattle.shell_io.specs.Writing.{AppendsUpTo, SameWriters, Sends};
 ghost use Rattle.ft_files.specs.declared.databases.OpenFault.TheVariants as opening;
 ghost use Rattle.ft_files.specs.Hosts.{IsLeft, empty_image};
 ghost use Rattle.ft_program.specs.Closed.{IsStoreLeft, RunsOn, TellsClose};

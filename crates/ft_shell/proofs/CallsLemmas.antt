@@ -14,28 +14,28 @@ use Rattle.ft_index.specs.Called.{Call, Looked, Noted, DoesCall, Runs}
 use Rattle.ft_statements.specs.Words.{tokens_of}
 use Rattle.ft_statements.specs.Plain.{asks, made_name}
 use Rattle.ft_shell.specs.Shell.{Shell}
-use Rattle.plain_shell.specs.Outcomes.{Answer, blames, lacks_memory}
+use Rattle.shell_io.specs.Outcomes.{Answer, blames, lacks_memory}
 use Rattle.ft_shell.specs.Effects.{Effects, and_then}
 use Rattle.ft_content.specs.Command.{Insert}
 use Rattle.ft_statements.specs.Dots.{DotCommand, Import, Nothing, SetMode, SetHeaders, SetSeparator, SetNull, SetEcho, SetBail, Print, Importing, Tables, Quit, Usage, Unknown, dot_command_of}
 use Rattle.ft_shell.specs.DotTurns.{DotTurn}
-use Rattle.plain_shell.specs.DotParts.{after_stop}
+use Rattle.ft_shell.specs.DotParts.{after_stop}
 use Rattle.ft_shell.specs.FullTextTurns.{MaybeNotes, NoteTurn}
-use Rattle.plain_shell.specs.Imports.{delimiter_of, row_cells}
-use Rattle.plain_shell.specs.Records.{warnings}
+use Rattle.plain_sql.specs.Imports.{delimiter_of, row_cells}
+use Rattle.shell_io.specs.Records.{warnings}
 use Rattle.ft_shell.specs.ImportTurns.{BytesTurn, DelimitedTurn, FileTurn, IntoNamed, IntoNew, PlainImport, TextImport, columns_in, executed, no_memory, no_header, too_wide, declined, there, new_table, untried, read, no_text, fetched, unfetched}
-use Rattle.plain_shell.specs.Records.{kept, records_in}
-use Rattle.plain_shell.specs.Sources.{fetch_words}
+use Rattle.shell_io.specs.Records.{kept, records_in}
+use Rattle.shell_io.specs.Sources.{fetch_words}
 use Rattle.ft_shell.specs.TablesTurns.{TablesTurn}
 use Rattle.ft_shell.specs.ImportTurns as imports
 use Rattle.ft_shell.specs.TablesTurns as tables
 use Rattle.ft_shell.specs.PlainTurns.{CommandTurn, PlainTurn, done, refused}
-use Rattle.plain_shell.specs.PlainStatements.{QueryTurn}
+use Rattle.plain_sql.specs.PlainStatements.{QueryTurn}
 use Rattle.ft_statements.specs.Statements.{Class, Plain, FullText as FullTextClass, class_of}
 use Rattle.ft_shell.specs.StatementTurns.{ClassTurn, Declines, StatementTurn, table_names}
 use Rattle.ft_shell.specs.TurnCalls.{bytes_in, class_in, closed_in, command_in, delimited_in, dot_in, file_in, named_in, new_in, note_in, plain_in, statement_in, table_in, tables_in, text_in}
 use Rattle.ft_shell.proofs.Spelled.{MayNote, MayRead, NoCall, CallsOf, CallsOfClass, CallsOfDot, CallsOfImport, HasRecords, OneCommand}
-use Rattle.plain_shell.specs.Sources.{Files, Gives}
+use Rattle.shell_io.specs.Sources.{Files, Gives}
 use Rattle.ft_shell.specs.Turns.{Body, Turn, Turns, calls_in}
 
 -- ---- calls

@@ -11,8 +11,8 @@ use Rattle.ft_statements.specs.Words.{tokens_of}
 use Rattle.ft_statements.specs.Texts.{statement_text}
 use Rattle.ft_statements.specs.declared.statement.StatementFault.{StatementFault}
 use Rattle.ft_statements.specs.declared.statement.StatementFault.TheVariants as faults
-use Rattle.plain_shell.specs.Outcomes.{Answer, blames}
-use Rattle.plain_shell.specs.FaultWords.{lex_words}
+use Rattle.shell_io.specs.Outcomes.{Answer, blames}
+use Rattle.shell_io.specs.FaultWords.{lex_words}
 use Rattle.ft_shell.specs.PlainTurns.{OrNothing}
 use Rattle.ft_shell.specs.StatementTurns.{ClassTurn, Declines, StatementTurn}
 use Rattle.ft_values.specs.declared.table.TableInfo.{TableInfo as RustTableInfo}

@@ -9,9 +9,9 @@ use Rattle.ft_statements.specs.declared.dots.DotCommand.TheVariants as commands
 use Rattle.ft_statements.specs.declared.dots.Import.{Import}
 use Rattle.ft_statements.specs.Dots as forms
 use Rattle.ft_statements.specs.DotViews.{command_as}
-use Rattle.plain_shell.specs.DotParts.{Sets}
-use Rattle.plain_shell.specs.Sources.{Files}
-use Rattle.plain_shell.specs.Outcomes.{Answer, lacks_memory}
+use Rattle.ft_shell.specs.DotParts.{Sets}
+use Rattle.shell_io.specs.Sources.{Files}
+use Rattle.shell_io.specs.Outcomes.{Answer, lacks_memory}
 use Rattle.ft_shell.specs.DotTurns.{OnlySets}
 use Rattle.ft_shell.specs.Shell.{shell_of}
 use Rattle.ft_shell.specs.Turns.{DotOrLacks}

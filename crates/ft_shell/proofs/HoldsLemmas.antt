@@ -4,10 +4,10 @@ use Rattle.std.specs.Prelude.{ℕ, MatchBool}
 use Rattle.sqlite.specs.Store.{Ghosts}
 use Rattle.shell_text.specs.Units.{Member, Sql, Dot, Fault, members_of}
 use Rattle.shell_text.specs.Dot.{dot_words_of}
-use Rattle.plain_shell.specs.declared.run.Status.{Status}
-use Rattle.plain_shell.specs.declared.run.RunFault.{RunFault}
-use Rattle.plain_shell.specs.DotParts.{after_stop}
-use Rattle.plain_shell.specs.Outcomes.{Answer}
+use Rattle.shell_io.specs.declared.run.Status.{Status}
+use Rattle.shell_io.specs.declared.run.RunFault.{RunFault}
+use Rattle.ft_shell.specs.DotParts.{after_stop}
+use Rattle.shell_io.specs.Outcomes.{Answer}
 use Rattle.ft_statements.specs.Dots.{DotCommand, Nothing, SetMode, SetHeaders, SetSeparator, SetNull, SetEcho, SetBail, Print, Importing, Tables, Quit, Usage, Unknown, dot_command_of}
 use Rattle.ft_shell.specs.Shell.{Shell}
 use Rattle.ft_shell.specs.Effects.{Effects, and_then}

@@ -7,18 +7,18 @@ use Rattle.shell_text.specs.declared.records.RecordFault.TheVariants as records
 use Rattle.ft_values.specs.declared.fault.Fault.{Fault}
 use Rattle.ft_values.specs.declared.fault.Fault.TheVariants as faults
 use Rattle.ft_statements.specs.Texts.{fault_text}
-use Rattle.plain_shell.specs.FaultWords.{record_words}
+use Rattle.shell_io.specs.FaultWords.{record_words}
 use Rattle.sqlite.specs.Store.{Ghosts}
 use Rattle.sqlite.specs.Held.{Held, state}
 use Rattle.ft_index.specs.Kept.{FullText}
 use Rattle.ft_statements.specs.Dots.{Import}
-use Rattle.plain_shell.specs.declared.plain_import.ImportFault.{ImportFault}
-use Rattle.plain_shell.specs.declared.plain_import.ImportFault.TheVariants.{Refused, Memory}
-use Rattle.plain_shell.specs.IntoTables.{fault_words}
-use Rattle.plain_shell.specs.PlainImports.{CommitsNothing, import_steps, Declines}
-use Rattle.plain_shell.specs.PlainStatements.{IfClean}
-use Rattle.plain_shell.specs.Records.{records_in}
-use Rattle.plain_shell.specs.Outcomes.{Answer, Tells, blames}
+use Rattle.plain_sql.specs.declared.plain_import.ImportFault.{ImportFault}
+use Rattle.plain_sql.specs.declared.plain_import.ImportFault.TheVariants.{Refused, Memory}
+use Rattle.plain_sql.specs.IntoTables.{fault_words}
+use Rattle.plain_sql.specs.PlainImports.{CommitsNothing, import_steps, Declines}
+use Rattle.plain_sql.specs.PlainStatements.{IfClean}
+use Rattle.shell_io.specs.Records.{records_in}
+use Rattle.shell_io.specs.Outcomes.{Answer, Tells, blames}
 use Rattle.ft_shell.specs.ImportTurns as imports
 use Rattle.ft_shell.specs.ImportTurns.{BytesTurn, IntoNew, declined, no_memory}
 

@@ -7,8 +7,8 @@ use Rattle.shell_text.specs.Print.{Settings}
 use Rattle.ft_index.specs.Kept.{FullText}
 use Rattle.ft_statements.specs.Plain.{asks, made_name}
 use Rattle.ft_statements.specs.Words.{tokens_of}
-use Rattle.plain_shell.specs.PlainStatements.{QueryTurn}
-use Rattle.plain_shell.specs.Outcomes.{Answer}
+use Rattle.plain_sql.specs.PlainStatements.{QueryTurn}
+use Rattle.shell_io.specs.Outcomes.{Answer}
 use Rattle.ft_shell.specs.PlainTurns.{CommandTurn, PlainTurn}
 
 pub asks_turn : {P S : Type 0} (g : Ghosts P) (h : Ghosts S) (settings : Settings) (text : List ℕ) (old new : Held P) (before : FullText S) (told : Answer) →

@@ -18,17 +18,17 @@ use Rattle.ft_statements.specs.Words.{tokens_of}
 use Rattle.ft_statements.specs.Statements.{Class, Plain, FullText as FullTextClass, class_of}
 use Rattle.ft_statements.specs.Dots.{DotCommand, Import, Nothing, SetMode, SetHeaders, SetSeparator, SetNull, SetEcho, SetBail, Print, Importing, Tables, Quit, Usage, Unknown, dot_command_of}
 use Rattle.ft_statements.specs.Replies.{reply_text}
-use Rattle.plain_shell.specs.declared.run.Status.{Status}
-use Rattle.plain_shell.specs.declared.run.RunFault.{RunFault}
+use Rattle.shell_io.specs.declared.run.Status.{Status}
+use Rattle.shell_io.specs.declared.run.RunFault.{RunFault}
 use Rattle.ft_shell.specs.Shell.{Parts, Shell}
-use Rattle.plain_shell.specs.Imports.{row_cells}
+use Rattle.plain_sql.specs.Imports.{row_cells}
 use Rattle.ft_shell.specs.ImportTurns.{columns_in}
-use Rattle.plain_shell.specs.Records.{kept, records_in}
+use Rattle.shell_io.specs.Records.{kept, records_in}
 use Rattle.ft_shell.specs.FullTextTurns.{answer_of_reply}
 use Rattle.ft_shell.specs.StatementTurns.{table_names}
-use Rattle.plain_shell.specs.Outcomes.{Answer, Outcome, Tells, says, echoed, lacks_memory, outcome_of}
+use Rattle.shell_io.specs.Outcomes.{Answer, Outcome, Tells, says, echoed, lacks_memory, outcome_of}
 use Rattle.ft_shell.specs.Effects.{Effects, idle, and_then, outcome_in}
-use Rattle.plain_shell.specs.DotParts.{after_stop}
+use Rattle.ft_shell.specs.DotParts.{after_stop}
 use Rattle.ft_shell.proofs.Spelled.{MayNote, MayRead, CallsOf, CallsOfClass, CallsOfDot, CallsOfImport}
 use Rattle.ft_shell.specs.Turns.{Begins, Turn, Turns}
 use Rattle.ft_shell.specs.Ran.{Ends}
@@ -38,7 +38,7 @@ use Rattle.ft_shell.specs.Promise.{IsClean, Ran, AllRan, none_ran, last_ran, fir
 use Rattle.ft_shell.proofs.CallsLemmas.{runs_join, turn_spelled, turns_made}
 use Rattle.ft_shell.proofs.TurnsLemmas.{assoc_then, idle_then, turns_one, turns_then}
 use Rattle.ft_shell.specs.Broken.{Broken, not_begun, not_echoed, not_told}
-use Rattle.plain_shell.specs.Sources.{Files}
+use Rattle.shell_io.specs.Sources.{Files}
 use Rattle.ft_statements.specs.Plain.{made_name}
 
 -- ---- calls

@@ -7,17 +7,17 @@ use Rattle.shell_text.specs.declared.units.UnitKind.{UnitKind}
 use Rattle.shell_text.specs.declared.units.UnitKind.TheVariants as kinds
 use Rattle.shell_text.specs.Units.{Member}
 use Rattle.shell_text.specs.Splitting.{member_as}
-use Rattle.plain_shell.specs.declared.run.RunFault.{RunFault}
-use Rattle.plain_shell.specs.declared.run.RunFault.TheVariants as causes
+use Rattle.shell_io.specs.declared.run.RunFault.{RunFault}
+use Rattle.shell_io.specs.declared.run.RunFault.TheVariants as causes
 use Rattle.ft_shell.specs.Shell.{Shell}
-use Rattle.plain_shell.specs.Outcomes.{Answer, echo_text, echoed, outcome_of}
+use Rattle.shell_io.specs.Outcomes.{Answer, echo_text, echoed, outcome_of}
 use Rattle.ft_shell.specs.Effects.{Effects, effects_of, idle, and_then}
 use Rattle.ft_shell.specs.Turns.{Body, Turn, calls_in, echo_of}
 use Rattle.ft_shell.specs.Broken.{Broken, not_begun, not_echoed, not_told}
 use Rattle.shell_text.specs.Print.{Settings}
-use Rattle.plain_shell.specs.Writing.{AppendsUpTo, Sends}
+use Rattle.shell_io.specs.Writing.{AppendsUpTo, Sends}
 use Rattle.ft_shell.specs.Ran.{Moment, Did, Cut, Passes, Breaks, Runs}
-use Rattle.plain_shell.proofs.WriteLemmas.{appends_then, appends_same}
+use Rattle.shell_io.proofs.WriteLemmas.{appends_then, appends_same}
 use Rattle.ft_shell.proofs.TurnsLemmas.{assoc_then, turns_then, turns_one}
 
 -- ---- turns of members

@@ -6,17 +6,17 @@ use Rattle.std.proofs.Math.Seq.{take-append-add, take-append_seam, drop-append_s
 use Rattle.sqlite.specs.Store.{Ghosts}
 use Rattle.shell_text.specs.Units.{Member, ended_members, lines_of, members_from, members_of, start}
 use Rattle.shell_text.specs.Splitting.{given_by}
-use Rattle.plain_shell.specs.declared.run.Status.{Status}
-use Rattle.plain_shell.specs.declared.run.RunFault.{RunFault}
-use Rattle.plain_shell.specs.declared.run.RunFault.TheVariants as causes
+use Rattle.shell_io.specs.declared.run.Status.{Status}
+use Rattle.shell_io.specs.declared.run.RunFault.{RunFault}
+use Rattle.shell_io.specs.declared.run.RunFault.TheVariants as causes
 use Rattle.ft_shell.specs.Shell.{Shell}
 use Rattle.ft_shell.specs.Effects.{Effects}
 use Rattle.ft_shell.specs.Turns.{Turns, Session, Begins}
-use Rattle.plain_shell.specs.LinesRead.{HasNoEnd, LinesRead, Way, at_end, behind, members_left}
+use Rattle.shell_io.specs.LinesRead.{HasNoEnd, LinesRead, Way, at_end, behind, members_left}
 use Rattle.ft_shell.specs.Ran.{Moment, Did, Passes, Breaks, Ends, IsInside}
 use Rattle.ft_shell.specs.Runs.{Console, EndedDone, IsWhole, IsFront, Completes, Stops}
-use Rattle.plain_shell.proofs.LineReaderLemmas.{none_left}
-use Rattle.plain_shell.proofs.WriteLemmas.{appends_kept}
+use Rattle.shell_io.proofs.LineReaderLemmas.{none_left}
+use Rattle.shell_io.proofs.WriteLemmas.{appends_kept}
 use Rattle.ft_shell.proofs.TurnsLemmas.{turns_ended}
 use Rattle.ft_shell.proofs.RanLemmas.{breaks_after, breaks_none, breaks_then, passes_as, passes_none, passes_then}
 

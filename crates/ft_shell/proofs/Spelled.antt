@@ -16,15 +16,15 @@ use Rattle.ft_statements.specs.Statements.{Class, Plain, FullText, class_of}
 use Rattle.ft_statements.specs.Dots.{DotCommand, Import, Importing, Tables, dot_command_of}
 use Rattle.ft_statements.specs.Plain.{made_name}
 use Rattle.ft_shell.specs.Shell.{Shell}
-use Rattle.plain_shell.specs.Sources.{Files, Gives}
-use Rattle.plain_shell.specs.Imports.{delimiter_of, row_cells}
-use Rattle.plain_shell.specs.Records.{warnings}
+use Rattle.shell_io.specs.Sources.{Files, Gives}
+use Rattle.plain_sql.specs.Imports.{delimiter_of, row_cells}
+use Rattle.shell_io.specs.Records.{warnings}
 use Rattle.ft_shell.specs.FullTextTurns.{answer_of_reply}
 use Rattle.ft_shell.specs.StatementTurns.{table_names}
 use Rattle.ft_shell.specs.ImportTurns.{columns_in, answer_of_insert}
-use Rattle.plain_shell.specs.Records.{kept, records_in}
-use Rattle.plain_shell.specs.DotParts.{after_stop}
-use Rattle.plain_shell.specs.Outcomes.{Answer, Tells, blames}
+use Rattle.shell_io.specs.Records.{kept, records_in}
+use Rattle.ft_shell.specs.DotParts.{after_stop}
+use Rattle.shell_io.specs.Outcomes.{Answer, Tells, blames}
 
 -- nothing is called, or the table that is made, if one may be, is noted once
 abbrev pub MayNote : Option (List ℕ) → List Call → Type 0

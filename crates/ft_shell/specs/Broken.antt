@@ -3,12 +3,12 @@ use Rattle.std.specs.Prelude.{ℕ, ◌≡◌, false, List, [], ◌∷◌, ◌++�
 use Rattle.std.specs.Io.KnownBytes.{Appends}
 use Rattle.sqlite.specs.Store.{Ghosts}
 use Rattle.shell_text.specs.Units.{Member}
-use Rattle.plain_shell.specs.declared.run.RunFault.{RunFault}
-use Rattle.plain_shell.specs.declared.run.RunFault.TheVariants as causes
+use Rattle.shell_io.specs.declared.run.RunFault.{RunFault}
+use Rattle.shell_io.specs.declared.run.RunFault.TheVariants as causes
 use Rattle.ft_shell.specs.Shell.{Shell}
 use Rattle.ft_shell.specs.Effects.{Effects, and_then}
 use Rattle.ft_shell.specs.Turns.{Turn, echo_of}
-use Rattle.plain_shell.specs.Writing.{AppendsUpTo}
+use Rattle.shell_io.specs.Writing.{AppendsUpTo}
 
 -- Some turns were done, and all that they have to say was written; then a run is cut short, with
 -- this member next. It gives what was done in all. Only a refused write stops within a turn: the

@@ -9,8 +9,8 @@ use Rattle.ft_statements.specs.Dots.{Importing, Tables, Quit, Usage, Unknown}
 use Rattle.ft_statements.specs.Settings.{print_text}
 use Rattle.ft_shell.specs.TablesTurns.{TablesTurn}
 use Rattle.ft_shell.specs.ImportTurns.{ImportTurn}
-use Rattle.plain_shell.specs.DotParts.{Sets}
-use Rattle.plain_shell.specs.Outcomes.{Answer, says, blames, quits}
+use Rattle.ft_shell.specs.DotParts.{Sets}
+use Rattle.shell_io.specs.Outcomes.{Answer, says, blames, quits}
 
 module _ {P S : Type 0} (g : Ghosts P) (h : Ghosts S) (old new : Shell P S) (answer : Answer) where
   -- nothing is done, and this is the answer

@@ -2,7 +2,7 @@
 -- choice).
 use Rattle.std.specs.Prelude.{ℕ, Bool, false, List, [], ◌++◌, ◌+◌}
 use Rattle.ft_index.specs.Called.{Call}
-use Rattle.plain_shell.specs.Outcomes.{Outcome}
+use Rattle.shell_io.specs.Outcomes.{Outcome}
 
 -- what one or more turns write, and the calls that they make of the full-text tables
 pub record Effects : Type 0 where

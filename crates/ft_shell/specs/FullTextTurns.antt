@@ -9,7 +9,7 @@ use Rattle.ft_index.specs.Kept.{FullText}
 use Rattle.ft_index.specs.Called.{DoesCall, Executed, Noted}
 use Rattle.ft_statements.specs.Texts.{fault_text}
 use Rattle.ft_statements.specs.Replies.{reply_text}
-use Rattle.plain_shell.specs.Outcomes.{Answer, says, warned, blames, complains, Tells}
+use Rattle.shell_io.specs.Outcomes.{Answer, says, warned, blames, complains, Tells}
 
 -- what is printed of a reply, or the fault
 abbrev pub answer_of_reply : Settings → Result Reply Fault → Answer

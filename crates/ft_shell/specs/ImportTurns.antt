@@ -16,15 +16,15 @@ use Rattle.ft_index.specs.Kept.{FullText}
 use Rattle.ft_index.specs.Called.{DoesCall, Executed}
 use Rattle.ft_statements.specs.Dots.{Import}
 use Rattle.ft_shell.specs.FullTextTurns.{NoteTurn}
-use Rattle.plain_shell.specs.Imports.{delimiter_of, row_cells}
-use Rattle.plain_shell.specs.IntoTables.{IsLeft, IntoTable}
-use Rattle.plain_shell.specs.PlainImports.{import_steps, CommitsAll, Declines}
-use Rattle.plain_shell.specs.Records.{kept, records_in, warnings}
-use Rattle.plain_shell.specs.Sources.{Files, Gives, Refuses, fetch_words}
-use Rattle.plain_shell.specs.declared.source.SourceFault.{SourceFault}
-use Rattle.plain_shell.specs.Listings.{Tries}
+use Rattle.plain_sql.specs.Imports.{delimiter_of, row_cells}
+use Rattle.plain_sql.specs.IntoTables.{IsLeft, IntoTable}
+use Rattle.plain_sql.specs.PlainImports.{import_steps, CommitsAll, Declines}
+use Rattle.shell_io.specs.Records.{kept, records_in, warnings}
+use Rattle.shell_io.specs.Sources.{Files, Gives, Refuses, fetch_words}
+use Rattle.shell_io.specs.declared.source.SourceFault.{SourceFault}
+use Rattle.plain_sql.specs.Listings.{Tries}
 use Rattle.ft_statements.specs.Texts.{fault_text}
-use Rattle.plain_shell.specs.Outcomes.{Answer, blames, lacks_memory, warned}
+use Rattle.shell_io.specs.Outcomes.{Answer, blames, lacks_memory, warned}
 
 -- the number of columns of the first table that has this name, if one has
 abbrev pub columns_in : List TableInfo → List ℕ → Option ℕ

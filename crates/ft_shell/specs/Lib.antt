@@ -2,6 +2,7 @@
 pub mod Shell
 pub mod Effects
 pub mod Broken
+pub mod DotParts
 pub mod FullTextTurns
 pub mod PlainTurns
 pub mod StatementTurns

@@ -9,8 +9,8 @@ use Rattle.shell_text.specs.Print.{Settings}
 use Rattle.ft_index.specs.Kept.{FullText}
 use Rattle.ft_statements.specs.Plain.{asks, made_name, seeks}
 use Rattle.ft_statements.specs.Words.{tokens_of}
-use Rattle.plain_shell.specs.PlainStatements.{TellsRefusal, IfClean, QueryTurn}
-use Rattle.plain_shell.specs.Outcomes.{Answer, lacks_memory}
+use Rattle.plain_sql.specs.PlainStatements.{TellsRefusal, IfClean, QueryTurn}
+use Rattle.shell_io.specs.Outcomes.{Answer, lacks_memory}
 use Rattle.ft_shell.specs.FullTextTurns.{MaybeNotes}
 
 module _ {P S : Type 0} (g : Ghosts P) (h : Ghosts S) where

@@ -11,12 +11,12 @@ use Rattle.sqlite.specs.State.{HasCleanDisk}
 use Rattle.ft_index.specs.Kept.{FullText, Holds}
 use Rattle.ft_index.specs.Crashes.{IsSettled}
 use Rattle.ft_index.specs.Called.{Call, CallsKept, Executed, Runs, accepted, left_by, is_unsound}
-use Rattle.plain_shell.specs.declared.run.Status.{Status}
-use Rattle.plain_shell.specs.declared.run.RunFault.{RunFault}
+use Rattle.shell_io.specs.declared.run.Status.{Status}
+use Rattle.shell_io.specs.declared.run.RunFault.{RunFault}
 use Rattle.ft_shell.specs.Shell.{Parts, Shell}
 use Rattle.ft_statements.specs.Replies.{reply_text}
 use Rattle.ft_shell.specs.Effects.{Effects, idle, and_then, outcome_in}
-use Rattle.plain_shell.specs.Outcomes.{says, echoed, lacks_memory, outcome_of}
+use Rattle.shell_io.specs.Outcomes.{says, echoed, lacks_memory, outcome_of}
 use Rattle.ft_shell.specs.Turns.{Turn, Turns}
 use Rattle.ft_shell.specs.Runs.{Console, Completes, Stops}
 

@@ -3,16 +3,16 @@ use Rattle.std.specs.Prelude.{ℕ, ◌≡◌, ◌⊎◌, ◌<◌, false, ◌+◌
 use Rattle.std.specs.Io.KnownBytes.{Appends}
 use Rattle.sqlite.specs.Store.{Ghosts}
 use Rattle.shell_text.specs.Units.{Member}
-use Rattle.plain_shell.specs.declared.run.Outputs.{Outputs}
-use Rattle.plain_shell.specs.declared.run.Status.{Status}
-use Rattle.plain_shell.specs.declared.run.RunFault.{RunFault}
-use Rattle.plain_shell.specs.declared.run.RunFault.TheVariants as causes
+use Rattle.shell_io.specs.declared.run.Outputs.{Outputs}
+use Rattle.shell_io.specs.declared.run.Status.{Status}
+use Rattle.shell_io.specs.declared.run.RunFault.{RunFault}
+use Rattle.shell_io.specs.declared.run.RunFault.TheVariants as causes
 use Rattle.ft_shell.specs.Shell.{Shell}
 use Rattle.ft_shell.specs.Effects.{Effects}
 use Rattle.ft_shell.specs.Turns.{Turns}
 use Rattle.ft_shell.specs.Broken.{Broken}
 use Rattle.ft_shell.specs.Runs.{Console, Completes, Stops}
-use Rattle.plain_shell.specs.LinesRead.{HasNoEnd, LinesRead, Way, at_end, behind, members_left}
+use Rattle.shell_io.specs.LinesRead.{HasNoEnd, LinesRead, Way, at_end, behind, members_left}
 
 -- a shell with the status of its run, and what the two writers hold where that is known
 pub record Moment (P S : Type 0) : Type 0 where

@@ -12,7 +12,7 @@ use Rattle.ft_statements.specs.Words.{tokens_of}
 use Rattle.ft_statements.specs.Statements.{Class, Plain, FullText as FullTextClass, class_of}
 use Rattle.ft_shell.specs.FullTextTurns.{FullTextTurn}
 use Rattle.ft_shell.specs.PlainTurns.{PlainTurn, OrNothing}
-use Rattle.plain_shell.specs.Outcomes.{Answer, blames}
+use Rattle.shell_io.specs.Outcomes.{Answer, blames}
 
 -- the names of the full-text tables that are there
 abbrev pub table_names : {S : Type 0} → FullText S → List (List ℕ)

@@ -6,8 +6,8 @@ use Rattle.sqlite.specs.Store.{Ghosts}
 use Rattle.sqlite.specs.Held.{Held}
 use Rattle.ft_index.specs.Kept.{FullText, IsUp, OnlyLooks, value_of}
 use Rattle.ft_index.specs.Crashes.{LeavesRead}
-use Rattle.plain_shell.specs.Listings.{Lists}
-use Rattle.plain_shell.specs.Outcomes.{Answer, blames, Tells}
+use Rattle.plain_sql.specs.Listings.{Lists}
+use Rattle.shell_io.specs.Outcomes.{Answer, blames, Tells}
 use Rattle.ft_shell.specs.StatementTurns.{table_names}
 
 module _ {P S : Type 0} (g : Ghosts P) (h : Ghosts S) where

@@ -15,19 +15,19 @@ use Rattle.ft_statements.specs.Statements.{Class, Plain, FullText as FullTextCla
 use Rattle.ft_statements.specs.Dots.{DotCommand, Import, Nothing, SetMode, SetHeaders, SetSeparator, SetNull, SetEcho, SetBail, Print}
 use Rattle.ft_statements.specs.Dots.{Importing, Tables, Quit, Usage, Unknown}
 use Rattle.ft_shell.specs.Shell.{Shell}
-use Rattle.plain_shell.specs.Sources.{Files}
-use Rattle.plain_shell.specs.Imports.{delimiter_of, row_cells}
+use Rattle.shell_io.specs.Sources.{Files}
+use Rattle.plain_sql.specs.Imports.{delimiter_of, row_cells}
 use Rattle.ft_shell.specs.FullTextTurns.{MaybeNotes}
 use Rattle.ft_shell.specs.PlainTurns.{CommandTurn, done, refused}
-use Rattle.plain_shell.specs.PlainStatements.{QueryTurn}
+use Rattle.plain_sql.specs.PlainStatements.{QueryTurn}
 use Rattle.ft_shell.specs.StatementTurns.{ClassTurn, Declines, StatementTurn, table_names}
 use Rattle.ft_shell.specs.DotTurns.{DotTurn}
 use Rattle.ft_shell.specs.ImportTurns as imports
 use Rattle.ft_shell.specs.TablesTurns as tables
 use Rattle.ft_shell.specs.TablesTurns.{TablesTurn}
 use Rattle.ft_shell.specs.ImportTurns.{BytesTurn, DelimitedTurn, FileTurn, IntoNamed, IntoNew, PlainImport, TextImport, columns_in}
-use Rattle.plain_shell.specs.Records.{kept, records_in}
-use Rattle.plain_shell.specs.Outcomes.{Answer}
+use Rattle.shell_io.specs.Records.{kept, records_in}
+use Rattle.shell_io.specs.Outcomes.{Answer}
 
 module _ {S : Type 0} (h : Ghosts S) where
   -- the name of a plain table that was made is noted

@@ -10,11 +10,11 @@ use Rattle.ft_shell.specs.Shell.{Shell}
 use Rattle.ft_statements.specs.Texts.{split_text}
 use Rattle.ft_statements.specs.Dots.{DotCommand, dot_command_of}
 use Rattle.ft_shell.specs.DotTurns.{DotTurn}
-use Rattle.plain_shell.specs.DotParts.{after_stop}
+use Rattle.ft_shell.specs.DotParts.{after_stop}
 use Rattle.ft_shell.specs.StatementTurns.{StatementTurn}
 use Rattle.ft_index.specs.Called.{Call}
 use Rattle.ft_shell.specs.TurnCalls.{dot_in, statement_in}
-use Rattle.plain_shell.specs.Outcomes.{Answer, Outcome, blames, echo_text, echoed, lacks_memory, outcome_of}
+use Rattle.shell_io.specs.Outcomes.{Answer, Outcome, blames, echo_text, echoed, lacks_memory, outcome_of}
 use Rattle.ft_shell.specs.Effects.{Effects, outcome_in, idle, and_then}
 use Rattle.shell_text.specs.Print.{Settings}
 

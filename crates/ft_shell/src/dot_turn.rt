@@ -1,19 +1,20 @@
 //! What a dot-command does in a session.
 ghost use Rattle.std.specs.Prelude.{◌≡◌, ◌⊎◌};
 ghost use Rattle.shell_text.specs.Dot.{dot_words_of};
-ghost use Rattle.plain_shell.specs.OutputViews.{answer_as};
+ghost use Rattle.shell_io.specs.OutputViews.{answer_as};
 ghost use Rattle.ft_statements.specs.DotViews.{command_as};
 ghost use Rattle.ft_statements.specs.Dots.{dot_command_of};
-ghost use Rattle.plain_shell.specs.Outcomes.{lacks_memory};
+ghost use Rattle.shell_io.specs.Outcomes.{lacks_memory};
 ghost use Rattle.ft_shell.specs.Turns.{DotOrLacks};
 ghost use Rattle.ft_shell.specs.Shell.{shell_of};
 ghost use Rattle.ft_shell.specs.TablesTurns.{TablesTurn};
-ghost use Rattle.plain_shell.specs.DotParts as parts;
+ghost use Rattle.ft_shell.specs.DotParts as parts;
 
 use crate::import::import_turn;
 use ft_index::FullText;
 use ft_statements::{DotCommand, FaultText, apply, dot_command, listed_tables, print_text};
-use plain_shell::{Answer, Complaint, Output, Source, found_tables};
+use plain_sql::found_tables;
+use shell_io::{Answer, Complaint, Output, Source};
 use shell_text::{Settings, dot_words, write_names};
 use sqlite::{Alter, Connection};
 use std::alloc::Global;

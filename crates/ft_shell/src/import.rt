@@ -7,22 +7,20 @@ ghost use Rattle.ft_shell.specs.ImportTurns.{columns_in, TextImport, IntoNamed, 
 ghost use Rattle.ft_shell.specs.DotTurns.{DotTurn};
 ghost use Rattle.ft_shell.specs.Shell.{shell_of};
 ghost use Rattle.ft_statements.specs.Dots.{Importing};
-ghost use Rattle.plain_shell.specs.OutputViews.{answer_as};
+ghost use Rattle.shell_io.specs.OutputViews.{answer_as};
 ghost use Rattle.ft_statements.specs.Views.{texts_of};
 ghost use Rattle.ft_values.specs.Cells.{shown_value};
 ghost use Rattle.ft_content.specs.Command.{Insert};
 ghost use Rattle.ft_content.specs.Views as views;
-ghost use Rattle.plain_shell.specs.Imports as forms;
+ghost use Rattle.plain_sql.specs.Imports as forms;
 
 use crate::turns::note_turn;
 use ft_content::{Command, Insertion, TableInfo, Value};
 use ft_index::FullText;
 use ft_statements::Import;
 use ft_values::table_place;
-use plain_shell::{
-    Answer, Complaint, ImportFault, Output, Source, delimiter_of, fitted, import_records,
-    into_table, left_records, reads_table, skipped, warnings,
-};
+use plain_sql::{ImportFault, delimiter_of, import_records, into_table, reads_table};
+use shell_io::{Answer, Complaint, Output, Source, fitted, left_records, skipped, warnings};
 use shell_text::{Settings, read_records};
 use sqlite::{Alter, Connection};
 use std::alloc::{AllocError, Global};

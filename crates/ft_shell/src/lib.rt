@@ -7,4 +7,4 @@ mod session;
 mod turns;
 
 pub use crate::session::Session;
-pub use plain_shell::{Outputs, RunFault, Source, SourceFault, Status};
+pub use shell_io::{Outputs, RunFault, Source, SourceFault, Status};

@@ -2,22 +2,19 @@
 ghost use Rattle.std.specs.Prelude.{◌≡◌, ◌<◌, ◌∷◌, ◌++◌, ℕ, List, [], ⊤, length, OnOk};
 ghost use Rattle.shell_text.specs.Units.{Fault, Member};
 ghost use Rattle.shell_text.specs.Splitting.{member_of_unit};
-ghost use Rattle.plain_shell.specs.LinesRead.{HasNoEnd, Way, at_end, behind, members_left, refused_as};
+ghost use Rattle.shell_io.specs.LinesRead.{HasNoEnd, Way, at_end, behind, members_left, refused_as};
 ghost use Rattle.ft_shell.specs.Ran.{moment, Ends, GoesOn, IsWithinLine, NoneWaits, Runs, TakesRead};
 ghost use Rattle.ft_shell.specs.Runs.{console_of};
 ghost use Rattle.ft_shell.specs.Promise.{IsAny, IsClean, KeptByRuns, RanAndKept};
 ghost use Rattle.ft_index.specs.Crashes.{IsSettled};
 ghost use Rattle.ft_shell.specs.Shell.{shell_with};
-ghost use Rattle.plain_shell.specs.Sources.{Files};
-ghost use Rattle.plain_shell.specs.Writing.{SameWriters};
+ghost use Rattle.shell_io.specs.Sources.{Files};
+ghost use Rattle.shell_io.specs.Writing.{SameWriters};
 
 use crate::turns::unit_turn;
 use ft_index::FullText;
 use ft_statements::split_text;
-use plain_shell::{
-    Complaint, LineReader, Outputs, Refusal, RunFault, Source, Status, echo_text, end_refusal,
-    first_line, flush, is_over, read_chunk, tell,
-};
+use shell_io::{Complaint, LineReader, Outputs, Refusal, RunFault, Source, Status, echo_text, end_refusal, first_line, flush, is_over, read_chunk, tell};
 use ram_disk::Honest;
 use shell_text::{Settings, SplitFault, Unit, blocks_read_whole};
 use sqlite::{Alter, Connection};

@@ -1,6 +1,6 @@
 //! What a unit of the input does in a session, and a statement by its class.
 ghost use Rattle.shell_text.specs.Splitting.{member_of_unit};
-ghost use Rattle.plain_shell.specs.OutputViews.{answer_as};
+ghost use Rattle.shell_io.specs.OutputViews.{answer_as};
 ghost use Rattle.ft_shell.specs.Turns.{Body};
 ghost use Rattle.ft_shell.specs.Shell.{shell_of};
 ghost use Rattle.std.specs.Prelude.{◌≡◌, string_bytes, option_map};
@@ -16,7 +16,8 @@ use crate::dot_turn::dot_line_turn;
 use ft_content::{Command, Fault};
 use ft_index::FullText;
 use ft_statements::{Class, PlainStatement, read_plain, read_statement, write_reply};
-use plain_shell::{Answer, Complaint, Output, Source, query_turn, refusal};
+use plain_sql::{query_turn, refusal};
+use shell_io::{Answer, Complaint, Output, Source};
 use shell_text::{Settings, SqlWord, Unit, UnitKind, sql_words};
 use sqlite::{Alter, Connection};
 use std::alloc::Global;

@@ -1,6 +1,6 @@
 -- the texts so far were run to their ends, on the same writers
 use Rattle.std.proofs.Common.{map, drop, Some, string_bytes}
-use Rattle.plain_shell.specs.Writing.{SameWriters}
+use Rattle.shell_io.specs.Writing.{SameWriters}
 use Rattle.ft_program.proofs.InputLemmas.{SoFar}
 use Rattle.ft_program.proofs.start.run_texts.Given as goal
 

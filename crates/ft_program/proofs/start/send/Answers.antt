@@ -1,6 +1,6 @@
 -- whole, or a front of it
 use Rattle.std.proofs.Common.{subst}
-use Rattle.plain_shell.specs.Writing.{Sends}
+use Rattle.shell_io.specs.Writing.{Sends}
 use Rattle.ft_program.proofs.InputLemmas.{text_sent}
 use Rattle.ft_program.proofs.start.send.Goals as goal
 

@@ -3,7 +3,7 @@ use Rattle.std.proofs.Common.{rules, ◌≡◌, refl, sym, subst, inl}
 use Rattle.ft_statements.specs.Dots.{Tables}
 use Rattle.ft_statements.specs.DotViews.{command_as}
 use Rattle.ft_shell.specs.DotTurns.{DotTurn}
-use Rattle.plain_shell.specs.OutputViews.{answer_as}
+use Rattle.shell_io.specs.OutputViews.{answer_as}
 use Rattle.ft_shell.proofs.DotLemmas.{sets_turn}
 use Rattle.ft_shell.proofs.dot_turn.dot_turn.Goals as goal
 

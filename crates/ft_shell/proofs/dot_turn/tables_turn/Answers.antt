@@ -5,9 +5,9 @@ use Rattle.ft_content.specs.Views.{TableInfo, info_names}
 use Rattle.ft_statements.specs.Replies.{AreSorted, listed}
 use Rattle.ft_statements.specs.Texts.{fault_text}
 use Rattle.ft_statements.specs.Views.{texts_of}
-use Rattle.plain_shell.specs.Outcomes.{blames, lacks_memory, says}
-use Rattle.plain_shell.specs.OutputViews.{answer_as}
-use Rattle.plain_shell.specs.Listings.{Finds, StopsTrying, tables, unsorted, untried}
+use Rattle.shell_io.specs.Outcomes.{blames, lacks_memory, says}
+use Rattle.shell_io.specs.OutputViews.{answer_as}
+use Rattle.plain_sql.specs.Listings.{Finds, StopsTrying, tables, unsorted, untried}
 use Rattle.ft_shell.specs.StatementTurns.{table_names}
 use Rattle.ft_shell.specs.TablesTurns.{lists, refused}
 use Rattle.ft_shell.proofs.ClassLemmas.{named_as}

@@ -5,11 +5,11 @@ use Rattle.ft_content.specs.Command.{Insert}
 use Rattle.ft_content.specs.Views.{command_of, reply_of}
 use Rattle.ft_statements.specs.Texts.{fault_text}
 use Rattle.ft_statements.specs.Views.{texts_of}
-use Rattle.plain_shell.specs.Imports.{row_cells}
-use Rattle.plain_shell.specs.OutputViews.{answer_as}
-use Rattle.plain_shell.specs.Records.{records_in, warnings}
-use Rattle.plain_shell.specs.Outcomes.{blames, warned}
-use Rattle.plain_shell.proofs.ImportTurnLemmas.{records_numbered}
+use Rattle.plain_sql.specs.Imports.{row_cells}
+use Rattle.shell_io.specs.OutputViews.{answer_as}
+use Rattle.shell_io.specs.Records.{records_in, warnings}
+use Rattle.shell_io.specs.Outcomes.{blames, warned}
+use Rattle.plain_sql.proofs.ImportTurnLemmas.{records_numbered}
 use Rattle.ft_shell.specs.ImportTurns.{InsertTurn, executed}
 use Rattle.ft_shell.proofs.import.full_text_import.Goals as goal
 

@@ -4,12 +4,12 @@ use Rattle.std.specs.Prelude.{unwrap_or}
 use Rattle.std.specs.List.{enumerate_from}
 use Rattle.ft_statements.specs.DotViews.{import_as}
 use Rattle.ft_statements.specs.Views.{texts_of}
-use Rattle.plain_shell.specs.FaultWords.{record_words}
-use Rattle.plain_shell.specs.OutputViews.{answer_as}
-use Rattle.plain_shell.specs.Records.{kept}
-use Rattle.plain_shell.specs.Sources.{Gives, Refuses, fetch_words}
-use Rattle.plain_shell.specs.Outcomes.{blames, lacks_memory}
-use Rattle.plain_shell.proofs.ImportTurnLemmas.{left_rows}
+use Rattle.shell_io.specs.FaultWords.{record_words}
+use Rattle.shell_io.specs.OutputViews.{answer_as}
+use Rattle.shell_io.specs.Records.{kept}
+use Rattle.shell_io.specs.Sources.{Gives, Refuses, fetch_words}
+use Rattle.shell_io.specs.Outcomes.{blames, lacks_memory}
+use Rattle.plain_sql.proofs.ImportTurnLemmas.{left_rows}
 use Rattle.ft_shell.specs.ImportTurns.{BytesTurn, DelimitedTurn, IntoNamed, columns_in, fetched, read, unfetched}
 use Rattle.ft_shell.proofs.ImportTurnLemmas.{records_refused}
 use Rattle.ft_shell.proofs.import.import_turn.Goals as goal

@@ -2,7 +2,7 @@
 use Rattle.std.proofs.Common.{◌≡◌, map}
 use Rattle.ft_content.specs.Views.{rows_of}
 use Rattle.ft_statements.specs.Views.{texts_of}
-use Rattle.plain_shell.specs.Imports.{row_cells}
+use Rattle.plain_sql.specs.Imports.{row_cells}
 use Rattle.ft_shell.proofs.import.insert_of.Given as goal
 
 abbrev pub invariant-loop-fields : goal.invariant-loop-fields

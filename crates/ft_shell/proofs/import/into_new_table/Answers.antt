@@ -4,12 +4,12 @@ use Rattle.std.specs.List.{enumerate_from}
 use Rattle.std.proofs.lemmas.List.{length-map}
 use Rattle.ft_statements.specs.DotViews.{import_as}
 use Rattle.ft_statements.specs.Views.{texts_of}
-use Rattle.plain_shell.specs.IntoTables.{fault_words}
-use Rattle.plain_shell.specs.OutputViews.{answer_as}
-use Rattle.plain_shell.specs.PlainImports.{CommitsAll, Declines}
-use Rattle.plain_shell.specs.Records.{warnings}
-use Rattle.plain_shell.specs.Outcomes.{blames}
-use Rattle.plain_shell.proofs.ImportTurnLemmas.{no_rows, same_steps, split_rows}
+use Rattle.plain_sql.specs.IntoTables.{fault_words}
+use Rattle.shell_io.specs.OutputViews.{answer_as}
+use Rattle.plain_sql.specs.PlainImports.{CommitsAll, Declines}
+use Rattle.shell_io.specs.Records.{warnings}
+use Rattle.shell_io.specs.Outcomes.{blames}
+use Rattle.plain_sql.proofs.ImportTurnLemmas.{no_rows, same_steps, split_rows}
 use Rattle.ft_shell.specs.FullTextTurns.{NoteTurn}
 use Rattle.ft_shell.specs.ImportTurns.{made, no_header, too_wide}
 use Rattle.ft_shell.proofs.ImportTurnLemmas.{making_refused}

@@ -1,8 +1,8 @@
 -- by whether the table can be read
 use Rattle.std.proofs.Common.{rules, ◌≡◌, true, false, None, Some, refl, subst}
-use Rattle.plain_shell.specs.Listings.{Tries}
-use Rattle.plain_shell.specs.OutputViews.{answer_as}
-use Rattle.plain_shell.specs.Outcomes.{lacks_memory}
+use Rattle.plain_sql.specs.Listings.{Tries}
+use Rattle.shell_io.specs.OutputViews.{answer_as}
+use Rattle.shell_io.specs.Outcomes.{lacks_memory}
 use Rattle.ft_shell.specs.ImportTurns.{there, new_table, untried}
 use Rattle.ft_shell.proofs.import.plain_import.Goals as goal
 

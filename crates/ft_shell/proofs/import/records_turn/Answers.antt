@@ -3,7 +3,7 @@ use Rattle.std.proofs.Common.{◌≡◌, Option, ℕ, Some, None, map, string_by
 use Rattle.std.specs.List.{enumerate_from}
 use Rattle.ft_statements.specs.DotViews.{import_as}
 use Rattle.ft_statements.specs.Views.{texts_of}
-use Rattle.plain_shell.specs.OutputViews.{answer_as}
+use Rattle.shell_io.specs.OutputViews.{answer_as}
 use Rattle.ft_shell.specs.ImportTurns.{columns_in, PlainImport, IntoNamed}
 use Rattle.ft_shell.proofs.import.records_turn.Goals as goal
 

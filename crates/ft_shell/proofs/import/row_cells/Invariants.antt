@@ -2,7 +2,7 @@
 use Rattle.std.proofs.Common.{◌≡◌, map}
 use Rattle.std.specs.Prelude.{option_map}
 use Rattle.ft_content.specs.Views.{cells_of}
-use Rattle.plain_shell.specs.Imports.{field_cell}
+use Rattle.plain_sql.specs.Imports.{field_cell}
 use Rattle.ft_shell.proofs.import.row_cells.Given as goal
 
 abbrev pub invariant-loop-field : goal.invariant-loop-field

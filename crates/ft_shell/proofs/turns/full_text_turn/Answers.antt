@@ -3,8 +3,8 @@ use Rattle.std.proofs.Common.{rules, ◌≡◌, Ok, Err, ap, inl, inr}
 use Rattle.ft_content.specs.Views.{reply_of}
 use Rattle.ft_statements.specs.Replies.{reply_text}
 use Rattle.ft_statements.specs.Texts.{fault_text}
-use Rattle.plain_shell.specs.OutputViews.{answer_as}
-use Rattle.plain_shell.specs.Outcomes.{blames, lacks_memory, says}
+use Rattle.shell_io.specs.OutputViews.{answer_as}
+use Rattle.shell_io.specs.Outcomes.{blames, lacks_memory, says}
 use Rattle.ft_shell.proofs.turns.full_text_turn.Goals as goal
 
 pub returns-in_err-reply : goal.returns-in_err-reply

@@ -4,9 +4,9 @@ use Rattle.ft_content.specs.Views.{command_of, info_names}
 use Rattle.ft_statements.specs.Statements.{Plain, FullText, class_of}
 use Rattle.ft_statements.specs.Texts.{statement_text}
 use Rattle.ft_statements.specs.Words.{tokens_of}
-use Rattle.plain_shell.specs.FaultWords.{lex_words}
-use Rattle.plain_shell.specs.OutputViews.{answer_as}
-use Rattle.plain_shell.specs.Outcomes.{blames}
+use Rattle.shell_io.specs.FaultWords.{lex_words}
+use Rattle.shell_io.specs.OutputViews.{answer_as}
+use Rattle.shell_io.specs.Outcomes.{blames}
 use Rattle.ft_shell.proofs.ClassLemmas.{class_as_told, classless_turn, closed_turn, wordless_turn}
 use Rattle.ft_shell.proofs.turns.statement_turn.Goals as goal
 

@@ -1,6 +1,6 @@
 -- the last line, and then what is pending
 use Rattle.std.proofs.Common.{rules, ◌≡◌, ◌∙◌, [], Err, true, false, sym, refl}
-use Rattle.plain_shell.specs.LinesRead.{at_end, members_left}
+use Rattle.shell_io.specs.LinesRead.{at_end, members_left}
 use Rattle.ft_shell.proofs.RanLemmas.{passes_as, runs_err, runs_then}
 use Rattle.ft_shell.proofs.session.Session.finish.Goals as goal
 

@@ -1,6 +1,6 @@
 -- nothing is left of a line, or a line ends
 use Rattle.std.proofs.Common.{rules, ◌≡◌, ◌∷◌, [], refl}
-use Rattle.plain_shell.specs.LinesRead.{Way, at_end, behind, members_left}
+use Rattle.shell_io.specs.LinesRead.{Way, at_end, behind, members_left}
 use Rattle.ft_shell.proofs.RanLemmas.{passes_none, runs_as}
 use Rattle.ft_shell.proofs.session.Session.finish_line.Goals as goal
 

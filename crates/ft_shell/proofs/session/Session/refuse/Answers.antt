@@ -2,15 +2,15 @@
 use Rattle.std.proofs.Common.{rules, ◌≡◌, ◌∷◌, ◌++◌, [], List, Option, None, refl, sym, ap, ◌∙◌, subst}
 use Rattle.shell_text.specs.Units.{Member, Fault}
 use Rattle.ft_shell.specs.Shell.{Parts, Shell, shell_with}
-use Rattle.plain_shell.specs.Outcomes.{Answer, blames, outcome_of}
+use Rattle.shell_io.specs.Outcomes.{Answer, blames, outcome_of}
 use Rattle.ft_shell.specs.Effects.{effects_of}
 use Rattle.ft_statements.specs.Texts.{split_text}
-use Rattle.plain_shell.specs.OutputViews.{complaint_as}
+use Rattle.shell_io.specs.OutputViews.{complaint_as}
 use Rattle.ft_shell.specs.Ran.{Runs, moment}
-use Rattle.plain_shell.proofs.WriteLemmas.{appends_same}
+use Rattle.shell_io.proofs.WriteLemmas.{appends_same}
 use Rattle.ft_shell.proofs.RanLemmas.{passes_none, runs_turn}
-use Rattle.plain_shell.specs.declared.line_reader.Refusal.{Refusal}
-use Rattle.plain_shell.specs.LinesRead.{refused_as}
+use Rattle.shell_io.specs.declared.line_reader.Refusal.{Refusal}
+use Rattle.shell_io.specs.LinesRead.{refused_as}
 use Rattle.ft_shell.proofs.session.Session.refuse.Goals as goal
 
 pub returns-in_default-clause-runs : goal.returns-in_default-clause-runs

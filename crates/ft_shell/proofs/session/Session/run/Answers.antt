@@ -3,7 +3,7 @@ use Rattle.std.proofs.Common.{rules, ap, subst₂}
 use Rattle.ft_shell.specs.Shell.{shell_with}
 use Rattle.ft_shell.specs.Runs.{Console}
 use Rattle.ft_shell.specs.Promise.{RanAndKept}
-use Rattle.plain_shell.specs.Sources.{Files}
+use Rattle.shell_io.specs.Sources.{Files}
 use Rattle.ft_shell.proofs.PromiseLemmas.{ran_and_kept}
 use Rattle.ft_shell.proofs.HoldsLemmas.{run_holds}
 use Rattle.ft_shell.proofs.session.Session.run.Goals as goal

@@ -1,7 +1,7 @@
 -- what was read so far was run, and no unit waits before the next piece
 use Rattle.std.proofs.Common.{◌≡◌, ◌+◌, ◌-◌, ◌^◌, ◌<◌, length, [], false}
-use Rattle.plain_shell.specs.LinesRead.{HasNoEnd}
-use Rattle.plain_shell.specs.Writing.{SameWriters}
+use Rattle.shell_io.specs.LinesRead.{HasNoEnd}
+use Rattle.shell_io.specs.Writing.{SameWriters}
 use Rattle.ft_shell.specs.Shell.{shell_with}
 use Rattle.ft_shell.specs.Ran.{moment}
 use Rattle.ft_shell.proofs.RunLemmas.{SoFar, opening}

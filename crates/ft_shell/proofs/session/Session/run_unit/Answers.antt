@@ -5,10 +5,10 @@ use Rattle.shell_text.specs.Units.{Member}
 use Rattle.shell_text.specs.Splitting.{member_of_unit}
 use Rattle.ft_shell.specs.Shell.{Shell, shell_with}
 use Rattle.ft_shell.specs.Effects.{effects_of}
-use Rattle.plain_shell.specs.Outcomes.{echo_text, echoed, outcome_of}
+use Rattle.shell_io.specs.Outcomes.{echo_text, echoed, outcome_of}
 use Rattle.ft_shell.specs.Turns.{Turn, calls_in, echo_of}
-use Rattle.plain_shell.specs.OutputViews.{answer_as}
-use Rattle.plain_shell.specs.Writing.{AppendsUpTo}
+use Rattle.shell_io.specs.OutputViews.{answer_as}
+use Rattle.shell_io.specs.Writing.{AppendsUpTo}
 use Rattle.ft_shell.specs.Ran.{Runs, moment}
 use Rattle.ft_shell.proofs.RanLemmas.{breaks_echo, runs_err, runs_turn, unit_echo, unit_turned}
 use Rattle.ft_shell.proofs.session.Session.run_unit.Goals as goal

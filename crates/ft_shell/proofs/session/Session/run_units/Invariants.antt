@@ -1,7 +1,7 @@
 -- the units that waited so far were run, and those that wait are ever fewer
 use Rattle.std.proofs.Common.{◌≡◌, length}
-use Rattle.plain_shell.specs.LinesRead.{members_left}
-use Rattle.plain_shell.specs.Writing.{SameWriters}
+use Rattle.shell_io.specs.LinesRead.{members_left}
+use Rattle.shell_io.specs.Writing.{SameWriters}
 use Rattle.ft_shell.specs.Shell.{shell_with}
 use Rattle.ft_shell.specs.Ran.{Passes, moment}
 use Rattle.ft_shell.proofs.session.Session.run_units.Given as goal

@@ -1,7 +1,7 @@
 -- the lines so far were taken, and no unit waits between two of them
 use Rattle.std.proofs.Common.{◌≡◌, [], false, length}
-use Rattle.plain_shell.specs.LinesRead.{Way, behind, members_left}
-use Rattle.plain_shell.specs.Writing.{SameWriters}
+use Rattle.shell_io.specs.LinesRead.{Way, behind, members_left}
+use Rattle.shell_io.specs.Writing.{SameWriters}
 use Rattle.ft_shell.specs.Shell.{shell_with}
 use Rattle.ft_shell.specs.Ran.{Passes, moment}
 use Rattle.ft_shell.proofs.session.Session.take.Given as goal

@@ -1,8 +1,0 @@
--- the characters so far
-use Rattle.std.proofs.Common.{◌≡◌, ◌++◌, string_bytes}
-use Rattle.std.specs.List.{flat_map}
-use Rattle.plain_shell.specs.Imports.{doubled}
-use Rattle.plain_shell.proofs.imports.push_identifier.Given as goal
-
-abbrev pub invariant-loop-c : goal.invariant-loop-c
-invariant-loop-c l = string_bytes l.text ≡ string_bytes l.initial.text ++ flat_map doubled l.yielded

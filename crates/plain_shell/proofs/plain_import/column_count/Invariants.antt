@@ -1,8 +1,0 @@
--- the numbers so far
-use Rattle.sqlite.specs.Held.{state}
-use Rattle.plain_shell.specs.PlainStatements.{IfClean}
-use Rattle.plain_shell.specs.PlainImports.{IsOnlyBelow, Stays}
-use Rattle.plain_shell.proofs.plain_import.column_count.Given as goal
-
-abbrev pub invariant-loop-count : goal.invariant-loop-count
-invariant-loop-count g l = IfClean g.P.Store l.fn.plain l.plain (Stays (state g.P.Store l.fn.plain) (state g.P.Store l.plain) × IsOnlyBelow (state g.P.Store l.fn.plain).now.schema l.table l.count l.found)

@@ -1,9 +1,0 @@
--- the lines so far
-use Rattle.std.proofs.Common.{◌≡◌, take, map, string_bytes}
-use Rattle.std.specs.List.{enumerate_from}
-use Rattle.plain_shell.specs.Records as forms
-use Rattle.ft_statements.specs.Views.{texts_of}
-use Rattle.plain_shell.proofs.records.warnings.Given as goal
-
-abbrev pub invariant-loop-i : goal.invariant-loop-i
-invariant-loop-i l = string_bytes l.text ≡ forms.warnings l.file l.columns (enumerate_from l.first (map texts_of (take l.i l.records)))

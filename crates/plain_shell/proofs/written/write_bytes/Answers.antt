@@ -1,6 +1,0 @@
--- a front of the bytes went out
-use Rattle.plain_shell.proofs.WriteLemmas.{up_to_part}
-use Rattle.plain_shell.proofs.written.write_bytes.Goals as goal
-
-pub returns-in-Err : goal.returns-in-Err
-returns-in-Err g c = up_to_part (g.W.Write.contents c.args.to.now) (g.W.Write.contents c.write_out.new.out) c.args.bytes.now c.in-Err.ensures.err

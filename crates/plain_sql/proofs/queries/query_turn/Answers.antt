@@ -1,0 +1,17 @@
+-- it is answered, or refused
+use Rattle.std.proofs.Common.{rules, subst}
+use Rattle.shell_io.specs.Outcomes.{Tells}
+use Rattle.plain_sql.specs.Answers.{row_print}
+use Rattle.shell_io.specs.OutputViews.{answer_as, complaint_as}
+use Rattle.plain_sql.specs.PlainStatements.{TellsRefusal, answered, refused}
+use Rattle.plain_sql.proofs.queries.query_turn.Goals as goal
+
+pub returns-in-Ok : goal.returns-in-Ok
+returns-in-Ok g c =
+    let tells : Tells (row_print c.args.settings.now c.in-Ok.statement.columns c.in-Ok.rows.items) (answer_as c.row_print.result) = search rules in
+    answered c.in-Ok.statement.columns c.in-Ok.rows.items c.in-Ok.ensures.answered tells
+
+pub returns-in-Err : goal.returns-in-Err
+returns-in-Err g c =
+    refused c.in-Err.error c.in-Err.ensures.refused
+    (subst (λ seeks. TellsRefusal seeks c.in-Err.error (complaint_as c.refusal.result)) c.requires c.refusal.ensures)

@@ -1,0 +1,3 @@
+pub mod RecordLemmas
+pub mod LineReaderLemmas
+pub mod WriteLemmas
