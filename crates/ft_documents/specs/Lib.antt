@@ -1,6 +1,8 @@
 -- Meaning
 pub mod Found
 pub mod Tables
+pub mod Rewrite
+pub mod RewriteRows
 -- Steps
 pub mod Gathered
 pub mod Chosen
@@ -10,8 +12,6 @@ pub mod MadeIndex
 pub mod Matched
 pub mod NewDocuments
 pub mod Placed
-pub mod Rewrite
-pub mod RewriteRows
 pub mod RowLaws
 pub mod Standing
 pub mod Terms

@@ -1,4 +1,4 @@
--- Steps. Documents that are written anew, and what row changes of them do. All of it is our own
+-- Meaning. Documents that are written anew, and what row changes of them do. All of it is our own
 -- choice.
 use Rattle.std.specs.Prelude.{◌≡◌, ◌≢◌, ℕ, ◌+◌, ◌-◌, ◌<◌, ℤ, List, [], ◌∷◌, map, length, take, sum_by, All}
 use Rattle.std.specs.Prelude.{Option, Some, None, option_map, IsTrue, IsSome, IfSome}

@@ -1,4 +1,4 @@
--- Steps. The row changes that follow from documents which are written anew. All of it is our own
+-- Meaning. The row changes that follow from documents which are written anew. All of it is our own
 -- choice.
 use Rattle.std.specs.Prelude.{◌≡◌, ◌≤◌, length, ℕ, zero, suc, Bool, true, false, not, ◌&&◌, List, [], ◌∷◌, ◌++◌, map, filter, Option}
 use Rattle.std.specs.Prelude.{Some, None, ℤ, pos, is_some, unwrap_or, bytes_eq, string_bytes, String, Vec}

@@ -1,6 +1,7 @@
 -- Steps. How tables of a store are made anew, where no row of another table stands in the way (own
 -- choice): the last ones are dropped and made again, and what they held beside is put again.
-use Rattle.std.specs.Prelude.{◌≡◌, ◌<◌, ◌≤◌, ◌+◌, ℕ, ℤ, pos, true, false, if◌then◌else◌, nat_lt, List, [], ◌∷◌, length, map, drop, slice_get, slice_index_or, filter, Some, None, IsUtf8, IsTrue, Result, IfOk}
+use Rattle.std.specs.Prelude.{◌≡◌, ◌<◌, ◌≤◌, ◌+◌, ℕ, ℤ, pos, true, false, if◌then◌else◌, nat_lt, List, []}
+use Rattle.std.specs.Prelude.{◌∷◌, length, map, drop, slice_get, slice_index_or, filter, Some, None, IsUtf8, IsTrue, Result, IfOk}
 use Rattle.std.specs.List.{AllByRecursion, list_all}
 use Rattle.sqlite.specs.declared.types.Value.TheVariants.{Int, Text}
 use Rattle.sqlite.specs.Order.{Row, column}

@@ -1,6 +1,5 @@
 -- Meaning
 pub mod Adopted
-pub mod Anew
 pub mod Blame
 pub mod Calls
 pub mod Docids
@@ -10,13 +9,14 @@ pub mod Rows
 pub mod Tables
 pub mod Opened
 pub mod Puts
+pub mod Parts
 -- Steps
+pub mod Anew
 pub mod Expected
 pub mod Found
 pub mod Groups
 pub mod Inside
 pub mod Made
-pub mod Parts
 pub mod Range
 pub mod Same
 pub mod Scan

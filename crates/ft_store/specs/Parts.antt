@@ -1,4 +1,4 @@
--- Steps. Row changes that come in parts. All of it is our own choice.
+-- Meaning. Row changes that come in parts. All of it is our own choice.
 use Rattle.std.specs.Prelude.{◌≡◌, List, [], ◌∷◌, ◌++◌, map, Option, Some, None, Result, Ok, Err, Vec}
 use Rattle.std.specs.declared.alloc.Global.{Global}
 use Rattle.std.specs.declared.alloc.AllocError.{AllocError}
