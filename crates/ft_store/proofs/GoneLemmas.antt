@@ -35,7 +35,7 @@ wrote_grown tree count old new rows wrote grown =
         by true e = subst (λ n. IsGrown count (old.now.trees n) (new.now.trees n)) (sym (eqb-true t tree e)) (subst (IsGrown count (old.now.trees tree)) (sym wrote.written) grown)
         by false e = grown_same count _ _ (other (eqb-false t tree e))
 
-delete_grown : (old new : State) (text : List ℕ) (params : Row) (at : ℕ) (table : Table) (terms : List Term) (count : ℕ) → old.now.schema ≡ store_schema
+pub delete_grown : (old new : State) (text : List ℕ) (params : Row) (at : ℕ) (table : Table) (terms : List Term) (count : ℕ) → old.now.schema ≡ store_schema
     → command_of (understood store_schema text) ≡ Delete at (record { lets = []; body = table_query table.tree terms (0 ∷ []) [] }) → IsPlain (understood store_schema text)
     → slice_get store_schema.tables at ≡ Some table → (overlay old.now.trees [] table.tree ≡ old.now.trees table.tree) → HasOwnRowids (old.now.trees table.tree) → Executes text params old new (Ok count)
     → AreGrown 0 old.now.trees new.now.trees

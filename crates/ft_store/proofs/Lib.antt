@@ -52,5 +52,6 @@ pub mod StreamLemmas
 pub mod TableLemmas
 pub mod TextLemmas
 pub mod Texts
+pub mod ThinLemmas
 pub mod TypedLemmas
 pub mod WriteLemmas

@@ -191,3 +191,6 @@ low_note_text = codes "SELECT rowid FROM noted WHERE rowid < ?1 ORDER BY rowid L
 
 abbrev pub many_lists_text : List ℕ
 many_lists_text = codes "SELECT tab FROM posting WHERE tab = ?1 ORDER BY tab, term, docid LIMIT 1 OFFSET 200"
+
+abbrev pub drop_lists_from_text : List ℕ
+drop_lists_from_text = codes "DELETE FROM posting WHERE tab = ?1 AND term >= ?2"

@@ -1,7 +1,7 @@
 -- Steps. How tables of a store are made anew, where no row of another table stands in the way (own
 -- choice): the last ones are dropped and made again, and what they held beside is put again.
-use Rattle.std.specs.Prelude.{◌≡◌, ◌<◌, ◌≤◌, ◌+◌, ℕ, ℤ, pos, true, false, if◌then◌else◌, nat_lt, List, []}
-use Rattle.std.specs.Prelude.{◌∷◌, length, map, drop, slice_get, slice_index_or, filter, Some, None, IsUtf8, IsTrue, Result, IfOk}
+use Rattle.std.specs.Prelude.{◌≡◌, ◌<◌, ◌≤◌, ◌+◌, ℕ, ℤ, pos, true, false, if◌then◌else◌, nat_lt, List}
+use Rattle.std.specs.Prelude.{[], ◌∷◌, length, map, drop, slice_get, slice_index_or, filter, Some, None, IsUtf8, IsTrue, Result, IfOk, OnOk}
 use Rattle.std.specs.List.{AllByRecursion, list_all}
 use Rattle.sqlite.specs.declared.types.Value.TheVariants.{Int, Text}
 use Rattle.sqlite.specs.Order.{Row, column}
@@ -21,16 +21,18 @@ use Rattle.sqlite.specs.Given.{IsPlain}
 use Rattle.sqlite.specs.Effect.{Database, IsDatabase}
 use Rattle.sqlite.specs.Change.{next_tree, without_table}
 use Rattle.sqlite.specs.Does.{is_acted_on}
-use Rattle.sqlite.specs.State.{State, HasCleanDisk}
+use Rattle.sqlite.specs.State.{State, HasCleanDisk, IsUnchanged}
 use Rattle.sqlite.specs.Store.{Ghosts}
 use Rattle.sqlite.specs.Held.{Held, state}
 use Rattle.ft_store.specs.declared.fault.StoreFault.{StoreFault}
 use Rattle.ft_rows.specs.Store.{name_cmp}
 use Rattle.ft_store.specs.Tables.{store_schema}
-use Rattle.ft_store.specs.Rows.{keyed, note_entry}
+use Rattle.ft_store.specs.Rows.{keyed, note_entry, value_of}
 use Rattle.ft_store.specs.Found.{found_note}
 use Rattle.ft_store.specs.Made.{first_tables, command_of, is_whole, IsTypedIn}
 use Rattle.ft_store.specs.Calls.{IsStore}
+use Rattle.ft_store.specs.Inside.{without_lists}
+use Rattle.ft_store.specs.Puts.{AreGrown}
 
 -- ---- tables that are made anew
 
@@ -107,7 +109,8 @@ abbrev pub probe_term : ℕ → Term
 probe_term at =
     let below = compared Lt (col 1 1) in
     let above = compared Gt (col 1 1) in
-    slice_index_or (below ∷ above ∷ below ∷ above ∷ below ∷ above ∷ op2 (Compare Eq Binary) (col 0 0) (lit (Int (pos 1))) ∷ []) at (compared Lt (col 1 0))
+    let any = op2 (Compare Eq Binary) (col 0 0) (lit (Int (pos 1))) in
+    slice_index_or (below ∷ above ∷ below ∷ above ∷ below ∷ above ∷ any ∷ []) at (compared Lt (col 1 0))
 
 abbrev pub number_bound : ℕ → ℤ → ℤ
 number_bound at tab = if nat_lt at 6 then tab else pos 1
@@ -118,7 +121,9 @@ IsProbe at text = (n : ℤ) → LooksAt text (Int n ∷ []) (probe_tree at) (pro
 
 -- there is no such row
 abbrev pub IsFree : ℕ → ℤ → Trees → Type 0
-IsFree at tab db = AllByRecursion (λ r. list_all (holds ((Int (number_bound at tab) ∷ []) ∷ r ∷ [])) (probe_term at ∷ []) ≡ false) (db (probe_tree at))
+IsFree at tab db =
+    let params = Int (number_bound at tab) ∷ [] in
+    AllByRecursion (λ r. list_all (holds (params ∷ r ∷ [])) (probe_term at ∷ []) ≡ false) (db (probe_tree at))
 
 -- nothing stands in the way, by the probes from one on
 abbrev pub AreFree : ℕ → ℤ → Trees → Type 0
@@ -150,3 +155,25 @@ abbrev pub FindsInside : {S X : Type 0} → Ghosts S → Held S → Held S → R
 FindsInside g old new result Is =
     HasCleanDisk (state g new) → IsTrue (state g old).in_transaction → (IsTrue (state g old).is_open → IsStore (state g old).now)
     → IfOk result (λ x. Stands (state g old) (state g new) × IsTrue (state g old).is_open × Is x)
+
+-- nothing is changed, where the disk returned what was written
+abbrev pub RestsOnOk : {S X : Type 0} → Ghosts S → Held S → Held S → Result X StoreFault → Type 0
+RestsOnOk g old new result =
+    HasCleanDisk (state g new) → IsTrue (state g old).in_transaction → (IsTrue (state g old).is_open → IsStore (state g old).now)
+    → OnOk result (IsUnchanged (state g old) (state g new))
+
+-- ---- lists that are taken out in parts
+
+-- Only lists of the table were taken out so far in a transaction that began at `old`, perhaps none.
+pub record Thins (tab : ℤ) (old new : State) : Type 0 where
+  pub committed : new.committed ≡ old.committed
+  pub inside : IsTrue new.in_transaction
+  pub opened : IsTrue new.is_open → IsTrue old.is_open
+  pub store : IsTrue new.is_open → IsStore new.now
+  pub same : IsTrue new.is_open → without_lists tab (value_of new.now.trees) ≡ without_lists tab (value_of old.now.trees)
+  pub grown : IsTrue new.is_open → AreGrown 0 old.now.trees new.now.trees
+
+abbrev pub ThinsOnOk : {S X : Type 0} → Ghosts S → Held S → Held S → Result X StoreFault → ℤ → Type 0
+ThinsOnOk g old new result tab =
+    HasCleanDisk (state g new) → IsTrue (state g old).in_transaction → (IsTrue (state g old).is_open → IsStore (state g old).now)
+    → OnOk result (Thins tab (state g old) (state g new))

@@ -1,24 +1,27 @@
 //! The rows of a table that are taken out. Where no other table has rows, the tables are made anew.
 ghost use Rattle.std.specs.Prelude.{◌≡◌, ◌<◌, ◌≤◌, ◌+◌, ⊤, ℕ, List, [], ◌∷◌, map, length, All, IsTrue, IsUtf8, IfOk, IfSome, OnOk, None};
+ghost use Rattle.std.specs.Prelude.{not, ◌&&◌};
+ghost use Rattle.std.specs.Ordering.{int_eq, is_le};
+ghost use Rattle.std.specs.FinMap.Entries.{where_key};
 ghost use Rattle.sqlite.specs.Held.{state};
 ghost use Rattle.sqlite.specs.Values.{bound};
 ghost use Rattle.sqlite.specs.Term.{Term};
-ghost use Rattle.sqlite.specs.State.{HasCleanDisk, IsUnchanged, Shown};
+ghost use Rattle.sqlite.specs.State.{HasCleanDisk, Shown};
 ghost use Rattle.sqlite.specs.declared.types.Value.TheVariants.{Text};
 ghost use Rattle.sqlite.specs.Order.{column};
-ghost use Rattle.ft_rows.specs.Store.{name_cmp, without_index};
+ghost use Rattle.ft_rows.specs.Store.{list_key_cmp, name_cmp, without_index};
 ghost use Rattle.ft_store.specs.Blame.{BlamesIn, BlamesOutside};
-ghost use Rattle.ft_store.specs.Calls.{IsStore, StepsOnOk};
-ghost use Rattle.ft_store.specs.Inside.{DoneInside, MakesInside, StepsInside, StepsInsideIfOpen, without_contents};
+ghost use Rattle.ft_store.specs.Calls.{StepsOnOk};
+ghost use Rattle.ft_store.specs.Inside.{DoneInside, MakesInside, StepsInside, StepsInsideIfOpen, without_contents, without_lists};
 ghost use Rattle.ft_store.specs.Puts.{IsFull, GrowsOnOk, GrowsIfOpen, BlamesRows, BlamesIfOpen, KeepsRestOnOk, KeepsRestIfOpen};
 ghost use Rattle.ft_store.specs.Groups.{put_each};
 ghost use Rattle.ft_store.specs.Found.{found_note};
-ghost use Rattle.ft_store.specs.Anew.{HasFirst, DropsLast, DropsNext, Fills, LooksAt, IsProbe, number_bound, IsFree, AreFree, IsShortNote, AreNotes, FindsInside};
+ghost use Rattle.ft_store.specs.Anew.{HasFirst, DropsLast, DropsNext, Fills, LooksAt, IsProbe, number_bound, IsFree, AreFree, IsShortNote, AreNotes, FindsInside, RestsOnOk, ThinsOnOk};
 
 use crate::fault::StoreFault;
 use crate::make::create;
 use crate::sql::NOTED;
-use crate::statements::{drop_contents, drop_lists, drop_sizes, put_note, run};
+use crate::statements::{beside, drop_contents, drop_lists, drop_sizes, put_note, run};
 use sqlite::types::{ToSql, ValueRef};
 use sqlite::{Alter, Row, Transaction};
 
@@ -31,10 +34,7 @@ const LONG: usize = 1_000_000;
 /// Whether the transaction goes on: only then a statement is run. It does nothing.
 fn go_on<S: Alter>(tx: &mut Transaction<'_, S>) -> Result<(), StoreFault>
     ensures done { DoneInside S.Store tx.old.conn tx.new.conn result
-        (HasCleanDisk (state S.Store tx.new.conn.now)
-        → IsTrue (state S.Store tx.old.conn.now).in_transaction
-        → (IsTrue (state S.Store tx.old.conn.now).is_open → IsStore (state S.Store tx.old.conn.now).now)
-        → OnOk result (IsUnchanged (state S.Store tx.old.conn.now) (state S.Store tx.new.conn.now))) }
+        (RestsOnOk S.Store tx.old.conn.now tx.new.conn.now result) }
     ensures inside { HasCleanDisk (state S.Store tx.new.conn.now)
         → OnOk result (IsTrue (state S.Store tx.new.conn.now).in_transaction) }
     ensures refused { BlamesOutside S.Store tx.old.conn.now tx.new.conn.now result }
@@ -181,9 +181,9 @@ fn notes_beside<S: Alter>(
 ) -> Result<Option<Vec<Row>>, StoreFault>
     requires { from < 8 }
     ensures done { DoneInside S.Store tx.old.conn tx.new.conn result
-        (FindsInside S.Store tx.old.conn.now tx.new.conn.now result (λ notes. IfSome notes (λ rows.
-        let db = (state S.Store tx.old.conn.now).now.trees in
-        AreFree from tab db × AreNotes db rows.items))) }
+        (FindsInside S.Store tx.old.conn.now tx.new.conn.now result
+        (λ notes. let db = (state S.Store tx.old.conn.now).now.trees in
+        IfSome notes (λ rows. AreFree from tab db × AreNotes db rows.items))) }
     ensures short { IfOk result (λ notes. IfSome notes (λ rows. All IsShortNote rows.items)) }
     ensures refused { BlamesOutside S.Store tx.old.conn.now tx.new.conn.now result }
 {
@@ -354,6 +354,60 @@ fn empty_documents<S: Alter>(
     put_notes(tx, notes)
 }
 
+/// First letters of terms, from the last one on.
+const LETTERS: &[&str] = &[
+    "z", "y", "x", "w", "v", "u", "t", "s", "r", "q", "p", "o", "n", "m", "l", "k", "j", "i", "h",
+    "g", "f", "e", "d", "c", "b", "a", "9", "8", "7", "6", "5", "4", "3", "2", "1",
+];
+
+/// Takes the lists of a table out whose terms aren't below one.
+fn drop_lists_from<S: Alter>(
+    tx: &mut Transaction<'_, S>,
+    tab: i64,
+    from: &str,
+) -> Result<(), StoreFault>
+    ensures done { StepsInside S.Store tx.old.conn tx.new.conn result
+        (λ v. record v {
+          lists = where_key list_key_cmp
+              (λ k. not (int_eq tab k.0 && is_le (name_cmp from.now k.1))) v.lists;
+        }) }
+    ensures grown { GrowsOnOk S.Store tx.old.conn.now tx.new.conn.now result 0 }
+    ensures refused { BlamesOutside S.Store tx.old.conn.now tx.new.conn.now result }
+{
+    run(
+        tx,
+        "DELETE FROM posting WHERE tab = ?1 AND term >= ?2",
+        &[beside(tab, from), from.to_sql()],
+    )
+}
+
+/// Takes lists of a table out in parts, where it has many: the database holds the rows that one
+/// statement takes out. Some may be left.
+fn thin_lists<S: Alter>(tx: &mut Transaction<'_, S>, tab: i64) -> Result<(), StoreFault>
+    ensures done { DoneInside S.Store tx.old.conn tx.new.conn result
+        (ThinsOnOk S.Store tx.old.conn.now tx.new.conn.now result tab) }
+    ensures refused { BlamesOutside S.Store tx.old.conn.now tx.new.conn.now result }
+{
+    if !has_many(tx, tab)? {
+        return Ok(());
+    }
+    for letter in LETTERS {
+        drop_lists_from(tx, tab, letter)?;
+    }
+    Ok(())
+}
+
+/// Takes all lists of a table out.
+fn delete_lists<S: Alter>(tx: &mut Transaction<'_, S>, tab: i64) -> Result<(), StoreFault>
+    ensures done { StepsInside S.Store tx.old.conn tx.new.conn result
+        (λ v. without_lists tab v) }
+    ensures grown { GrowsOnOk S.Store tx.old.conn.now tx.new.conn.now result 0 }
+    ensures refused { BlamesOutside S.Store tx.old.conn.now tx.new.conn.now result }
+{
+    thin_lists(tx, tab)?;
+    drop_lists(tx, tab)
+}
+
 /// Takes all index rows of a table out, one by one.
 fn delete_index<S: Alter>(tx: &mut Transaction<'_, S>, tab: i64) -> Result<(), StoreFault>
     ensures done { StepsInside S.Store tx.old.conn tx.new.conn result
@@ -361,7 +415,7 @@ fn delete_index<S: Alter>(tx: &mut Transaction<'_, S>, tab: i64) -> Result<(), S
     ensures grown { GrowsOnOk S.Store tx.old.conn.now tx.new.conn.now result 0 }
     ensures refused { BlamesOutside S.Store tx.old.conn.now tx.new.conn.now result }
 {
-    drop_lists(tx, tab)?;
+    delete_lists(tx, tab)?;
     drop_sizes(tx, tab)
 }
 

@@ -1,4 +1,4 @@
-use Rattle.std.proofs.Common.{◌∙◌, arith, subst, rules, to_z-of_z}
+use Rattle.std.proofs.Common.{◌∙◌, arith, subst, rules, to_z-of_z, sym, true≢false}
 use Rattle.sqlite.specs.Effect.{Database}
 use Rattle.sqlite.specs.Held.{state}
 use Rattle.sqlite.specs.State.{HasCleanDisk}
@@ -40,3 +40,21 @@ returns-clause-done g c = record {
       (before.0, before.1 (omega (arith, c.requires, c.loop-at-test.false)), λ _ i low high. (simp (to_z-of_z, c.ranges.tab) at before.2) i low (omega (arith, high, c.loop-at-test.false)));
   stays = record { same_reference = c.loop-at.invariant.0; kept = c.loop-at.invariant.2; survives = c.loop-at.invariant.1; fault = search rules };
 }
+
+pub returns-then-not-branch-clause-done : goal.returns-then-not-branch-clause-done
+returns-then-not-branch-clause-done g c =
+    let old = state g.S.Store c.args.tx.now.conn.now in
+    let was = state g.S.Store c.loop-at.tx.conn.now in
+    let now = state g.S.Store c.is_free.new.tx.conn.now in
+    record {
+      steps = λ clean inside store.
+          let before = c.loop-at.invariant.3 (omega (arith, c.is_free.ensures.done.stays.survives.clean)) inside store in
+          let step = c.in_ok-is_free.ensures.done.steps clean before.0.inside (stands_store old was before.0 store) in
+          (stands_then old was now before.0 step.0, before.0.opened step.1, λ no. absurd (true≢false (sym no)));
+      stays = record {
+        same_reference = c.is_free.ensures.done.stays.same_reference ∙ c.loop-at.invariant.0;
+        kept = λ clean. keeps_then old was now (c.loop-at.invariant.2 (omega (arith, c.is_free.ensures.done.stays.survives.clean))) (c.is_free.ensures.done.stays.kept clean);
+        survives = survives_then old was now _ _ _ (λ _ db none. none) (λ _ db none. none) c.loop-at.invariant.1 c.is_free.ensures.done.stays.survives;
+        fault = tt;
+      };
+    }
