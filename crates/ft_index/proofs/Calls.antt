@@ -12,6 +12,7 @@ use Rattle.sqlite.specs.Tree.{Trees}
 use Rattle.ft_rows.specs.Store.{StoreValue, applied, Note}
 use Rattle.ft_store.specs.Kept.{shows}
 use Rattle.ft_index.specs.Kept.{StoreHolds, FullText, IsUp, value_of, Holds, Answers, is_outside}
+use Rattle.ft_index.specs.Refused.{BlamesCommand}
 use Rattle.ft_index.specs.Crashes.{HoldsLeft, IsSettled, CommitsCommand, CommitsNote, Name}
 use Rattle.ft_index.specs.Called.{Call, Executed, Looked, Noted, DoesCall, Runs, is_answered, accepted, left_by, with_name, noted_by, contents_with, names_with, AreAnswered, StandsAfter, LeftAfter, at_rest, running, KeptByCalls}
 
@@ -168,10 +169,10 @@ module _ {S : Type 0} (g : Ghosts S) where
       (cut.0, cut.1, cut.2, stands_up start cut.0 (before ++ call ∷ []) first up holds cut.1)
 
   refused_behind : (start end : FullText S) (calls before more : List Call) (command : Command) (fault : Fault) → Runs g start calls end → calls ≡ before ++ Executed command (Err fault) ∷ more →
-      (was now : FullText S) × Runs g start before was × Runs g now more end × (IsUp g now → (value_of g now ≡ value_of g was) × (now.tables ≡ was.tables))
+      (was now : FullText S) × Runs g start before was × Runs g now more end × (IsUp g now → (value_of g now ≡ value_of g was) × (now.tables ≡ was.tables)) × BlamesCommand g was command (Err fault) now
   refused_behind start end calls before more command fault runs is =
       let cut = runs_split start end before (Executed command (Err fault) ∷ more) (subst (λ cs. Runs g start cs end) is runs) in
-      (cut.0, cut.2.0, cut.1, cut.2.2, λ up. cut.2.1.0.unchanged refl up)
+      (cut.0, cut.2.0, cut.1, cut.2.2, λ up. cut.2.1.0.unchanged refl up, cut.2.1.2)
 
   -- ---- a crash
 

@@ -17,6 +17,7 @@ use Rattle.ft_content.specs.Deserved.{Table, Contents}
 use Rattle.ft_content.specs.Step.{step, after}
 use Rattle.ft_content.specs.Views.{table_names}
 use Rattle.ft_index.specs.Kept.{FullText, IsUp, Holds, StoreHolds, Executes, Notes, OnlyLooks, is_outside, is_sound, value_of}
+use Rattle.ft_index.specs.Refused.{BlamesCommand}
 use Rattle.ft_index.specs.Crashes.{HoldsLeft, IsSettled, LeavesCommand, LeavesNote, LeavesRead, Name}
 
 -- a call of `execute` with its answer, of `note`, which was done or refused, or one that reads at
@@ -27,7 +28,8 @@ pub data Call : Type 0 where
   Looked : (is_done : Bool) → Call
 
 abbrev pub DoesCall : {S : Type 0} → Ghosts S → FullText S → Call → FullText S → Type 0
-DoesCall g old (Executed command answer) new = Executes g old command answer new × LeavesCommand g old command (is_ok answer) new
+DoesCall g old (Executed command answer) new =
+    Executes g old command answer new × LeavesCommand g old command (is_ok answer) new × BlamesCommand g old command answer new
 DoesCall g old (Noted name is_done) new = Notes g old name is_done new × LeavesNote g old name is_done new
 DoesCall g old (Looked is_done) new = OnlyLooks g old new × LeavesRead g old is_done new
 
@@ -108,9 +110,11 @@ pub record CallsKept {S : Type 0} (g : Ghosts S) (first : Contents) (start : Ful
       (mid : FullText S) × Runs g start (before ++ call ∷ []) mid × Runs g mid more end × StandsAfter g first (value_of g start).noted (before ++ call ∷ []) mid
   -- and in the end, as long as the store is open
   pub ends : IsTrue (shows g end.store).is_open → StandsAfter g first (value_of g start).noted calls end
-  -- a refused command changes no row of content or index, and no mark
+  -- a refused command changes no row of content or index, and no mark, and the store refuses it only
+  -- for a cause
   pub refused : (before more : List Call) (command : Command) (fault : Fault) → calls ≡ before ++ Executed command (Err fault) ∷ more →
       (was now : FullText S) × Runs g start before was × Runs g now more end × (IsUp g now → (value_of g now ≡ value_of g was) × (now.tables ≡ was.tables))
+      × BlamesCommand g was command (Err fault) now
   -- a crash leaves what stood before the running command or after it, and what was answered stands
   pub crash : IsUp g start → (db : Trees) → (shows g end.store).may_leave db → LeftAfter first (value_of g start).noted calls db
 

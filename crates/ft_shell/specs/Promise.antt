@@ -104,7 +104,8 @@ module _ {P S : Type 0} (g : Ghosts P) (h : Ghosts S) where
   pub record PromiseKept (first : Contents) (old : Parts P S) (reads : List (List ℕ)) (all : Effects) (new : Parts P S) : Type 0 where
     -- Behind each call that is answered each table's content is that of the accepted commands, and
     -- the index rows of each sound table are exactly those made from scratch. A refused command
-    -- changes nothing, and so does a crash but for the command that was running.
+    -- changes nothing, and so does a crash but for the command that was running. The store refuses one
+    -- only for what lies outside it, or since the rows that it comes to can't be put.
     pub calls : CallsKept h first old.full_text all.calls new.full_text
     -- no table becomes unsound
     pub sound : (id : ℤ) → IsTrue (list_any (is_unsound id) (left_by first (accepted all.calls))) → IsTrue (list_any (is_unsound id) first)
