@@ -18,13 +18,6 @@ use Rattle.sqlite.proofs.StateLemmas.{survives_weaker}
 use Rattle.ft_store.specs.Calls.{Keeps}
 use Rattle.sqlite.proofs.Callers.{IsPlain, never_commits}
 
-pub shown_keeps : (sql : List ℕ) (params : Row) (old new : State) (schema : Schema) → old.now.schema ≡ schema → IsPlain (understood schema sql) → (rows : List Row) → Shown sql params old new rows → IsUnchanged old new
-unfolding Shown
-shown_keeps sql params old new schema has plain rows h =
-    let known = sym h.1.is ∙ ap (λ s. understood s sql) has in
-    let bare = subst IsPlain (sym known) plain in
-    (subst (ShowsRows old new sql h.0 (timed params h.0.formats h.1.now) rows) bare.0 h.2).3
-
 pub shown_open : (sql : List ℕ) (params : Row) (old new : State) (rows : List Row) → Shown sql params old new rows → IsTrue old.is_open
 unfolding Shown
 shown_open sql params old new rows h = go h.0.returning h.2

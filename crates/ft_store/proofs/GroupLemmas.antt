@@ -100,9 +100,6 @@ can_put : (c : RowChange) → PutsList c → CanApply c
 can_put (row.PutEntries tab term docid spots) can = can
 can_put _ can = absurd can
 
-pub all_can : (changes : List RowChange) → All PutsList changes → All CanApply changes
-all_can changes all i d low = can_put _ (all i d low)
-
 pub adds_all : (old new : State) (changes : List RowChange) (added : Bool) → All PutsList changes → Goes old new (if added then with_entries (map entry_put changes) (value_of old.now.trees) else value_of old.now.trees)
     → Goes old new (if added then all_applied (map shown_change changes) (value_of old.now.trees) else value_of old.now.trees)
 adds_all old new changes true all goes = subst (Goes old new) (each_puts changes all _) goes

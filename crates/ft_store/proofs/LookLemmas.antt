@@ -115,6 +115,3 @@ stands_then a b c one two = record { now = two.now ∙ one.now; committed = two.
 
 pub stands_store : (a b : State) → Stands a b → (IsTrue a.is_open → IsStore a.now) → IsTrue b.is_open → IsStore b.now
 stands_store a b one store o = subst IsStore (sym one.now) (store (one.opened o))
-
-pub stands_same : (a : State) → IsTrue a.in_transaction → Stands a a
-stands_same a inside = record { now = refl; committed = refl; inside = inside; opened = λ o. o }

@@ -443,20 +443,6 @@ pub record Making {S : Type 0} (g : Ghosts S) (old now : MutBor (Held S)) (made 
   pub live : HasCleanDisk (state g now.now) → IsTrue (state g old.now).in_transaction → (IsTrue (state g old.now).is_open → IsEmptyOf no_schema (state g old.now).now)
       → 0 < made → IsTrue (state g now.now).is_open
 
-pub none_made : {S : Type 0} (g : Ghosts S) (old : MutBor (Held S)) → Making g old old 0
-none_made g old = record {
-  within = omega arith;
-  stays = record {
-    same_reference = refl;
-    kept = λ clean. keeps_same (state g old.now);
-    survives = record { clean = omega arith; shield = λ h. h; counts = omega arith; limit = refl; closes = λ clean is_open. inl is_open; crash = λ clean db h. inl h };
-    fault = tt;
-  };
-  inside = λ clean inside was. inside;
-  seen = λ clean inside was is_open. (was is_open, record { was_open = is_open; is_open = is_open; now_is = refl; committed_is = refl; mode = inside });
-  live = λ clean inside was some. absurd (omega (arith, some));
-}
-
 module _ {S : Type 0} (g : Ghosts S) (a b c : MutBor (Held S)) (n : ℕ) (so : Making g a b n) where
   abbrev MakesOne : Type 0
   MakesOne = MakesInside g b c (Ok tt) (IsEmptyOf (first_tables n)) (λ _ new. IsEmptyOf (first_tables (n + 1)) new)

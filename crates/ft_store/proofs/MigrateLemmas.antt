@@ -97,6 +97,3 @@ unmarks old new count was h =
     )
 
 -- ---- what was looked at
-
-pub is_older : (db : Database) → IsStoreBy Older db → IsOlder db.trees
-is_older db it = record { sound = subst (λ s. IsSound s db.trees) it.schema it.sound; numbered = it.numbered; marked = it.marked }

@@ -39,9 +39,6 @@ rest_of old new o = (o.1.1.0, (o.1.1.1.0, (o.1.1.1.1.0, (o.1.1.1.1.1.0, (o.1.1.1
 pub rest_then : (a b c : Trees) → KeepsRest 11 a b → KeepsRest 11 b c → KeepsRest 11 a c
 rest_then a b c = all_both (λ t. t ≢ 11 → b t ≡ a t) (λ t. t ≢ 11 → c t ≡ b t) (λ t. t ≢ 11 → c t ≡ a t) (λ t one two other. two other ∙ one other) chosen_trees
 
-pub rest_same : (a : Trees) → KeepsRest 11 a a
-rest_same a = ((λ o. refl), ((λ o. refl), ((λ o. refl), ((λ o. refl), ((λ o. refl), ((λ o. refl), tt))))))
-
 pub drop_note_keeps : (name : List ℕ) (old new : State) (count : ℕ) → IsStore old.now → Executes drop_note_text (Text name ∷ []) old new (Ok count) → KeepsRest 11 old.now.trees new.now.trees
 drop_note_keeps name old new count kept h =
     rest_of old.now.trees new.now.trees (deletes old new drop_note_text (Text name ∷ []) 6 (noted_table 11) drop_note_terms count kept.schema drop_note_is drop_note_plain refl refl kept.numbered.1.1.1.1.1.1.0 h).others

@@ -152,17 +152,6 @@ goes_on old was now changes i change v inside is before step = record {
   inside = step.shown.mode;
 }
 
--- what a commit writes is the value after all changes
-pub all_done : (old last : State) (list : List Change) (v : StoreValue) → Goes old last (all_applied list v) → IsTrue old.is_open → (db : Trees) → db ≡ last.now.trees → IsStored db (all_applied list v)
-all_done old last list v goes is_open db is =
-    let at = goes.going is_open in
-    subst (λ t. IsStored t (all_applied list v)) (sym is) (record {
-      sound = subst (λ s. IsSound s last.now.trees) at.1.schema at.1.sound;
-      numbered = at.1.numbered;
-      marked = at.1.marked;
-      is = at.2;
-    })
-
 -- ---- the loops over the columns of a table
 
 pub skip_step : (old was now : State) (tab x : ℤ) (skipped : List ℤ) (i : ℕ) → i < length skipped → x ≡ get_or skipped i (pos 0)

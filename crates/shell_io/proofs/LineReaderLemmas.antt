@@ -182,22 +182,6 @@ ended_line a plain some = ap (λ lines. a.splitting.waiting ++ given_by true a.s
 pub none_left : (a : LinesRead) → a.splitting.waiting ≡ [] → HasNoEnd a.line → members_left a (record { rest = []; ends = false }) ≡ []
 none_left a none plain = λ i. none i ++ given_by false a.splitting.reading ((lines_fronted false a.line [] plain ∙ fronted_none a.line) i)
 
--- between two lines what is pending is left
-pub ends_with : (a : LinesRead) (new : Splitting) (r : Result (Option SeenUnit) SplitFault) → a.splitting.waiting ≡ [] → a.line ≡ [] → Finishes a.splitting new r → EndsWith r (members_left a at_end)
-ends_with a new r none between finishes = go r finishes
-  where
-    left : members_left a at_end ≡ last_member (tail_in a.splitting.reading)
-    left = λ i. none i ++ given_by true a.splitting.reading (lines_of true (between i ++ []))
-
-    go : (r : Result (Option SeenUnit) SplitFault) → Finishes a.splitting new r → EndsWith r (members_left a at_end)
-    go (Ok None) f = left ∙ f.0
-    go (Ok (Some u)) f = left ∙ f.0
-    go (Err fault.Memory) f = tt
-    go (Err (fault.Incomplete line)) f = left ∙ f.0
-    go (Err fault.TooLong) f = absurd f
-    go (Err fault.NotUtf8) f = absurd f
-    go (Err fault.HasNul) f = absurd f
-
 -- a refusal at the end
 pub ends_refused : (why : SplitFault) (left : List Member) → why ≢ fault.Memory → EndsWith (Err why) left → left ≡ Fault (end_line why) why ∷ []
 ends_refused fault.TooLong left other is = is
