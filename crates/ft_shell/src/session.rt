@@ -14,8 +14,11 @@ ghost use Rattle.shell_io.specs.Writing.{SameWriters};
 use crate::turns::unit_turn;
 use ft_index::FullText;
 use ft_statements::split_text;
-use shell_io::{Complaint, LineReader, Outputs, Refusal, RunFault, Source, Status, echo_text, end_refusal, first_line, flush, is_over, read_chunk, tell};
 use ram_disk::Honest;
+use shell_io::{
+    Complaint, LineReader, Outputs, Refusal, RunFault, Source, Status, echo_text, end_refusal,
+    first_line, flush, is_over, read_chunk, tell,
+};
 use shell_text::{Settings, SplitFault, Unit, blocks_read_whole};
 use sqlite::{Alter, Connection};
 use std::alloc::Global;
