@@ -12,7 +12,8 @@ ghost use Rattle.ft_statements.specs.Dots.{DotCommand, Says, dot_command_of};
 /// where full-text tables of these names are there. None is read exactly where the grammar spells
 /// none.
 pub fn statements_by_grammar()
-    ensures command { (ts : List Token) (c : Command) → (command_of ts ≡ Some c) ↔ IsStatement ts c }
+    ensures command { (ts : List Token) (c : Command) →
+        (command_of ts ≡ Some c) ↔ IsStatement ts c }
     ensures class { (tables : List (List ℕ)) (ts : List Token) (class : Class) →
         (class_of tables ts ≡ Some class) ↔ HasClass tables ts class }
     ensures none { (tables : List (List ℕ)) (ts : List Token) →
@@ -21,7 +22,8 @@ pub fn statements_by_grammar()
 
 /// No words spell two commands, and no statement has two classes.
 pub fn one_class_each()
-    ensures command { (ts : List Token) (a b : Command) → IsStatement ts a → IsStatement ts b → a ≡ b }
+    ensures command { (ts : List Token) (a b : Command) →
+        IsStatement ts a → IsStatement ts b → a ≡ b }
     ensures class { (tables : List (List ℕ)) (ts : List Token) (a b : Class) →
         HasClass tables ts a → HasClass tables ts b → a ≡ b }
 {}
