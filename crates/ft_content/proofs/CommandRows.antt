@@ -9,7 +9,7 @@ use Rattle.ft_content.specs.Content.{Content}
 use Rattle.ft_content.specs.Index.{EntryRow, SizeRow, stored_spot, size_row, entries, spot_lists, sizes, index_rows, entry_rows}
 use Rattle.ft_content.specs.Command.{Filter, All, Docid, Match, Item, AllColumns, Named, OffsetsOf, Counted, Listed, Command, Create, Drop, Insert, Update, Delete, Select, Rebuild, Check, Optimize, Reply, Done, Rows}
 use Rattle.ft_content.specs.Answer.{reading, chosen, answer}
-use Rattle.ft_content.specs.Deserved.{TableState, Sound, Stale, Loose, Contents, insert_rows, deserved}
+use Rattle.ft_content.specs.Deserved.{TableState, Sound, Stale, Loose, Contents, inserted_rows, deserved}
 use Rattle.ft_content.specs.Step.{after, reply_to, step}
 
 -- the contents after commands, and what they are answered
@@ -60,7 +60,7 @@ pub update_and_delete : answers_to [] (
     ∷ [])
     ≡ Ok Done ∷ Ok Done ∷ Ok Done ∷ rows_under (codes "docid" ∷ []) (docids (pos 2 ∷ [])) ∷ Ok Done ∷ Ok Done
     ∷ rows_under (codes "docid" ∷ codes "x" ∷ []) ((Int (pos 1) ∷ Text (codes "green") ∷ []) ∷ []) ∷ []
-unfolding query_of reading chosen answer insert_rows deserved after reply_to step
+unfolding query_of reading chosen answer inserted_rows deserved after reply_to step
 update_and_delete = refl
 
 -- a docid that comes twice in one Insert: nothing goes in
@@ -70,7 +70,7 @@ pub taken_within : answers_to [] (
     ∷ Select (codes "d") Counted All None 0
     ∷ [])
     ≡ Ok Done ∷ Err (faults.DocidTaken (pos 7)) ∷ rows_under (codes "count(*)" ∷ []) ((Int (pos 0) ∷ []) ∷ []) ∷ []
-unfolding query_of reading chosen answer insert_rows deserved after reply_to step
+unfolding query_of reading chosen answer inserted_rows deserved after reply_to step
 taken_within = refl
 
 -- an Update of two documents can't set docid
@@ -82,7 +82,7 @@ pub taken_by_two : answers_to [] (
     ∷ [])
     ≡ Ok Done ∷ Ok Done ∷ Err (faults.DocidTaken (pos 5))
     ∷ rows_under (codes "docid" ∷ codes "x" ∷ []) ((Int (pos 1) ∷ Text (codes "p") ∷ []) ∷ (Int (pos 2) ∷ Text (codes "q") ∷ []) ∷ []) ∷ []
-unfolding query_of reading chosen answer insert_rows deserved after reply_to step
+unfolding query_of reading chosen answer inserted_rows deserved after reply_to step
 taken_by_two = refl
 
 -- after the last docid there is none
@@ -94,7 +94,7 @@ pub no_docid_left : answers_to [] (
     ∷ Select (codes "d") (Listed (Named (codes "docid") ∷ [])) All None 0
     ∷ [])
     ≡ Ok Done ∷ Ok Done ∷ Err faults.DocidFull ∷ Ok Done ∷ rows_under (codes "docid" ∷ []) (docids (pos 3 ∷ pos 9223372036854775807 ∷ [])) ∷ []
-unfolding query_of reading chosen answer insert_rows deserved after reply_to step
+unfolding query_of reading chosen answer inserted_rows deserved after reply_to step
 no_docid_left = refl
 
 -- the first row that fails decides: a docid that is taken, before one for which none is left, and
@@ -105,7 +105,7 @@ pub first_row_decides : answers_to [] (
     ∷ Insert (codes "d") (Some (codes "rowid" ∷ codes "x" ∷ [])) ((Int (pos 9223372036854775807) ∷ Null ∷ []) ∷ (Null ∷ Null ∷ []) ∷ (Int (pos 9223372036854775807) ∷ Null ∷ []) ∷ [])
     ∷ [])
     ≡ Ok Done ∷ Err (faults.DocidTaken (pos 9223372036854775807)) ∷ Err faults.DocidFull ∷ []
-unfolding query_of reading chosen answer insert_rows deserved after reply_to step
+unfolding query_of reading chosen answer inserted_rows deserved after reply_to step
 first_row_decides = refl
 
 -- the index of the table d, from scratch
@@ -134,12 +134,12 @@ apple_and_pear = create_d ∷ texts_into_d ((Text (codes "red apple") ∷ []) �
 
 pub text_replaced : entries_after (apple_and_pear ++ Update (codes "d") ((codes "x", Text (codes "green")) ∷ []) (Docid (pos 1)) ∷ [])
     ≡ entry (codes "green") (pos 1) 0 0 0 5 ∷ entry (codes "pear") (pos 2) 0 1 4 4 ∷ entry (codes "red") (pos 2) 0 0 0 3 ∷ []
-unfolding query_of reading chosen answer insert_rows deserved after reply_to step entries spot_lists sizes index_rows
+unfolding query_of reading chosen answer inserted_rows deserved after reply_to step entries spot_lists sizes index_rows
 text_replaced = refl
 
 pub text_replaced_sizes : sizes_after (apple_and_pear ++ Update (codes "d") ((codes "x", Text (codes "green")) ∷ []) (Docid (pos 1)) ∷ [])
     ≡ size_of (pos 1) 0 1 ∷ size_of (pos 2) 0 2 ∷ []
-unfolding query_of reading chosen answer insert_rows deserved after reply_to step entries spot_lists sizes index_rows
+unfolding query_of reading chosen answer inserted_rows deserved after reply_to step entries spot_lists sizes index_rows
 text_replaced_sizes = refl
 
 abbrev pub one_apple : List Command
@@ -147,23 +147,23 @@ one_apple = create_d ∷ texts_into_d ((Text (codes "red apple") ∷ []) ∷ [])
 
 pub docid_set : entries_after (one_apple ++ Update (codes "d") ((codes "docid", Int (pos 9)) ∷ []) (Docid (pos 1)) ∷ [])
     ≡ entry (codes "apple") (pos 9) 0 1 4 5 ∷ entry (codes "red") (pos 9) 0 0 0 3 ∷ []
-unfolding query_of reading chosen answer insert_rows deserved after reply_to step entries spot_lists sizes index_rows
+unfolding query_of reading chosen answer inserted_rows deserved after reply_to step entries spot_lists sizes index_rows
 docid_set = refl
 
 pub docid_set_sizes : sizes_after (one_apple ++ Update (codes "d") ((codes "docid", Int (pos 9)) ∷ []) (Docid (pos 1)) ∷ []) ≡ size_of (pos 9) 0 2 ∷ []
-unfolding query_of reading chosen answer insert_rows deserved after reply_to step entries spot_lists sizes index_rows
+unfolding query_of reading chosen answer inserted_rows deserved after reply_to step entries spot_lists sizes index_rows
 docid_set_sizes = refl
 
 pub emptied : index_rows (first_content (after_all [] (one_apple ++ Update (codes "d") ((codes "x", Null) ∷ []) (Docid (pos 1)) ∷ []))) ≡ record { lists = []; sizes = [] }
-unfolding query_of reading chosen answer insert_rows deserved after reply_to step entries spot_lists sizes index_rows
+unfolding query_of reading chosen answer inserted_rows deserved after reply_to step entries spot_lists sizes index_rows
 emptied = refl
 
 pub no_rows : answers_to [] (create_d ∷ texts_into_d [] ∷ []) ≡ Ok Done ∷ Ok Done ∷ []
-unfolding insert_rows deserved after reply_to step
+unfolding inserted_rows deserved after reply_to step
 no_rows = refl
 
 pub no_rows_index : index_rows (first_content (after_all [] (create_d ∷ texts_into_d [] ∷ []))) ≡ record { lists = []; sizes = [] }
-unfolding insert_rows deserved after reply_to step entries spot_lists sizes index_rows
+unfolding inserted_rows deserved after reply_to step entries spot_lists sizes index_rows
 no_rows_index = refl
 
 -- five documents p
@@ -188,7 +188,7 @@ pub cuts : answers_to (after_all [] five) (
     ≡ rows_under (codes "docid" ∷ []) (docids (pos 2 ∷ pos 3 ∷ [])) ∷ rows_under (codes "docid" ∷ []) [] ∷ rows_under (codes "docid" ∷ []) []
     ∷ rows_under (codes "count(*)" ∷ []) (docids (pos 5 ∷ [])) ∷ rows_under (codes "count(*)" ∷ []) (docids (pos 5 ∷ []))
     ∷ rows_under (codes "count(*)" ∷ []) [] ∷ rows_under (codes "count(*)" ∷ []) [] ∷ []
-unfolding query_of reading chosen answer insert_rows deserved after reply_to step
+unfolding query_of reading chosen answer inserted_rows deserved after reply_to step
 cuts = refl
 
 -- after all documents are deleted the first docid is 1 again
@@ -198,11 +198,11 @@ pub first_again : answers_to (after_all [] five) (
     ∷ select_d
     ∷ [])
     ≡ Ok Done ∷ Ok Done ∷ rows_under (codes "docid" ∷ codes "x" ∷ []) ((Int (pos 1) ∷ Text (codes "q") ∷ []) ∷ []) ∷ []
-unfolding query_of reading chosen answer insert_rows deserved after reply_to step
+unfolding query_of reading chosen answer inserted_rows deserved after reply_to step
 first_again = refl
 
 pub taken_by_five : step (after_all [] five) (Update (codes "d") ((codes "docid", Int (pos 3)) ∷ []) (Match (codes "d") (codes "p"))) ≡ (Err (faults.DocidTaken (pos 3)), after_all [] five)
-unfolding query_of reading chosen answer insert_rows deserved after reply_to step
+unfolding query_of reading chosen answer inserted_rows deserved after reply_to step
 taken_by_five = refl
 
 -- each refusal in its turn
@@ -224,7 +224,7 @@ pub refusals : answers_to [] (
     ∷ [])
     ≡ Err faults.Module ∷ Err faults.Tokenizer ∷ Err faults.Parameter ∷ Err faults.DuplicateColumn ∷ Ok Done ∷ Err faults.TableExists ∷ Ok Done
     ∷ Err faults.Count ∷ Err faults.DocidTwice ∷ Err faults.NoSuchColumn ∷ Err faults.Context ∷ []
-unfolding query_of reading chosen answer insert_rows deserved after reply_to step
+unfolding query_of reading chosen answer inserted_rows deserved after reply_to step
 refusals = refl
 
 -- of two faults of one command the one that is tested first
@@ -248,7 +248,7 @@ pub order_of_faults : answers_to [] (
     ∷ [])
     ≡ Ok Done ∷ Err faults.DuplicateColumn ∷ Err faults.NoSuchTable ∷ Err faults.NoSuchColumn ∷ Err faults.Count ∷ Err faults.DocidKind ∷ Err faults.HasNul
     ∷ Err faults.DocidKind ∷ Err faults.DocidTwice ∷ Ok Done ∷ Err faults.NoSuchColumn ∷ Err faults.Malformed ∷ Err faults.NoSuchColumn ∷ Ok Done ∷ Err faults.NoSuchTable ∷ Ok Done ∷ []
-unfolding query_of reading chosen answer insert_rows deserved after reply_to step
+unfolding query_of reading chosen answer inserted_rows deserved after reply_to step
 order_of_faults = refl
 
 -- A table whose index rows are wrong: only Drop, Rebuild and Check see it, and Rebuild makes it
@@ -265,7 +265,7 @@ pub rebuilt_again : answers_to stale_d (
     ∷ docids_matching (codes "red")
     ∷ [])
     ≡ Err faults.Unsound ∷ Err faults.Corrupt ∷ Err faults.Unsound ∷ Ok Done ∷ Ok Done ∷ rows_under (codes "docid" ∷ []) (docids (pos 1 ∷ pos 2 ∷ [])) ∷ []
-unfolding query_of reading chosen answer insert_rows deserved after reply_to step
+unfolding query_of reading chosen answer inserted_rows deserved after reply_to step
 rebuilt_again = refl
 
 -- a table whose rows are no content
@@ -274,7 +274,7 @@ loose_d = (pos 1, record { name = codes "d"; held = Loose (record { columns = (p
 
 pub dropped_at_last : answers_to loose_d (select_d ∷ Check (codes "d") ∷ Rebuild (codes "d") ∷ Drop (codes "d") false ∷ create_d ∷ select_d ∷ [])
     ≡ Err faults.Unsound ∷ Err faults.Corrupt ∷ Err faults.Corrupt ∷ Ok Done ∷ Ok Done ∷ rows_under (codes "docid" ∷ codes "x" ∷ []) [] ∷ []
-unfolding query_of reading chosen answer insert_rows deserved after reply_to step
+unfolding query_of reading chosen answer inserted_rows deserved after reply_to step
 dropped_at_last = refl
 
 -- a new table takes the least positive id that no table has
@@ -290,7 +290,7 @@ pub least_id : ids (after_all [] (
     ∷ Create (codes "z") (codes "fts4") [] [] false
     ∷ []))
     ≡ pos 1 ∷ pos 2 ∷ pos 3 ∷ []
-unfolding insert_rows deserved after reply_to step
+unfolding inserted_rows deserved after reply_to step
 least_id = refl
 
 -- headers, all columns, a docid by its other name, and offsets
@@ -300,13 +300,13 @@ pub headers : answers_to [] (
     ∷ Select (codes "D") (Listed (Named (codes "ROWID") ∷ AllColumns ∷ Named (codes "X") ∷ OffsetsOf (codes "D") ∷ [])) (Match (codes "d") (codes "a")) None 0
     ∷ [])
     ≡ Ok Done ∷ Ok Done ∷ rows_under (codes "rowid" ∷ codes "x" ∷ codes "x" ∷ codes "offsets(d)" ∷ []) ((Int (pos 2) ∷ Text (codes "b a b") ∷ Text (codes "b a b") ∷ Text (codes "0 0 2 1") ∷ []) ∷ []) ∷ []
-unfolding query_of reading chosen answer insert_rows deserved after reply_to step digits
+unfolding query_of reading chosen answer inserted_rows deserved after reply_to step digits
 headers = refl
 
 -- an integer is indexed by its decimal text, a negative one without its sign
 pub number_indexed : entries_after (create_d ∷ texts_into_d ((Text (195 ∷ 134 ∷ 114 ∷ 195 ∷ 184 ∷ []) ∷ []) ∷ (Int (negsuc 14) ∷ []) ∷ []) ∷ [])
     ≡ entry (codes "15") (pos 2) 0 0 1 2 ∷ entry (195 ∷ 134 ∷ 114 ∷ 195 ∷ 184 ∷ []) (pos 1) 0 0 0 5 ∷ []
-unfolding query_of reading chosen answer insert_rows deserved after reply_to step digits entries spot_lists sizes index_rows
+unfolding query_of reading chosen answer inserted_rows deserved after reply_to step digits entries spot_lists sizes index_rows
 number_indexed = refl
 
 -- a column that is not indexed
@@ -315,9 +315,9 @@ not_indexed = Create (codes "n") (codes "fts4") ((codes "notindexed", codes "b")
     ∷ Insert (codes "n") None ((Text (codes "red") ∷ Text (codes "red blue") ∷ []) ∷ []) ∷ []
 
 pub only_indexed : entries_after not_indexed ≡ entry (codes "red") (pos 1) 0 0 0 3 ∷ []
-unfolding query_of reading chosen answer insert_rows deserved after reply_to step entries spot_lists sizes index_rows
+unfolding query_of reading chosen answer inserted_rows deserved after reply_to step entries spot_lists sizes index_rows
 only_indexed = refl
 
 pub unknown_column : answers_to [] (Create (codes "o") (codes "fts4") ((codes "notindexed", codes "c") ∷ []) (codes "a" ∷ []) false ∷ []) ≡ Err faults.NoSuchColumn ∷ []
-unfolding insert_rows deserved after reply_to step
+unfolding inserted_rows deserved after reply_to step
 unknown_column = refl

@@ -13,7 +13,7 @@ use Rattle.ft_values.specs.declared.fault.Fault.TheVariants as faults
 use Rattle.ft_values.specs.Cells.{Cell, Null}
 use Rattle.ft_content.specs.Content.{Column, Documents, same_name, is_name, names_of, names_clash, is_too_long, has_nul, is_cell, is_document}
 use Rattle.ft_content.specs.Answer.{is_chosen, chosen}
-use Rattle.ft_content.specs.Deserved.{or_else, listed_columns, docids_in, value_under, with_values, new_cells, next_docid, append_document, insert_row, insert_rows, then_rows, has_docid}
+use Rattle.ft_content.specs.Deserved.{or_else, listed_columns, docids_named, value_under, with_values, new_cells, next_docid, append_document, insert_row, inserted_rows, then_rows, has_docid}
 use Rattle.ft_content.specs.Step.{without_docid, made_column, moved, inserted_into}
 use Rattle.ft_content.specs.Laws.{InsertKeepsContent, UpdateKeepsContent, DeleteKeepsContent, CreateMakesContent}
 
@@ -172,13 +172,13 @@ then_fine : (P : Documents → Type 0) (first : Result Documents Fault) (rest : 
 then_fine P (Ok after) rest fine goes_on = goes_on after fine
 then_fine P (Err fault) rest fine goes_on = tt
 
-insert_rows_fine : (columns : List Column) (rows : List (List (List ℕ × Cell))) (documents : Documents) → list_all are_values rows ≡ true → AreDocuments (length columns) documents → IfFine (AreDocuments (length columns)) (insert_rows columns rows documents)
-unfolding insert_rows
+insert_rows_fine : (columns : List Column) (rows : List (List (List ℕ × Cell))) (documents : Documents) → list_all are_values rows ≡ true → AreDocuments (length columns) documents → IfFine (AreDocuments (length columns)) (inserted_rows columns rows documents)
+unfolding inserted_rows
 insert_rows_fine columns [] documents h are = are
 insert_rows_fine columns (values ∷ rows) documents h are =
     let parts = and_parts (are_values values) (list_all are_values rows) h in
-    then_fine (AreDocuments (length columns)) (insert_row documents (docids_in values) (new_cells values columns)) (insert_rows columns rows)
-    (insert_row_fine (AreDocuments (length columns)) documents (docids_in values) (new_cells values columns) (λ docid. put_documents (length columns) documents docid (new_cells values columns) (new_document docid values columns parts.0) are))
+    then_fine (AreDocuments (length columns)) (insert_row documents (docids_named values) (new_cells values columns)) (inserted_rows columns rows)
+    (insert_row_fine (AreDocuments (length columns)) documents (docids_named values) (new_cells values columns) (λ docid. put_documents (length columns) documents docid (new_cells values columns) (new_document docid values columns parts.0) are))
     (λ after fine. insert_rows_fine columns rows after parts.1 fine)
 
 inserted_fine : (width : ℕ) (documents : Documents) (r : Result Documents Fault) → AreDocuments width documents → IfFine (AreDocuments width) r → AreDocuments width (inserted_into documents r)
@@ -199,7 +199,7 @@ insert_keeps_content table content columns rows h none =
     let long = not_this (list_any (list_any is_too_long) rows) faults.TooLong _ after_twice in
     let nul = not_this (list_any (list_any has_nul) rows) faults.HasNul _ long.1 in
     let are : AreDocuments (length content.columns) content.documents = record { each = h.documents; rising = h.rising } in
-    let fine = inserted_fine (length content.columns) content.documents (insert_rows content.columns (map (zip names) rows) content.documents) are
+    let fine = inserted_fine (length content.columns) content.documents (inserted_rows content.columns (map (zip names) rows) content.documents) are
     (insert_rows_fine content.columns (map (zip names) rows) content.documents (zip_rows names rows (rows_from_none rows long.0 nul.0)) are) in
     record { columns = h.columns; documents = fine.each; rising = fine.rising }
 
@@ -255,7 +255,7 @@ update_keeps_content table content sets f h none =
     } in
     let picked : list_all (is_document width) (map change (filter (is_chosen content f) content.documents)) ≡ true =
     list_all-map (is_document width) (is_document width) change (λ d is. changed_document sets content.columns d values is) (filter (is_chosen content f) content.documents) (list_all-filter (is_document width) (is_chosen content f) content.documents h.documents) in
-    let fine = moved_fine width (map keep content.documents) (map change (filter (is_chosen content f) content.documents)) (docids_in sets) all picked in
+    let fine = moved_fine width (map keep content.documents) (map change (filter (is_chosen content f) content.documents)) (docids_named sets) all picked in
     record { columns = h.columns; documents = fine.each; rising = fine.rising }
 
 -- ---- Create

@@ -10,7 +10,7 @@ use Rattle.std.proofs.lemmas.Iterator.Consumers.{nth_from_yields_List}
 use Rattle.ft_values.specs.Cells.{Cell, Null, Int, Text, shown_value}
 use Rattle.ft_values.specs.declared.rows.Value.{Value}
 use Rattle.ft_content.specs.Content.{is_docid}
-use Rattle.ft_content.specs.Deserved.{number_of, docids_in}
+use Rattle.ft_content.specs.Deserved.{docid_of_value, docids_named}
 
 pub zip_of_maps : {A B C D : Type 0} (f : A → C) (g : B → D) (xs : List A) (ys : List B) → zip (map f xs) (map g ys) ≡ map (λ (p : A × B). (f p.0, g p.1)) (zip xs ys)
 zip_of_maps f g [] ys = refl
@@ -23,17 +23,17 @@ filter_map_of_map p h (x ∷ xs) = ap (cons_option (p (h x))) (filter_map_of_map
 
 -- the docid that a value gives
 abbrev pub docid_given : List ℕ × Cell → Option ℤ
-docid_given v = slice_get (cond (is_docid v.0) (number_of v.1) []) 0
+docid_given v = slice_get (cond (is_docid v.0) (docid_of_value v.1) []) 0
 
-number_first : (cell : Cell) (b : Bool) (rest : List ℤ) → cond b (number_of cell) [] ++ rest ≡ cons_option (slice_get (cond b (number_of cell) []) 0) rest
+number_first : (cell : Cell) (b : Bool) (rest : List ℤ) → cond b (docid_of_value cell) [] ++ rest ≡ cons_option (slice_get (cond b (docid_of_value cell) []) 0) rest
 number_first Null true rest = refl
 number_first (Int n) true rest = refl
 number_first (Text t) true rest = refl
 number_first cell false rest = refl
 
-pub docids_are : (values : List (List ℕ × Cell)) → docids_in values ≡ filter_map docid_given values
+pub docids_are : (values : List (List ℕ × Cell)) → docids_named values ≡ filter_map docid_given values
 docids_are [] = refl
-docids_are (v ∷ vs) = number_first v.1 (is_docid v.0) (docids_in vs) ∙ ap (cons_option (docid_given v)) (docids_are vs)
+docids_are (v ∷ vs) = number_first v.1 (is_docid v.0) (docids_named vs) ∙ ap (cons_option (docid_given v)) (docids_are vs)
 
 -- ---- values of a row, borrowed
 

@@ -17,7 +17,7 @@ use Rattle.ft_values.specs.Cells.{Cell}
 use Rattle.ft_content.specs.Content.{Column, Documents}
 use Rattle.ft_content.specs.Index.{Spot, Entry, Size, Key, key_cmp, key_of, spots_at, spot_lists, document_tokens, document_postings, entry_at, document_entries, entries, document_sizes, sizes}
 use Rattle.ft_content.specs.Step.{without_docid}
-use Rattle.ft_content.specs.Laws.{entries_of, content_with, spots_in, some_if_any, ListsAreEntries}
+use Rattle.ft_content.specs.Laws.{entries_of_docid, content_with, spots_of_key, some_if_any, ListsAreEntries}
 
 -- ---- a filter that answers alike at each element
 
@@ -78,8 +78,8 @@ lists_are_entries (e ∷ es) term docid =
     find-put key_cmp key_cmp_total (term, docid) (e.term, e.docid) (e.spot ∷ spots) before
     ∙ elim (eq_by_cmp key_cmp (term, docid) (e.term, e.docid)) as (λ b. eq_by_cmp key_cmp (term, docid) (e.term, e.docid) ≡ b → cond b (Some (e.spot ∷ spots)) (find key_cmp (term, docid) before) ≡ some_if_any (map (λ (x : Entry). x.spot) (cond b (e ∷ rest) rest))) [
       | true ↦ λ same. ap (λ ss. Some (e.spot ∷ ss))
-          (ap (λ o. unwrap_or o []) (lists_are_entries es e.term e.docid) ∙ unwrap_any (spots_in (e.term, e.docid) es)
-          ∙ ap (λ (k : Key). spots_in k es) (sym (key_cmp_exact (term, docid) (e.term, e.docid) (tie _ same))))
+          (ap (λ o. unwrap_or o []) (lists_are_entries es e.term e.docid) ∙ unwrap_any (spots_of_key (e.term, e.docid) es)
+          ∙ ap (λ (k : Key). spots_of_key k es) (sym (key_cmp_exact (term, docid) (e.term, e.docid) (tie _ same))))
       | false ↦ λ apart. lists_are_entries es term docid
     ] refl
 
@@ -96,7 +96,7 @@ filter-within p q implies (x ∷ xs) =
     ] refl
 
 -- a key's spots are those of the entries of its docid
-pub spots_in-own : (term : List ℕ) (docid : ℤ) (es : List Entry) → spots_in (term, docid) es ≡ spots_in (term, docid) (entries_of docid es)
+pub spots_in-own : (term : List ℕ) (docid : ℤ) (es : List Entry) → spots_of_key (term, docid) es ≡ spots_of_key (term, docid) (entries_of_docid docid es)
 spots_in-own term docid es = ap (map (λ (e : Entry). e.spot)) (sym (filter-within (λ (e : Entry). eq_by_cmp key_cmp (term, docid) (e.term, e.docid)) (λ (e : Entry). int_eq docid e.docid) (λ e h. second_tie (slice_cmp nat_cmp term e.term) (int_cmp docid e.docid) h) es))
 
 pub same_docid : (docid other : ℤ) → int_eq docid other ≡ true → docid ≡ other

@@ -9,7 +9,7 @@ use Rattle.ft_values.specs.declared.fault.Fault.TheVariants as faults
 use Rattle.ft_values.specs.Cells.{Cell, Int, Text}
 use Rattle.ft_content.specs.Command.{All, Match, Named, OffsetsOf, Listed, Command, Create, Insert, Select, Check, Reply, Done}
 use Rattle.ft_content.specs.Answer.{reading, chosen, answer}
-use Rattle.ft_content.specs.Deserved.{insert_rows, deserved}
+use Rattle.ft_content.specs.Deserved.{inserted_rows, deserved}
 use Rattle.ft_content.specs.Step.{after, reply_to, step}
 use Rattle.ft_content.proofs.CommandRows.{answers_to, after_all, create_d, texts_into_d, rows_under, docids, not_indexed}
 
@@ -44,11 +44,11 @@ pub words_found : answers_to (after_all [] mail) (
     ∷ [])
     ≡ rows_under (codes "docid" ∷ codes "offsets(mail)" ∷ []) ((Int (pos 1) ∷ Text (codes "0 0 6 5 1 0 24 5") ∷ []) ∷ [])
     ∷ offsets_rows (codes "mail") (codes "1 0 5 7 1 0 30 7" ∷ []) ∷ []
-unfolding query_of reading chosen answer insert_rows deserved after reply_to step digits
+unfolding query_of reading chosen answer inserted_rows deserved after reply_to step digits
 words_found = refl
 
 pub phrase_found : answers_to (after_all [] mail) (offsets_matching (codes "mail") (codes "\"serious mail\"") ∷ []) ≡ offsets_rows (codes "mail") (codes "1 0 28 7 1 1 36 4" ∷ []) ∷ []
-unfolding query_of reading chosen answer insert_rows deserved after reply_to step digits
+unfolding query_of reading chosen answer inserted_rows deserved after reply_to step digits
 phrase_found = refl
 
 -- CREATE VIRTUAL TABLE docs USING fts4(), and one document
@@ -64,7 +64,7 @@ pub near_found : answers_to (after_all [] docs) (
     ∷ matching (codes "docs") (codes "sqlite NEAR/1000001 database")
     ∷ [])
     ≡ offsets_rows (codes "docs") (codes "0 1 0 6 0 0 48 8" ∷ []) ∷ offsets_rows (codes "docs") [] ∷ offsets_rows (codes "docs") (codes "0 1 13 4 0 2 18 9 0 0 48 8" ∷ []) ∷ Err faults.TooLarge ∷ []
-unfolding query_of reading chosen answer insert_rows deserved after reply_to step digits
+unfolding query_of reading chosen answer inserted_rows deserved after reply_to step digits
 near_found = refl
 
 -- chains of NEAR
@@ -73,7 +73,7 @@ pub chains_found : answers_to (after_all [] docs) (
     ∷ offsets_matching (codes "docs") (codes "acid NEAR/2 sqlite NEAR/2 relational")
     ∷ [])
     ≡ offsets_rows (codes "docs") (codes "0 0 0 6 0 1 13 4 0 2 37 10" ∷ []) ∷ offsets_rows (codes "docs") [] ∷ []
-unfolding query_of reading chosen answer insert_rows deserved after reply_to step digits
+unfolding query_of reading chosen answer inserted_rows deserved after reply_to step digits
 chains_found = refl
 
 -- an occurrence is not near itself
@@ -84,7 +84,7 @@ pub near_itself : answers_to (after_all [] two_b) (
     Select (codes "d") (Listed (Named (codes "docid") ∷ OffsetsOf (codes "d") ∷ [])) (Match (codes "d") (codes "b NEAR b")) None 0
     ∷ [])
     ≡ rows_under (codes "docid" ∷ codes "offsets(d)" ∷ []) ((Int (pos 2) ∷ Text (codes "0 0 0 1 0 1 0 1 0 0 4 1 0 1 4 1") ∷ []) ∷ []) ∷ []
-unfolding query_of reading chosen answer insert_rows deserved after reply_to step digits
+unfolding query_of reading chosen answer inserted_rows deserved after reply_to step digits
 near_itself = refl
 
 -- occurrences of a phrase overlap
@@ -95,7 +95,7 @@ pub overlapping : answers_to (after_all [] three_a) (
     offsets_matching (codes "d") (codes "\"a a\"")
     ∷ [])
     ≡ offsets_rows (codes "d") (codes "0 0 0 1 0 0 2 1 0 1 2 1 0 1 4 1" ∷ []) ∷ []
-unfolding query_of reading chosen answer insert_rows deserved after reply_to step digits
+unfolding query_of reading chosen answer inserted_rows deserved after reply_to step digits
 overlapping = refl
 
 -- the terms right of a NOT have no number, and those of each side of an OR are listed
@@ -106,7 +106,7 @@ pub beside_not : answers_to (after_all [] a_and_c) (
     offsets_matching (codes "d") (codes "(a NOT b) OR c")
     ∷ [])
     ≡ offsets_rows (codes "d") (codes "0 0 0 1 0 1 2 1" ∷ []) ∷ []
-unfolding query_of reading chosen answer insert_rows deserved after reply_to step digits
+unfolding query_of reading chosen answer inserted_rows deserved after reply_to step digits
 beside_not = refl
 
 -- letters past ASCII, and a negative integer: documents Ærø café and -15
@@ -120,7 +120,7 @@ pub past_ascii_found : answers_to (after_all [] past_ascii) (
     ∷ [])
     ≡ found [] ∷ rows_under (codes "docid" ∷ codes "offsets(d)" ∷ []) ((Int (pos 1) ∷ Text (codes "0 0 6 5") ∷ []) ∷ [])
     ∷ rows_under (codes "docid" ∷ codes "offsets(d)" ∷ []) ((Int (pos 2) ∷ Text (codes "0 0 1 2") ∷ []) ∷ []) ∷ []
-unfolding query_of reading chosen answer insert_rows deserved after reply_to step digits
+unfolding query_of reading chosen answer inserted_rows deserved after reply_to step digits
 past_ascii_found = refl
 
 -- texts without lexemes or with a phrase without tokens find nothing, and texts that do not read
@@ -137,7 +137,7 @@ pub nothing_or_malformed : answers_to (after_all [] a_b) (
     ∷ matching (codes "d") (codes "()")
     ∷ [])
     ≡ found [] ∷ found [] ∷ found [] ∷ Err faults.Malformed ∷ Err faults.Malformed ∷ Err faults.Malformed ∷ []
-unfolding query_of reading chosen answer insert_rows deserved after reply_to step digits
+unfolding query_of reading chosen answer inserted_rows deserved after reply_to step digits
 nothing_or_malformed = refl
 
 -- filters of a query
@@ -150,7 +150,7 @@ pub filters : answers_to (after_all [] mail) (
     ∷ matching (codes "mail") (codes "subject:")
     ∷ [])
     ≡ found (pos 1 ∷ []) ∷ found [] ∷ found (pos 2 ∷ []) ∷ found (pos 1 ∷ []) ∷ found [] ∷ Err faults.Malformed ∷ []
-unfolding query_of reading chosen answer insert_rows deserved after reply_to step digits
+unfolding query_of reading chosen answer inserted_rows deserved after reply_to step digits
 filters = refl
 
 -- from the tightest: NOT, AND, OR
@@ -165,7 +165,7 @@ pub levels : answers_to (after_all [] letters) (
     ∷ matching (codes "d") (codes "a and c")
     ∷ [])
     ≡ found (pos 1 ∷ pos 3 ∷ pos 4 ∷ []) ∷ found (pos 1 ∷ pos 2 ∷ pos 4 ∷ []) ∷ found (pos 1 ∷ pos 2 ∷ pos 4 ∷ []) ∷ found (pos 3 ∷ pos 4 ∷ []) ∷ found [] ∷ []
-unfolding query_of reading chosen answer insert_rows deserved after reply_to step digits
+unfolding query_of reading chosen answer inserted_rows deserved after reply_to step digits
 levels = refl
 
 -- prefix terms, also within a phrase
@@ -178,7 +178,7 @@ pub prefixes : answers_to (after_all [] drivers) (
     ∷ matching (codes "d") (codes "lin")
     ∷ [])
     ≡ found (pos 1 ∷ pos 2 ∷ []) ∷ found (pos 1 ∷ []) ∷ found [] ∷ []
-unfolding query_of reading chosen answer insert_rows deserved after reply_to step digits
+unfolding query_of reading chosen answer inserted_rows deserved after reply_to step digits
 prefixes = refl
 
 -- first terms
@@ -196,7 +196,7 @@ pub first_terms : answers_to (after_all [] first_tokens) (
     ∷ matching (codes "d") (codes "a NEAR (b)")
     ∷ [])
     ≡ found (pos 1 ∷ []) ∷ found (pos 1 ∷ []) ∷ found (pos 1 ∷ []) ∷ found (pos 2 ∷ []) ∷ found [] ∷ found [] ∷ found [] ∷ Err faults.Malformed ∷ []
-unfolding query_of reading chosen answer insert_rows deserved after reply_to step digits
+unfolding query_of reading chosen answer inserted_rows deserved after reply_to step digits
 first_terms = refl
 
 -- documents stand by rising docid, whatever terms they have
@@ -206,7 +206,7 @@ pub by_docid : answers_to [] (
     ∷ matching (codes "d") (codes "w*")
     ∷ [])
     ≡ Ok Done ∷ Ok Done ∷ found (pos 3 ∷ pos 9223372036854775807 ∷ []) ∷ []
-unfolding query_of reading chosen answer insert_rows deserved after reply_to step digits
+unfolding query_of reading chosen answer inserted_rows deserved after reply_to step digits
 by_docid = refl
 
 -- a MATCH on a column searches that column, and a filter of the query goes before it
@@ -216,7 +216,7 @@ pub by_column : answers_to (after_all [] mail) (
     ∷ Select (codes "mail") (Listed (Named (codes "docid") ∷ [])) (Match (codes "subject") (codes "body:mail")) None 0
     ∷ [])
     ≡ found (pos 1 ∷ []) ∷ found [] ∷ found (pos 2 ∷ []) ∷ []
-unfolding query_of reading chosen answer insert_rows deserved after reply_to step digits
+unfolding query_of reading chosen answer inserted_rows deserved after reply_to step digits
 by_column = refl
 
 -- a column that is not indexed has no token, keeps its cells, and may stand in a filter
@@ -230,5 +230,5 @@ pub not_indexed_found : answers_to (after_all [] not_indexed) (
     ∷ [])
     ≡ offsets_rows (codes "n") (codes "0 0 0 3" ∷ []) ∷ found [] ∷ found [] ∷ rows_under (codes "b" ∷ []) ((Text (codes "red blue") ∷ []) ∷ [])
     ∷ Err faults.NoSuchColumn ∷ Ok Done ∷ []
-unfolding query_of reading chosen answer insert_rows deserved after reply_to step digits
+unfolding query_of reading chosen answer inserted_rows deserved after reply_to step digits
 not_indexed_found = refl

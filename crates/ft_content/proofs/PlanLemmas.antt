@@ -8,7 +8,7 @@ use Rattle.std.specs.FinMap.Entries.{find, where_key, is_sorted, is_sorted-put, 
 use Rattle.ft_values.specs.Cells.{Cell}
 use Rattle.ft_content.specs.Content.{Column, Documents}
 use Rattle.ft_content.specs.Index.{Spot, Entry, Key, key_cmp, key_of, SpotLists, spots_at, spot_lists, document_entries, entries}
-use Rattle.ft_content.specs.Laws.{content_with, spots_in, some_if_any, document_lists}
+use Rattle.ft_content.specs.Laws.{content_with, spots_of_key, some_if_any, document_lists}
 use Rattle.ft_content.proofs.IndexLemmas.{key_cmp_total, key_cmp_exact, lists_are_entries, spots_in-own, own_entries, where_docid, same_docid, holds}
 
 -- lists made from entries are in order
@@ -18,7 +18,7 @@ sorted_lists [] = tt
 sorted_lists (e ∷ es) = is_sorted-put key_cmp key_cmp_total (key_of e) (e.spot ∷ spots_at (spot_lists es) (key_of e)) (spot_lists es) (sorted_lists es)
 
 -- a document's own lists, where the docid is its own
-own_found : (columns : List Column) (docid : ℤ) (cells : List Cell) (term : List ℕ) → find key_cmp (term, docid) (document_lists columns docid (Some cells)) ≡ some_if_any (spots_in (term, docid) (document_entries columns (docid, cells)))
+own_found : (columns : List Column) (docid : ℤ) (cells : List Cell) (term : List ℕ) → find key_cmp (term, docid) (document_lists columns docid (Some cells)) ≡ some_if_any (spots_of_key (term, docid) (document_entries columns (docid, cells)))
 own_found columns docid cells term = lists_are_entries (document_entries columns (docid, cells)) term docid
 
 -- the documents of one docid
@@ -49,9 +49,9 @@ found_own documents docid sorted =
     ] refl)
 
 -- the lists that a document had
-held_entries : (columns : List Column) (docid : ℤ) (held : Option (List Cell)) (term : List ℕ) → some_if_any (spots_in (term, docid) (flat_map (document_entries columns) (of_docid docid held))) ≡ find key_cmp (term, docid) (document_lists columns docid held)
+held_entries : (columns : List Column) (docid : ℤ) (held : Option (List Cell)) (term : List ℕ) → some_if_any (spots_of_key (term, docid) (flat_map (document_entries columns) (of_docid docid held))) ≡ find key_cmp (term, docid) (document_lists columns docid held)
 held_entries columns docid None term = refl
-held_entries columns docid (Some cells) term = ap (λ es. some_if_any (spots_in (term, docid) es)) (append-nil (document_entries columns (docid, cells))) ∙ sym (own_found columns docid cells term)
+held_entries columns docid (Some cells) term = ap (λ es. some_if_any (spots_of_key (term, docid) es)) (append-nil (document_entries columns (docid, cells))) ∙ sym (own_found columns docid cells term)
 
 pub old_found : (columns : List Column) (documents : Documents) (docid : ℤ) (term : List ℕ) → T (is_sorted int_cmp documents) → find key_cmp (term, docid) (spot_lists (entries (content_with columns documents))) ≡ find key_cmp (term, docid) (document_lists columns docid (find int_cmp docid documents))
 unfolding entries
@@ -59,5 +59,5 @@ old_found columns documents docid term sorted =
     let es = flat_map (document_entries columns) documents in
     lists_are_entries es term docid
     ∙ ap some_if_any (spots_in-own term docid es)
-    ∙ ap (λ xs. some_if_any (spots_in (term, docid) xs)) (where_docid (document_entries columns) (λ (e : Entry). e.docid) (λ p. own_entries p columns) (int_eq docid) documents ∙ ap (flat_map (document_entries columns)) (found_own documents docid sorted))
+    ∙ ap (λ xs. some_if_any (spots_of_key (term, docid) xs)) (where_docid (document_entries columns) (λ (e : Entry). e.docid) (λ p. own_entries p columns) (int_eq docid) documents ∙ ap (flat_map (document_entries columns)) (found_own documents docid sorted))
     ∙ held_entries columns docid (find int_cmp docid documents) term

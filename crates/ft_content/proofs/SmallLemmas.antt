@@ -5,7 +5,7 @@ use Rattle.std.specs.List.{list_any}
 use Rattle.std.proofs.lemmas.List.{map-append, take_more, take-append-drop}
 use Rattle.std.proofs.lemmas.List.Folds.{list_any-append}
 use Rattle.ft_content.specs.Content.{same_name, repeats_name}
-use Rattle.ft_content.specs.Small.{AreSmall}
+use Rattle.ft_content.specs.Small.{HasLowercase}
 
 or_true : (a : Bool) → (a || true) ≡ true
 or_true true = refl
@@ -53,8 +53,8 @@ module _ {X : Type 0} (name_of : X → List ℕ) where
 
   -- a name that isn't new among those before it
   pub small_again : {Y : Type 0} (small : BTreeSet (String Y)) (xs : List X) (i : ℕ) (x : X) (name : List ℕ) (is_new : Bool) → i < length xs
-      → x ≡ get_or xs i x → name ≡ name_of x → AreSmall small (map name_of (take i xs))
-      → ((names : List (List ℕ)) → AreSmall small names → is_new ≡ not (list_any (λ n. same_name n name) names)) → is_new ≡ false
+      → x ≡ get_or xs i x → name ≡ name_of x → HasLowercase small (map name_of (take i xs))
+      → ((names : List (List ℕ)) → HasLowercase small names → is_new ≡ not (list_any (λ n. same_name n name) names)) → is_new ≡ false
       → true ≡ repeats_name (map name_of xs)
   small_again small xs i x name is_new h e n are told is =
       let before = map name_of (take i xs) in
@@ -70,15 +70,15 @@ module _ {X : Type 0} (name_of : X → List ℕ) where
 
   -- one that is new
   pub small_more : {Y : Type 0} (small new : BTreeSet (String Y)) (xs : List X) (i : ℕ) (x : X) (name : List ℕ) (is_new : Bool) → i < length xs
-      → x ≡ get_or xs i x → name ≡ name_of x → AreSmall small (map name_of (take i xs))
-      → ((names : List (List ℕ)) → AreSmall small names → is_new ≡ not (list_any (λ n. same_name n name) names)) → is_new ≡ true
-      → ((names : List (List ℕ)) → AreSmall small names → AreSmall new (names ++ name ∷ [])) → repeats_name (map name_of (take i xs)) ≡ false
-      → AreSmall new (map name_of (take (i + 1) xs)) × (repeats_name (map name_of (take (i + 1) xs)) ≡ false)
+      → x ≡ get_or xs i x → name ≡ name_of x → HasLowercase small (map name_of (take i xs))
+      → ((names : List (List ℕ)) → HasLowercase small names → is_new ≡ not (list_any (λ n. same_name n name) names)) → is_new ≡ true
+      → ((names : List (List ℕ)) → HasLowercase small names → HasLowercase new (names ++ name ∷ [])) → repeats_name (map name_of (take i xs)) ≡ false
+      → HasLowercase new (map name_of (take (i + 1) xs)) × (repeats_name (map name_of (take (i + 1) xs)) ≡ false)
   small_more small new xs i x name is_new h e n are told is added once =
       let before = map name_of (take i xs) in
       let more = names_more xs i x name h e n in
       let stands : list_any (λ n. same_name n name) before ≡ false = gone (list_any (λ n. same_name n name) before) (sym (told before are) ∙ is) in (
-        subst (λ names. AreSmall new names) (sym more) (added before are),
+        subst (λ names. HasLowercase new names) (sym more) (added before are),
         ap repeats_name more ∙ repeats_last before name ∙ ap (λ b. repeats_name before || b) stands ∙ ap (λ b. b || false) once,
       )
     where

@@ -92,13 +92,13 @@ abbrev pub has_column : Content → List ℕ → Bool
 has_column content name = is_docid name || list_any (same_name name) (names_of content.columns)
 
 -- the docid that a value under a name gives
-abbrev pub number_of : Cell → List ℤ
-number_of Null = []
-number_of (Int number) = number ∷ []
-number_of (Text bytes) = []
+abbrev pub docid_of_value : Cell → List ℤ
+docid_of_value Null = []
+docid_of_value (Int number) = number ∷ []
+docid_of_value (Text bytes) = []
 
-abbrev pub docids_in : List (List ℕ × Cell) → List ℤ
-docids_in values = flat_map (λ (v : List ℕ × Cell). if is_docid v.0 then number_of v.1 else []) values
+abbrev pub docids_named : List (List ℕ × Cell) → List ℤ
+docids_named values = flat_map (λ (v : List ℕ × Cell). if is_docid v.0 then docid_of_value v.1 else []) values
 
 abbrev pub is_text : Cell → Bool
 is_text Null = false
@@ -155,13 +155,13 @@ then_rows (Err fault) rest = Err fault
 
 -- the documents after rows, each given as its values under names, or the fault of the first row
 -- that fails
-unfoldable pub insert_rows : List Column → List (List (List ℕ × Cell)) → Documents → Result Documents Fault
-insert_rows columns [] documents = Ok documents
-insert_rows columns (values ∷ rows) documents = then_rows (insert_row documents (docids_in values) (new_cells values columns)) (insert_rows columns rows)
+unfoldable pub inserted_rows : List Column → List (List (List ℕ × Cell)) → Documents → Result Documents Fault
+inserted_rows columns [] documents = Ok documents
+inserted_rows columns (values ∷ rows) documents = then_rows (insert_row documents (docids_named values) (new_cells values columns)) (inserted_rows columns rows)
 
-abbrev pub fault_of : Result Documents Fault → Option Fault
-fault_of (Ok documents) = None
-fault_of (Err fault) = Some fault
+abbrev pub fault_if_any : Result Documents Fault → Option Fault
+fault_if_any (Ok documents) = None
+fault_if_any (Err fault) = Some fault
 
 -- the tests of an Insert, but for those of the docids that its rows give
 abbrev pub insert_tests : Content → List (List ℕ) → List (List Cell) → Option Fault
@@ -169,13 +169,14 @@ insert_tests content names rows = first_of (
     (not (list_all (has_column content) names), faults.NoSuchColumn)
     ∷ (list_any (λ (row : List Cell). not (length row == length names)) rows, faults.Count)
     ∷ (list_any (λ (row : List Cell). list_any (λ (v : List ℕ × Cell). is_docid v.0 && is_text v.1) (zip names row)) rows, faults.DocidKind)
-    ∷ (list_any (λ (row : List Cell). nat_lt 1 (length (docids_in (zip names row)))) rows, faults.DocidTwice)
+    ∷ (list_any (λ (row : List Cell). nat_lt 1 (length (docids_named (zip names row)))) rows, faults.DocidTwice)
     ∷ (list_any (list_any is_too_long) rows, faults.TooLong)
     ∷ (list_any (list_any has_nul) rows, faults.HasNul)
     ∷ [])
 
 abbrev pub insert_fault : Content → List (List ℕ) → List (List Cell) → Option Fault
-insert_fault content names rows = or_else (insert_tests content names rows) (fault_of (insert_rows content.columns (map (zip names) rows) content.documents))
+insert_fault content names rows =
+    or_else (insert_tests content names rows) (fault_if_any (inserted_rows content.columns (map (zip names) rows) content.documents))
 
 -- What a MATCH deserves. `query_of` answers no third fault.
 abbrev pub reading_fault : Result (Option Tree) QueryFault → Option Fault
@@ -215,7 +216,7 @@ abbrev pub update_tests : List ℕ → Content → List (List ℕ × Cell) → F
 update_tests table content sets f = first_of (
     (not (list_all (λ (s : List ℕ × Cell). has_column content s.0) sets) || names_unknown table content f, faults.NoSuchColumn)
     ∷ (list_any (λ (s : List ℕ × Cell). is_docid s.0 && (is_text s.1 || is_null s.1)) sets, faults.DocidKind)
-    ∷ (nat_lt 1 (length (docids_in sets)), faults.DocidTwice)
+    ∷ (nat_lt 1 (length (docids_named sets)), faults.DocidTwice)
     ∷ (list_any (λ (s : List ℕ × Cell). is_too_long s.1) sets, faults.TooLong)
     ∷ (list_any (λ (s : List ℕ × Cell). has_nul s.1) sets, faults.HasNul)
     ∷ [])
@@ -223,7 +224,7 @@ update_tests table content sets f = first_of (
 abbrev pub update_fault : List ℕ → Content → List (List ℕ × Cell) → Filter → Option Fault
 update_fault table content sets f =
     or_else (update_tests table content sets f)
-    (or_else (query_fault content f) (moves_fault content.documents (chosen content f) (docids_in sets)))
+    (or_else (query_fault content f) (moves_fault content.documents (chosen content f) (docids_named sets)))
 
 -- the test of a Delete that comes before its query
 abbrev pub delete_tests : List ℕ → Content → Filter → Option Fault

@@ -11,15 +11,15 @@ use Rattle.ft_content.specs.Index.{Spot, Entry, Size, Key, key_cmp, key_of, Spot
 use Rattle.ft_content.specs.Step.{without_docid, made_column, inserted, updated, deleted}
 
 -- entries of one docid, and those of the others
-abbrev pub entries_of : ℤ → List Entry → List Entry
-entries_of docid es = filter (λ (e : Entry). int_eq docid e.docid) es
+abbrev pub entries_of_docid : ℤ → List Entry → List Entry
+entries_of_docid docid es = filter (λ (e : Entry). int_eq docid e.docid) es
 
 abbrev pub content_with : List Column → Documents → Content
 content_with columns documents = record { columns = columns; documents = documents }
 
 -- the spots that entries give a key
-abbrev pub spots_in : Key → List Entry → List Spot
-spots_in key es = map (λ (e : Entry). e.spot) (filter (λ (e : Entry). eq_by_cmp key_cmp key (key_of e)) es)
+abbrev pub spots_of_key : Key → List Entry → List Spot
+spots_of_key key es = map (λ (e : Entry). e.spot) (filter (λ (e : Entry). eq_by_cmp key_cmp key (key_of e)) es)
 
 -- a list has spots
 abbrev pub some_if_any : List Spot → Option (List Spot)
@@ -28,7 +28,7 @@ some_if_any (s ∷ ss) = Some (s ∷ ss)
 
 -- The list of a key has the spots of the entries with that key, and is there where there are any.
 abbrev pub ListsAreEntries : Type 0
-ListsAreEntries = (es : List Entry) (term : List ℕ) (docid : ℤ) → find key_cmp (term, docid) (spot_lists es) ≡ some_if_any (spots_in (term, docid) es)
+ListsAreEntries = (es : List Entry) (term : List ℕ) (docid : ℤ) → find key_cmp (term, docid) (spot_lists es) ≡ some_if_any (spots_of_key (term, docid) es)
 
 -- ---- what a plan does to one document's lists
 

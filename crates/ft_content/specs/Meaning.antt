@@ -76,8 +76,8 @@ abbrev pub HitsAreChosen : Type 0
 HitsAreChosen = (table : List ℕ) (content : Content) (name text : List ℕ) (tree : Tree) → IsContent table content → reading content name text ≡ Ok (Some tree) →
     hits_of tree (documents_in (index_rows content).lists) ≡ map (hit_in content tree) (chosen content (Match name text))
 
-abbrev pub lists_of_terms : (List ℕ → Bool) → List (Key × List StoredSpot) → List (Key × List StoredSpot)
-lists_of_terms test lists = filter (λ (l : Key × List StoredSpot). test l.0.0) lists
+abbrev pub lists_with_terms : (List ℕ → Bool) → List (Key × List StoredSpot) → List (Key × List StoredSpot)
+lists_with_terms test lists = filter (λ (l : Key × List StoredSpot). test l.0.0) lists
 
 abbrev pub all_places : Document → PlaceList
 all_places d = record { docid = d.docid; places = map (λ (p : Posting). p.place) d.postings }
@@ -86,7 +86,7 @@ all_places d = record { docid = d.docid; places = map (λ (p : Posting). p.place
 -- lists of those terms mean.
 abbrev pub TermsAreTheirLists : Type 0
 TermsAreTheirLists = (table : List ℕ) (content : Content) (test : List ℕ → Bool) → IsContent table content →
-    lists_with test (content_documents content) ≡ map all_places (documents_in (lists_of_terms test (index_rows content).lists))
+    lists_with test (content_documents content) ≡ map all_places (documents_in (lists_with_terms test (index_rows content).lists))
 
 -- A content's documents are in order, as a walk wants them.
 abbrev pub DocumentsAreInOrder : Type 0
@@ -95,7 +95,7 @@ DocumentsAreInOrder = (table : List ℕ) (content : Content) → IsContent table
 -- As many places as there are entries in the lists of those terms.
 abbrev pub TermsAreCounted : Type 0
 TermsAreCounted = (table : List ℕ) (content : Content) (test : List ℕ → Bool) → IsContent table content →
-    place_count (lists_with test (content_documents content)) ≡ length (entries_in (lists_of_terms test (index_rows content).lists))
+    place_count (lists_with test (content_documents content)) ≡ length (entries_in (lists_with_terms test (index_rows content).lists))
 
 -- what lists mean, and a query over them
 pub record ListsMeanContent : Type 0 where

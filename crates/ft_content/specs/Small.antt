@@ -6,5 +6,5 @@ use Rattle.std.specs.Str.{bytes_eq, str_to_ascii_lowercase}
 use Rattle.std.specs.declared.string.String.{String}
 
 -- the set has just these names, in small letters
-pub record AreSmall {Y : Type 0} (set : BTreeSet (String Y)) (names : List (List ℕ)) : Type 0 where
+pub record HasLowercase {Y : Type 0} (set : BTreeSet (String Y)) (names : List (List ℕ)) : Type 0 where
   pub has : (bytes : List ℕ) → contains_text set bytes ≡ list_any (λ n. bytes_eq (str_to_ascii_lowercase n) bytes) names

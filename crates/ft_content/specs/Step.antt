@@ -9,7 +9,7 @@ use Rattle.ft_content.specs.Content.{Column, Documents, Content, same_name}
 use Rattle.ft_content.specs.Command.{Filter, Items, Command, Create, Drop, Insert, Update, Delete, Select, Rebuild, Check, Optimize, Reply, Done, Rows}
 use Rattle.ft_content.specs.Answer.{is_chosen, chosen, answer}
 use Rattle.ft_content.specs.Deserved.{TableState, Sound, Stale, Loose, Table, Contents, table_named, is_notindexed, made_columns}
-use Rattle.ft_content.specs.Deserved.{listed_columns, docids_in, has_docid, with_values, insert_rows, deserved}
+use Rattle.ft_content.specs.Deserved.{listed_columns, docids_named, has_docid, with_values, inserted_rows, deserved}
 
 -- the least positive id that no table has, from n on (own choice); the tables stand by rising id
 abbrev pub free_id_from : ℕ → Contents → ℕ
@@ -38,7 +38,7 @@ inserted_into documents (Err fault) = documents
 -- the documents after an Insert ("Populating FTS Tables")
 abbrev pub inserted : Content → Option (List (List ℕ)) → List (List Cell) → Documents
 inserted content columns rows =
-    inserted_into content.documents (insert_rows content.columns (map (zip (listed_columns content columns)) rows) content.documents)
+    inserted_into content.documents (inserted_rows content.columns (map (zip (listed_columns content columns)) rows) content.documents)
 
 abbrev pub without_docid : ℤ → Documents → Documents
 without_docid docid documents = where_key int_cmp (λ d. not (int_eq docid d)) documents
@@ -53,7 +53,7 @@ moved documents (d ∷ more) (docid ∷ docids) = put int_cmp docid d.1 (without
 abbrev pub updated : Content → List (List ℕ × Cell) → Filter → Documents
 updated content sets f =
     let change : ℤ × List Cell → ℤ × List Cell = λ (d : ℤ × List Cell). (d.0, with_values sets content.columns d.1) in
-    moved (map (λ (d : ℤ × List Cell). if is_chosen content f d then change d else d) content.documents) (map change (chosen content f)) (docids_in sets)
+    moved (map (λ (d : ℤ × List Cell). if is_chosen content f d then change d else d) content.documents) (map change (chosen content f)) (docids_named sets)
 
 -- the documents after a Delete
 abbrev pub deleted : Content → Filter → Documents
@@ -147,7 +147,8 @@ unfoldable pub touched : Contents → Command → List ℤ
 touched contents (Create table module_name options columns if_new) = []
 touched contents (Drop table if_there) = []
 touched contents (Insert table columns rows) = touched_of contents table (λ content. new_docids content.documents (inserted content columns rows))
-touched contents (Update table sets f) = touched_of contents table (λ content. docids_of (chosen content f) ++ docid_if_any (chosen content f) (docids_in sets))
+touched contents (Update table sets f) =
+    touched_of contents table (λ content. docids_of (chosen content f) ++ docid_if_any (chosen content f) (docids_named sets))
 touched contents (Delete table f) = touched_of contents table (λ content. docids_of (chosen content f))
 touched contents (Select table items f limit offset) = []
 touched contents (Rebuild table) = []

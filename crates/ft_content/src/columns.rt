@@ -18,7 +18,7 @@ pub(crate) fn column_place(columns: &[Column], name: &str) -> Option<usize>
     columns.iter().position(|c| same_name(name, &c.name))
 }
 
-// Whether one of the columns has this name.
+/// Whether one of the columns has this name.
 pub(crate) fn is_column(columns: &[Column], name: &str) -> bool
     ensures { result ≡ list_any (content.same_name name.now)
         (content.names_of (bare_content columns.now).columns) }

@@ -40,7 +40,7 @@ fn gives_text(names: &[&str], row: &[Value]) -> bool
 
 // How many docids a row gives.
 fn docid_count(names: &[&str], row: &[Value]) -> usize
-    ensures { result ≡ length (deserved.docids_in
+    ensures { result ≡ length (deserved.docids_named
         (zip (map (λ n. n.now) names.now) (map shown_value row.now))) }
 {
     names
@@ -74,7 +74,7 @@ pub fn insert_tests(columns: &[Column], names: &[&str], rows: &[Vec<Value>]) -> 
 
 /// The first docid that a row gives.
 pub fn row_docid(names: &[&str], row: &[Value]) -> Option<i64>
-    ensures { result ≡ slice_get (deserved.docids_in
+    ensures { result ≡ slice_get (deserved.docids_named
         (zip (map (λ n. n.now) names.now) (map shown_value row.now))) 0 }
 {
     names

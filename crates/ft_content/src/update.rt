@@ -61,7 +61,7 @@ pub fn update_tests(
 
 /// The first docid that is set.
 pub fn set_docid(sets: &[(String, Value)]) -> Option<i64>
-    ensures { result ≡ slice_get (deserved.docids_in (map set_of sets.now)) 0 }
+    ensures { result ≡ slice_get (deserved.docids_named (map set_of sets.now)) 0 }
 {
     sets.iter()
         .filter_map(|(name, value)| docid_under(name, value))

@@ -21,9 +21,9 @@ pub fn has_nul(value: &Value) -> bool
     matches!(value, Value::Text(text) if text.as_bytes().contains(&0))
 }
 
-// The docid that a value gives under this name, if it gives one.
+/// The docid that a value gives under this name, if it gives one.
 pub(crate) fn docid_under(name: &str, value: &Value) -> Option<i64>
-    ensures { result ≡ slice_get (if content.is_docid name.now then deserved.number_of
+    ensures { result ≡ slice_get (if content.is_docid name.now then deserved.docid_of_value
         (shown_value value.now) else []) 0 }
 {
     match value {

@@ -8,8 +8,8 @@ use Rattle.std.proofs.lemmas.Simd.{map-map}
 use Rattle.ft_values.specs.Cells.{Cell}
 use Rattle.ft_rows.specs.Store.{StoreValue, CellKey, cell_key_cmp, list_key_cmp, column_key_cmp, without_key, Change, PutCell, DropCells, all_applied}
 use Rattle.ft_content.specs.Index.{Key, StoredSpot}
-use Rattle.ft_documents.specs.Rewrite.{Rewrite, by_docid}
-use Rattle.ft_documents.specs.RewriteRows.{all_put, same_cell, changed, numbered, goes, dropped_documents, put_documents, dropped_lists, put_lists, dropped_sizes, put_sizes}
+use Rattle.ft_documents.specs.Rewrite.{Rewrite, under_docids}
+use Rattle.ft_documents.specs.RewriteRows.{all_put, same_cell, changed, numbered_cells, goes, dropped_documents, put_documents, dropped_lists, put_lists, dropped_sizes, put_sizes}
 use Rattle.ft_documents.proofs.StoreKeys.{list_exact, list_total, cell_exact, cell_total, list_keys, cell_keys}
 use Rattle.ft_documents.proofs.KeyedRows.{true_of, of_true, all_dropped}
 use Rattle.ft_documents.proofs.DocumentRows.{under, rows_by}
@@ -39,23 +39,23 @@ dropped_sizes_applied tab (e ∷ es) store = dropped_sizes_applied tab es (recor
 
 -- the cells of a rewrite that are new or differ
 abbrev pub new_cells : Rewrite → List (ℤ × Cell)
-new_cells r = changed int_cmp same_cell (numbered (unwrap_or r.before [])) (numbered (unwrap_or r.after []))
+new_cells r = changed int_cmp same_cell (numbered_cells (unwrap_or r.before [])) (numbered_cells (unwrap_or r.after []))
 
 abbrev put_cell : ℤ → (ℤ × ℤ) × Cell → Change
 put_cell tab e = PutCell tab e.0.0 e.0.1 e.1
 
-cells_keyed : (tab : ℤ) (rewrites : List Rewrite) → put_documents tab rewrites ≡ map (put_cell tab) (rows_by new_cells (by_docid rewrites))
+cells_keyed : (tab : ℤ) (rewrites : List Rewrite) → put_documents tab rewrites ≡ map (put_cell tab) (rows_by new_cells (under_docids rewrites))
 cells_keyed tab [] = refl
 cells_keyed tab (r ∷ rs) =
     (λ i. sym (map-map (put_cell tab) (λ (c : ℤ × Cell). ((r.docid, c.0), c.1)) (new_cells r)) i ++ cells_keyed tab rs i)
-    ∙ sym (map-append (put_cell tab) (under r.docid (new_cells r)) (rows_by new_cells (by_docid rs)))
+    ∙ sym (map-append (put_cell tab) (under r.docid (new_cells r)) (rows_by new_cells (under_docids rs)))
 
 cells_applied : (tab : ℤ) (es : List ((ℤ × ℤ) × Cell)) (store : StoreValue) → all_applied (map (put_cell tab) es) store ≡ record store { cells = all_put cell_key_cmp (joined cell_keys tab es) store.cells }
 cells_applied tab [] store = refl
 cells_applied tab (e ∷ es) store = cells_applied tab es (record store { cells = put cell_key_cmp (tab, e.0.0, e.0.1) e.1 store.cells })
 
-pub put_documents_applied : (tab : ℤ) (rewrites : List Rewrite) (store : StoreValue) → all_applied (put_documents tab rewrites) store ≡ record store { cells = all_put cell_key_cmp (joined cell_keys tab (rows_by new_cells (by_docid rewrites))) store.cells }
-put_documents_applied tab rewrites store = ap (λ cs. all_applied cs store) (cells_keyed tab rewrites) ∙ cells_applied tab (rows_by new_cells (by_docid rewrites)) store
+pub put_documents_applied : (tab : ℤ) (rewrites : List Rewrite) (store : StoreValue) → all_applied (put_documents tab rewrites) store ≡ record store { cells = all_put cell_key_cmp (joined cell_keys tab (rows_by new_cells (under_docids rewrites))) store.cells }
+put_documents_applied tab rewrites store = ap (λ cs. all_applied cs store) (cells_keyed tab rewrites) ∙ cells_applied tab (rows_by new_cells (under_docids rewrites)) store
 
 -- documents that are dropped, from the rows of all tables and from those of one
 abbrev pub cells_dropped : ℤ → List Rewrite → List (CellKey × Cell) → List (CellKey × Cell)

@@ -22,10 +22,10 @@ use Rattle.ft_values.specs.declared.rows.ListRow.{ListRow}
 use Rattle.ft_rows.specs.Shown.{shown_list, bare_list, spot_count}
 use Rattle.ft_rows.proofs.ListLemmas.{filter_passes}
 use Rattle.ft_content.specs.Index.{Entry, Key, StoredSpot}
-use Rattle.ft_content.specs.Meaning.{plain_spot, entries_in, entry_cmp, entry_set, posting_of, with_entry, grouped, documents_in, lists_of_terms, all_places}
+use Rattle.ft_content.specs.Meaning.{plain_spot, entries_in, entry_cmp, entry_set, posting_of, with_entry, grouped, documents_in, lists_with_terms, all_places}
 use Rattle.ft_content.proofs.MeaningLemmas.{entry_total, sorted_set}
 use Rattle.ft_documents.specs.declared.lists.Placed.{Placed}
-use Rattle.ft_documents.specs.Placed.{place_of, list_of, placed_in, all_in, placed_cmp, with_placed, by_docid, AreListsOf}
+use Rattle.ft_documents.specs.Placed.{place_of, list_of, placed_in, all_in, placed_cmp, with_placed, lists_by_docid, AreListsOf}
 use Rattle.ft_documents.proofs.PlacedLemmas.{docids_same, counted}
 
 -- ---- rows as entries
@@ -51,15 +51,15 @@ asked_places lists = all_in (map read_list (map bare_list lists))
 
 -- the places of the lists that are asked
 pub asked_entries : (tab : ℤ) (asks : ListKey → Bool) (test : List ℕ → Bool) → ((k : ListKey) → asks k ≡ (int_eq tab k.0 && test k.1)) → (lists : List (ListKey × List StoredSpot)) →
-    all_in (map read_list (map bare_list (where_key list_key_cmp asks lists))) ≡ map bare (entries_in (lists_of_terms test (of_table tab lists)))
+    all_in (map read_list (map bare_list (where_key list_key_cmp asks lists))) ≡ map bare (entries_in (lists_with_terms test (of_table tab lists)))
 asked_entries tab asks test same [] = refl
 asked_entries tab asks test same (l ∷ ls) =
     ap (λ b. asked_places (cond b (l ∷ where_key list_key_cmp asks ls) (where_key list_key_cmp asks ls))) (same l.0)
     ∙ elim (int_eq tab l.0.0) as (λ b. asked_places (cond (b && test l.0.1) (l ∷ where_key list_key_cmp asks ls) (where_key list_key_cmp asks ls))
-    ≡ map bare (entries_in (lists_of_terms test (map (λ (l : ListKey × List StoredSpot). ((l.0.1, l.0.2), l.1)) (cond b (l ∷ where_key list_key_cmp (λ k. int_eq tab k.0) ls) (where_key list_key_cmp (λ k. int_eq tab k.0) ls)))))) [
+    ≡ map bare (entries_in (lists_with_terms test (map (λ (l : ListKey × List StoredSpot). ((l.0.1, l.0.2), l.1)) (cond b (l ∷ where_key list_key_cmp (λ k. int_eq tab k.0) ls) (where_key list_key_cmp (λ k. int_eq tab k.0) ls)))))) [
       | true ↦ elim (test l.0.1) as (λ b. asked_places (cond b (l ∷ where_key list_key_cmp asks ls) (where_key list_key_cmp asks ls))
-          ≡ map bare (entries_in (cond b (((l.0.1, l.0.2), l.1) ∷ lists_of_terms test (of_table tab ls)) (lists_of_terms test (of_table tab ls))))) [
-            | true ↦ one_list l.0.1 l.0.2 l.1 (asked_places (where_key list_key_cmp asks ls)) (entries_in (lists_of_terms test (of_table tab ls))) (asked_entries tab asks test same ls)
+          ≡ map bare (entries_in (cond b (((l.0.1, l.0.2), l.1) ∷ lists_with_terms test (of_table tab ls)) (lists_with_terms test (of_table tab ls))))) [
+            | true ↦ one_list l.0.1 l.0.2 l.1 (asked_places (where_key list_key_cmp asks ls)) (entries_in (lists_with_terms test (of_table tab ls))) (asked_entries tab asks test same ls)
             | false ↦ asked_entries tab asks test same ls
           ]
       | false ↦ asked_entries tab asks test same ls
@@ -224,15 +224,15 @@ begins : (x : ℤ) (p : Place) (ls : List PlaceList) → first_apart x ls → wi
 begins x p [] h = refl
 begins x p (l ∷ ls) h = ap (λ b. cond b (record { docid = x; places = p ∷ l.places } ∷ ls) (record { docid = x; places = p ∷ [] } ∷ l ∷ ls)) h
 
-one_group : (x : ℤ) (ps : List Place) (qs : List Placed) (ls : List PlaceList) → by_docid qs ≡ ls → first_apart x ls → by_docid (map (placed_in x) ps ++ qs) ≡ cond (is_filled ps) (record { docid = x; places = ps } ∷ ls) ls
-unfolding by_docid
+one_group : (x : ℤ) (ps : List Place) (qs : List Placed) (ls : List PlaceList) → lists_by_docid qs ≡ ls → first_apart x ls → lists_by_docid (map (placed_in x) ps ++ qs) ≡ cond (is_filled ps) (record { docid = x; places = ps } ∷ ls) ls
+unfolding lists_by_docid
 one_group x [] qs ls is h = is
 one_group x (p ∷ []) qs ls is h = ap (with_placed (placed_in x p)) is ∙ begins x p ls h
 one_group x (p ∷ q ∷ ps) qs ls is h = ap (with_placed (placed_in x p)) (one_group x (q ∷ ps) qs ls is h)
     ∙ ap (λ o. cond (is_eq o) (record { docid = x; places = p ∷ q ∷ ps } ∷ ls) (record { docid = x; places = p ∷ [] } ∷ record { docid = x; places = q ∷ ps } ∷ ls)) (tied_itself int_cmp_total x)
 
-pub all_groups : (ls : List PlaceList) → AllByRecursion (λ l. has_places l ≡ true) ls → IsAscending (λ a b. a.docid <ℤ b.docid) ls → by_docid (all_in ls) ≡ ls
-unfolding by_docid
+pub all_groups : (ls : List PlaceList) → AllByRecursion (λ l. has_places l ≡ true) ls → IsAscending (λ a b. a.docid <ℤ b.docid) ls → lists_by_docid (all_in ls) ≡ ls
+unfolding lists_by_docid
 all_groups [] filled up = refl
 all_groups (l ∷ ls) filled up =
     one_group l.docid l.places (all_in ls) ls (all_groups ls filled.1 up.1) (apart ls up.0)
@@ -242,7 +242,7 @@ all_groups (l ∷ ls) filled up =
     apart [] up = tt
     apart (b ∷ bs) up = ap is_eq (sym (int_cmp_is l.docid b.docid Less up.0))
 
-pub lists_group : (test : List ℕ → Bool) (ds : List Document) → AreDocuments ds → by_docid (all_in (lists_with test ds)) ≡ lists_with test ds
+pub lists_group : (test : List ℕ → Bool) (ds : List Document) → AreDocuments ds → lists_by_docid (all_in (lists_with test ds)) ≡ lists_with test ds
 lists_group test ds order =
     all_groups (lists_with test ds) (filter_passes has_places (map (places_with test) ds))
     (ascending-filter (λ a b. a.docid <ℤ b.docid) has_places (map (places_with test) ds)
@@ -253,11 +253,11 @@ lists_group test ds order =
 module _ (ds : List Document) (order : AreDocuments ds) (test : List ℕ → Bool) (lists : List (Key × List StoredSpot)) where
   -- rows of the lists of some terms give what a walk wants, where these mean it and none of their
   -- entries comes twice
-  pub rows_answer : lists_with test ds ≡ map all_places (documents_in (lists_of_terms test lists)) → place_count (lists_with test ds) ≡ length (entries_in (lists_of_terms test lists)) →
-      (rows : List ListRow) → all_in (map list_of rows) ≡ map bare (entries_in (lists_of_terms test lists)) → (found : List PlaceList) → AreListsOf rows found → found ≡ lists_with test ds
+  pub rows_answer : lists_with test ds ≡ map all_places (documents_in (lists_with_terms test lists)) → place_count (lists_with test ds) ≡ length (entries_in (lists_with_terms test lists)) →
+      (rows : List ListRow) → all_in (map list_of rows) ≡ map bare (entries_in (lists_with_terms test lists)) → (found : List PlaceList) → AreListsOf rows found → found ≡ lists_with test ds
   unfolding documents_in
   rows_answer means counted rows are found shown =
-      let es = entries_in (lists_of_terms test lists) in
+      let es = entries_in (lists_with_terms test lists) in
       let set = firsts (entry_set es) in
       let same : all_in (lists_with test ds) ≡ map bare set = ap all_in means ∙ in_grouped set in
       let many : length (entry_set es) ≡ length es =
@@ -267,7 +267,7 @@ module _ (ds : List Document) (order : AreDocuments ds) (test : List ℕ → Boo
       IsPermutation-trans _ _ _ (subst (λ (ps : List Placed). IsPermutation ps (all_in (map list_of rows))) (sym same)
       (subst (λ (ps : List Placed). IsPermutation (map bare set) ps) (sym are) (IsPermutation-sym _ _ moved))) shown.same in
       shown.lists
-      ∙ ap by_docid (sorted_unique placed_cmp placed_total (all_in (lists_with test ds)) shown.places (lists_rise test ds order) ordered shown.sorted)
+      ∙ ap lists_by_docid (sorted_unique placed_cmp placed_total (all_in (lists_with test ds)) shown.places (lists_rise test ds order) ordered shown.sorted)
       ∙ lists_group test ds order
 
 -- ---- how many places there are

@@ -8,7 +8,7 @@ use Rattle.ft_content.specs.Answer.{reading}
 use Rattle.ft_content.specs.Deserved.{names_unknown, query_fault, reading_fault}
 use Rattle.ft_content.specs.Views.{bare_content, column_of}
 use Rattle.ft_documents.proofs.AddLemmas.{bare}
-use Rattle.ft_documents.specs.Chosen.{ReadsAs}
+use Rattle.ft_documents.specs.Chosen.{ReadsFilterAs}
 
 reading_of : (content : Content) (name text : List ℕ) → reading content name text ≡ reading (bare content.columns) name text
 unfolding reading
@@ -31,7 +31,7 @@ module _ (content : Content) (cols : List source.Column) (columns_are : content.
   pub fault_bare : query_fault content f ≡ query_fault (bare_content cols) f
   fault_bare = fault_of content f ∙ ap (λ cs. query_fault (bare cs) f) columns_are
 
-pub reads_bare : (content : Content) (cols : List source.Column) (columns_are : content.columns ≡ map column_of cols) (f : Filter) (query : Option Tree) → ReadsAs (bare_content cols) f query → ReadsAs content f query
+pub reads_bare : (content : Content) (cols : List source.Column) (columns_are : content.columns ≡ map column_of cols) (f : Filter) (query : Option Tree) → ReadsFilterAs (bare_content cols) f query → ReadsFilterAs content f query
 reads_bare content cols columns_are All query h = tt
 reads_bare content cols columns_are (Docid docid) query h = tt
 reads_bare content cols columns_are (Match name text) query h = reading_of content name text ∙ ap (λ cs. reading (bare cs) name text) columns_are ∙ h

@@ -14,7 +14,7 @@ use Rattle.ft_values.specs.declared.rows.Value.TheVariants as value
 use Rattle.ft_values.specs.contracts.rows.ValuePartialEq.TheImpl as TheImpl
 use Rattle.ft_values.specs.Cells.{Cell, shown_value}
 use Rattle.ft_rows.specs.Store.{Change, PutCell}
-use Rattle.ft_documents.specs.RewriteRows.{same_cell, was_there, numbered, put_cells}
+use Rattle.ft_documents.specs.RewriteRows.{same_cell, was_there, numbered_cells, put_cells}
 use Rattle.ft_documents.proofs.Steps.{kept_last}
 
 -- elements under their numbers, from one on
@@ -98,14 +98,14 @@ kept_both false f g x y xs ys first rest = rest
 -- the changes of all cells of a document
 puts_from : (tab docid : ℤ) (before : List Cell) (k : ℕ) (xs : List Value) → k + length xs < 2 ^ 63 →
     map (put_at tab docid) (filter (is_put before) (map placed_cell (enumerate_from k xs)))
-    ≡ map (λ (c : ℤ × Cell). PutCell tab docid c.0 c.1) (filter (λ (c : ℤ × Cell). not (was_there same_cell (find int_cmp c.0 (numbered before)) c.1)) (numbered_from k (map shown_value xs)))
+    ≡ map (λ (c : ℤ × Cell). PutCell tab docid c.0 c.1) (filter (λ (c : ℤ × Cell). not (was_there same_cell (find int_cmp c.0 (numbered_cells before)) c.1)) (numbered_from k (map shown_value xs)))
 puts_from tab docid before k [] few = refl
 puts_from tab docid before k (x ∷ xs) few =
     let more : (k + 1) + length xs < 2 ^ 63 = omega arith in
     let rest = puts_from tab docid before (k + 1) xs more in
     let put : ℤ × Cell → Change = λ c. PutCell tab docid c.0 c.1 in
-    let left = filter (λ (c : ℤ × Cell). not (was_there same_cell (find int_cmp c.0 (numbered before)) c.1)) (numbered_from (k + 1) (map shown_value xs)) in
-    let here : find int_cmp (pos k) (numbered before) ≡ slice_get before k = ap (λ n. find int_cmp (pos n) (numbered before)) (at_start k) ∙ found_from 0 before k in
+    let left = filter (λ (c : ℤ × Cell). not (was_there same_cell (find int_cmp c.0 (numbered_cells before)) c.1)) (numbered_from (k + 1) (map shown_value xs)) in
+    let here : find int_cmp (pos k) (numbered_cells before) ≡ slice_get before k = ap (λ n. find int_cmp (pos n) (numbered_cells before)) (at_start k) ∙ found_from 0 before k in
     let within : k < 2 ^ 63 = omega arith in
     let place : to_z w64 k ≡ pos k = search rules in
     let cell = shown_value x in

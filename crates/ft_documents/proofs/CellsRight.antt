@@ -13,8 +13,8 @@ use Rattle.std.proofs.lemmas.Slice.Eq.{bytes_eq-Decides}
 use Rattle.ft_values.specs.Cells.{Cell, Null, Int, Text}
 use Rattle.ft_rows.specs.Store.{column_key_cmp}
 use Rattle.ft_content.specs.Content.{Documents}
-use Rattle.ft_documents.specs.Rewrite.{Rewrite, by_docid, rewritten}
-use Rattle.ft_documents.specs.RewriteRows.{all_put, same_cell, was_there, changed, numbered, goes}
+use Rattle.ft_documents.specs.Rewrite.{Rewrite, under_docids, rewritten}
+use Rattle.ft_documents.specs.RewriteRows.{all_put, same_cell, was_there, changed, numbered_cells, goes}
 use Rattle.ft_documents.proofs.StoreKeys.{column_total, column_exact}
 use Rattle.ft_documents.proofs.KeyedRows.{true_of, of_true, tie, none_below, sorted_put, find_all_put, or_else, fresh, changed_found, sorted-filter, turned_round}
 use Rattle.ft_documents.proofs.CellSteps.{numbered_from}
@@ -48,18 +48,18 @@ abbrev goes_at : Option Rewrite → Bool
 goes_at None = false
 goes_at (Some r) = goes r
 
-goes_found : (docid : ℤ) (rs : List Rewrite) → is_sorted int_cmp (by_docid rs) ≡ true → list_any (λ (r : Rewrite). int_eq docid r.docid) (filter goes rs) ≡ goes_at (find int_cmp docid (by_docid rs))
+goes_found : (docid : ℤ) (rs : List Rewrite) → is_sorted int_cmp (under_docids rs) ≡ true → list_any (λ (r : Rewrite). int_eq docid r.docid) (filter goes rs) ≡ goes_at (find int_cmp docid (under_docids rs))
 goes_found docid [] h = refl
 goes_found docid (r ∷ rs) h =
-    let parts = and_parts (below_all int_cmp r.docid (by_docid rs)) (is_sorted int_cmp (by_docid rs)) h in
+    let parts = and_parts (below_all int_cmp r.docid (under_docids rs)) (is_sorted int_cmp (under_docids rs)) h in
     let rest = goes_found docid rs parts.1 in
     let any = list_any (λ (r : Rewrite). int_eq docid r.docid) in
-    elim (int_eq docid r.docid) as (λ b. int_eq docid r.docid ≡ b → any (cond (goes r) (r ∷ filter goes rs) (filter goes rs)) ≡ goes_at (cond b (Some r) (find int_cmp docid (by_docid rs)))) [
+    elim (int_eq docid r.docid) as (λ b. int_eq docid r.docid ≡ b → any (cond (goes r) (r ∷ filter goes rs) (filter goes rs)) ≡ goes_at (cond b (Some r) (find int_cmp docid (under_docids rs)))) [
       | true ↦ λ same. elim (goes r) as (λ g. any (cond g (r ∷ filter goes rs) (filter goes rs)) ≡ g) [
         | true ↦ ap (λ b. b || any (filter goes rs)) same
-        | false ↦ rest ∙ ap goes_at (none_below int_cmp int_cmp_total int_cmp-IsAntisymmetric docid r.docid (by_docid rs) same parts.0)
+        | false ↦ rest ∙ ap goes_at (none_below int_cmp int_cmp_total int_cmp-IsAntisymmetric docid r.docid (under_docids rs) same parts.0)
       ]
-      | false ↦ λ apart. elim (goes r) as (λ g. any (cond g (r ∷ filter goes rs) (filter goes rs)) ≡ goes_at (find int_cmp docid (by_docid rs))) [
+      | false ↦ λ apart. elim (goes r) as (λ g. any (cond g (r ∷ filter goes rs) (filter goes rs)) ≡ goes_at (find int_cmp docid (under_docids rs))) [
         | true ↦ ap (λ b. b || any (filter goes rs)) apart ∙ rest
         | false ↦ rest
       ]
@@ -108,45 +108,45 @@ wide (Some before) None = Unit {0}
 wide (Some before) (Some after) = length before ≤ length after
 
 abbrev new_of : Cells → Cells → List (ℤ × Cell)
-new_of before after = changed int_cmp same_cell (numbered (unwrap_or before [])) (numbered (unwrap_or after []))
+new_of before after = changed int_cmp same_cell (numbered_cells (unwrap_or before [])) (numbered_cells (unwrap_or after []))
 
 written_cells : (q : ℤ × ℤ) (before after : Cells) → wide before after →
-    either_cell (find int_cmp q.1 (new_of before after)) (cond (is_some before && not (is_some after)) None (one_by numbered q before)) ≡ one_by numbered q after
+    either_cell (find int_cmp q.1 (new_of before after)) (cond (is_some before && not (is_some after)) None (one_by numbered_cells q before)) ≡ one_by numbered_cells q after
 written_cells q None None w = refl
 written_cells q None (Some a) w =
-    ap (λ o. either_cell o None) (changed_found int_cmp int_cmp_total int_cmp-IsAntisymmetric same_cell q.1 [] (numbered a) (sorted_numbered 0 a)) ∙ cell_case None (find int_cmp q.1 (numbered a)) (λ _. refl)
+    ap (λ o. either_cell o None) (changed_found int_cmp int_cmp_total int_cmp-IsAntisymmetric same_cell q.1 [] (numbered_cells a) (sorted_numbered 0 a)) ∙ cell_case None (find int_cmp q.1 (numbered_cells a)) (λ _. refl)
 written_cells q (Some b) None w = refl
 written_cells q (Some b) (Some a) w =
-    ap (λ o. either_cell o (find int_cmp q.1 (numbered b))) (changed_found int_cmp int_cmp_total int_cmp-IsAntisymmetric same_cell q.1 (numbered b) (numbered a) (sorted_numbered 0 a))
-    ∙ cell_case (find int_cmp q.1 (numbered b)) (find int_cmp q.1 (numbered a)) (none_shorter q.1 0 b a w)
+    ap (λ o. either_cell o (find int_cmp q.1 (numbered_cells b))) (changed_found int_cmp int_cmp_total int_cmp-IsAntisymmetric same_cell q.1 (numbered_cells b) (numbered_cells a) (sorted_numbered 0 a))
+    ∙ cell_case (find int_cmp q.1 (numbered_cells b)) (find int_cmp q.1 (numbered_cells a)) (none_shorter q.1 0 b a w)
 
 -- what holds of all rewrites holds of the one that is found
-pub found_passes : (P : Rewrite → Type 0) (docid : ℤ) (rewrites : List Rewrite) (r : Rewrite) → All P rewrites → find int_cmp docid (by_docid rewrites) ≡ Some r → P r
+pub found_passes : (P : Rewrite → Type 0) (docid : ℤ) (rewrites : List Rewrite) (r : Rewrite) → All P rewrites → find int_cmp docid (under_docids rewrites) ≡ Some r → P r
 found_passes P docid [] r h = λ is. absurd (let no = is in cc)
 found_passes P docid (x ∷ xs) r h =
-    elim (int_eq docid x.docid) as (λ b. cond b (Some x) (find int_cmp docid (by_docid xs)) ≡ Some r → P r) [
+    elim (int_eq docid x.docid) as (λ b. cond b (Some x) (find int_cmp docid (under_docids xs)) ≡ Some r → P r) [
       | true ↦ λ is. let e : x ≡ r = ap (λ o. unwrap_or o x) is in subst P e (All-head P x xs h)
       | false ↦ λ is. found_passes P docid xs r (All-tail P x xs h) is
     ]
 
-pub cells_right : (documents : Documents) (rewrites : List Rewrite) → is_sorted int_cmp documents ≡ true → is_sorted int_cmp (by_docid rewrites) ≡ true → All (λ (r : Rewrite). r.before ≡ find int_cmp r.docid documents) rewrites → All (λ (r : Rewrite). wide r.before r.after) rewrites →
-    all_put column_key_cmp (rows_by new_cells (by_docid rewrites)) (documents_dropped (filter goes rewrites) (rows_by numbered documents)) ≡ rows_by numbered (rewritten rewrites documents)
+pub cells_right : (documents : Documents) (rewrites : List Rewrite) → is_sorted int_cmp documents ≡ true → is_sorted int_cmp (under_docids rewrites) ≡ true → All (λ (r : Rewrite). r.before ≡ find int_cmp r.docid documents) rewrites → All (λ (r : Rewrite). wide r.before r.after) rewrites →
+    all_put column_key_cmp (rows_by new_cells (under_docids rewrites)) (documents_dropped (filter goes rewrites) (rows_by numbered_cells documents)) ≡ rows_by numbered_cells (rewritten rewrites documents)
 cells_right documents rewrites ordered rising known fits =
-    let puts = rows_by new_cells (by_docid rewrites) in
-    let rows = rows_by numbered documents in
+    let puts = rows_by new_cells (under_docids rewrites) in
+    let rows = rows_by numbered_cells documents in
     let left = documents_dropped (filter goes rewrites) rows in
-    let each : (r : Rewrite) → is_sorted int_cmp (new_cells r) ≡ true = λ r. sorted-filter int_cmp int_cmp_total int_cmp-IsAntisymmetric (λ (c : ℤ × Cell). not (was_there same_cell (find int_cmp c.0 (numbered (unwrap_or r.before []))) c.1)) (numbered (unwrap_or r.after [])) (sorted_numbered 0 (unwrap_or r.after [])) in
+    let each : (r : Rewrite) → is_sorted int_cmp (new_cells r) ≡ true = λ r. sorted-filter int_cmp int_cmp_total int_cmp-IsAntisymmetric (λ (c : ℤ × Cell). not (was_there same_cell (find int_cmp c.0 (numbered_cells (unwrap_or r.before []))) c.1)) (numbered_cells (unwrap_or r.after [])) (sorted_numbered 0 (unwrap_or r.after [])) in
     let in_order = cells_are.sorted documents ordered in
-    let of_rewrite : ℤ × ℤ → Option Rewrite = λ q. find int_cmp q.0 (by_docid rewrites) in
+    let of_rewrite : ℤ × ℤ → Option Rewrite = λ q. find int_cmp q.0 (under_docids rewrites) in
     let either_row = or_else column_key_cmp column_total column_exact in
-    same_entries column_key_cmp column_total column_exact (all_put column_key_cmp puts left) (rows_by numbered (rewritten rewrites documents))
+    same_entries column_key_cmp column_total column_exact (all_put column_key_cmp puts left) (rows_by numbered_cells (rewritten rewrites documents))
     (of_true _ (sorted_put column_key_cmp column_total column_exact puts left (sorted_left (filter goes rewrites) rows in_order)))
     (of_true _ (cells_are.sorted (rewritten rewrites documents) (sorted_rewritten rewrites documents ordered)))
-    (λ q. find_all_put column_key_cmp column_total column_exact q puts left (sorted_by new_cells (by_docid rewrites) rising each)
-    ∙ (λ i. either_row (find_by new_cells q (by_docid rewrites) rising i) ((find_dropped q (filter goes rewrites) rows ∙ (λ j. cond (goes_found q.0 rewrites rising j) None (cells_are.found q documents ordered j))) i))
-    ∙ elim (of_rewrite q) as (λ x. of_rewrite q ≡ x → either_row (one_by new_cells q x) (cond (goes_at x) None (one_by numbered q (find int_cmp q.0 documents))) ≡ one_by numbered q (written x (find int_cmp q.0 documents))) [
+    (λ q. find_all_put column_key_cmp column_total column_exact q puts left (sorted_by new_cells (under_docids rewrites) rising each)
+    ∙ (λ i. either_row (find_by new_cells q (under_docids rewrites) rising i) ((find_dropped q (filter goes rewrites) rows ∙ (λ j. cond (goes_found q.0 rewrites rising j) None (cells_are.found q documents ordered j))) i))
+    ∙ elim (of_rewrite q) as (λ x. of_rewrite q ≡ x → either_row (one_by new_cells q x) (cond (goes_at x) None (one_by numbered_cells q (find int_cmp q.0 documents))) ≡ one_by numbered_cells q (written x (find int_cmp q.0 documents))) [
       | None ↦ λ _. refl
-      | Some r ↦ λ is. ap (λ held. either_row (find int_cmp q.1 (new_cells r)) (cond (goes r) None (one_by numbered q held))) (sym (before_found q.0 documents rewrites r known is))
+      | Some r ↦ λ is. ap (λ held. either_row (find int_cmp q.1 (new_cells r)) (cond (goes r) None (one_by numbered_cells q held))) (sym (before_found q.0 documents rewrites r known is))
           ∙ written_cells q r.before r.after (found_passes (λ (r : Rewrite). wide r.before r.after) q.0 rewrites r fits is)
     ] refl
-    ∙ sym (last_rows column_key_cmp column_total column_exact (λ k. k.0) (rows_by numbered) (one_by numbered) cells_are documents rewrites ordered rising known q))
+    ∙ sym (last_rows column_key_cmp column_total column_exact (λ k. k.0) (rows_by numbered_cells) (one_by numbered_cells) cells_are documents rewrites ordered rising known q))

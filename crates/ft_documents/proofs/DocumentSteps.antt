@@ -1,8 +1,7 @@
 -- The entries and sizes of a document, cell by cell.
 use Rattle.std.proofs.Common.{◌≡◌, ℕ, zero, suc, ◌+◌, ◌≤◌, true, cond, List, [], ◌∷◌, ◌++◌, map, length, drop, min, ℤ, refl, sym, ap, ◌∙◌, arith, nat_lt}
-use Rattle.std.specs.Prelude.{filter, unwrap_or}
+use Rattle.std.specs.Prelude.{filter}
 use Rattle.std.specs.List.{flat_map, enumerate_from}
-use Rattle.std.specs.FinMap.Entries.{put, find}
 use Rattle.std.proofs.lemmas.List.{map-append}
 use Rattle.std.proofs.lemmas.Simd.{map-map}
 use Rattle.std.proofs.lemmas.Bool.Decides.{nat_tests}
@@ -11,8 +10,9 @@ use Rattle.ft_query.specs.Documents.{posting}
 use Rattle.ft_values.specs.Cells.{Cell}
 use Rattle.ft_rows.specs.Store.{column_key_cmp}
 use Rattle.ft_content.specs.Content.{Column}
-use Rattle.ft_content.specs.Index.{Entry, entry_at, Key, key_cmp, key_of, StoredSpot, stored_spot, Size, size_row, document_tokens}
-use Rattle.ft_documents.specs.RewriteRows.{with_entries, all_put, sized, cell_entries, cell_sizes, AreShortNumbers}
+use Rattle.ft_content.specs.Index.{Entry, entry_at, Key, StoredSpot, Size, size_row, document_tokens}
+use Rattle.ft_documents.specs.RewriteRows.{with_spots, with_entries, entry_spot, all_put, sized, cell_entries, cell_sizes, AreShortNumbers}
+use Rattle.ft_documents.proofs.SpotLists.{with_spots-append}
 
 -- entries and sizes of the columns from one on
 abbrev pub entries_from : ℤ → ℕ → List (List PlainToken) → List Entry
@@ -25,8 +25,7 @@ abbrev pub sizes_from : ℤ → ℕ → List (List PlainToken) → List ((ℤ ×
 sizes_from docid k columns = sized (map size_row (filter (λ (s : Size). nat_lt 0 s.n) (map (size_at docid) (enumerate_from k columns))))
 
 pub with_entries-append : (es fs : List Entry) (lists : List (Key × List StoredSpot)) → with_entries (es ++ fs) lists ≡ with_entries fs (with_entries es lists)
-with_entries-append [] fs lists = refl
-with_entries-append (e ∷ es) fs lists = with_entries-append es fs (put key_cmp (key_of e) (unwrap_or (find key_cmp (key_of e) lists) [] ++ stored_spot e.spot ∷ []) lists)
+with_entries-append es fs lists = ap (λ xs. with_spots xs lists) (map-append entry_spot es fs) ∙ with_spots-append (map entry_spot es) (map entry_spot fs) lists
 
 entries_first : (docid : ℤ) (k : ℕ) (tokens : List PlainToken) (columns : List (List PlainToken)) → entries_from docid k (tokens ∷ columns) ≡ cell_entries docid k tokens ++ entries_from docid (k + 1) columns
 entries_first docid k tokens columns =

@@ -15,7 +15,7 @@ use Rattle.ft_rows.specs.Store.{Change, all_applied}
 use Rattle.ft_content.specs.Content.{Column, Documents, Content, is_document, content_rows}
 use Rattle.ft_content.specs.Index.{index_rows}
 use Rattle.ft_documents.specs.Tables.{table_rows, table_index, IsOfDocids}
-use Rattle.ft_documents.specs.Rewrite.{Rewrite, with_cells, rewritten, rewritten_content, docids_of, by_docid, FitIfAny, AreOf, HasContent, AreRight}
+use Rattle.ft_documents.specs.Rewrite.{Rewrite, with_cells, rewritten, rewritten_content, rewritten_docids, under_docids, FitIfAny, AreOf, HasContent, AreRight}
 use Rattle.ft_documents.specs.RewriteRows.{rewrite_changes}
 use Rattle.ft_documents.proofs.KeyedRows.{below_apart}
 use Rattle.ft_documents.proofs.AppliedLemmas.{applied_append}
@@ -54,22 +54,22 @@ sorted_last [] ys h = h
 sorted_last (x ∷ xs) ys h = sorted_last xs ys (and_parts (below_all int_cmp x.0 (xs ++ ys)) (is_sorted int_cmp (xs ++ ys)) h).1
 
 -- the documents of those after aren't among the first
-none_yet : (rs : List Rewrite) → AllByRecursion (λ (r : Rewrite). find int_cmp r.docid (by_docid []) ≡ None) rs
+none_yet : (rs : List Rewrite) → AllByRecursion (λ (r : Rewrite). find int_cmp r.docid (under_docids []) ≡ None) rs
 none_yet [] = tt
 none_yet (r ∷ rs) = (refl, none_yet rs)
 
-nor_this : (x : ℤ × Rewrite) (xs : List (ℤ × Rewrite)) (rs : List Rewrite) → below_all int_cmp x.0 (by_docid rs) ≡ true → AllByRecursion (λ (r : Rewrite). find int_cmp r.docid xs ≡ None) rs → AllByRecursion (λ (r : Rewrite). find int_cmp r.docid (x ∷ xs) ≡ None) rs
+nor_this : (x : ℤ × Rewrite) (xs : List (ℤ × Rewrite)) (rs : List Rewrite) → below_all int_cmp x.0 (under_docids rs) ≡ true → AllByRecursion (λ (r : Rewrite). find int_cmp r.docid xs ≡ None) rs → AllByRecursion (λ (r : Rewrite). find int_cmp r.docid (x ∷ xs) ≡ None) rs
 nor_this x xs [] below none = tt
 nor_this x xs (r ∷ rs) below none =
-    let parts = and_parts (is_lt (int_cmp x.0 r.docid)) (below_all int_cmp x.0 (by_docid rs)) below in
+    let parts = and_parts (is_lt (int_cmp x.0 r.docid)) (below_all int_cmp x.0 (under_docids rs)) below in
     let other : int_eq r.docid x.0 ≡ false = (eq_by_cmp_equiv int_cmp_total).symm r.docid x.0 ∙ below_apart _ parts.0 in
     (ap (λ b. cond b (Some x.1) (find int_cmp r.docid xs)) other ∙ none.0, nor_this x xs rs parts.1 none.1)
 
-not_among : (xs : List (ℤ × Rewrite)) (rs : List Rewrite) → is_sorted int_cmp (xs ++ by_docid rs) ≡ true → AllByRecursion (λ (r : Rewrite). find int_cmp r.docid xs ≡ None) rs
+not_among : (xs : List (ℤ × Rewrite)) (rs : List Rewrite) → is_sorted int_cmp (xs ++ under_docids rs) ≡ true → AllByRecursion (λ (r : Rewrite). find int_cmp r.docid xs ≡ None) rs
 not_among [] rs h = none_yet rs
 not_among (x ∷ xs) rs h =
-    let parts = and_parts (below_all int_cmp x.0 (xs ++ by_docid rs)) (is_sorted int_cmp (xs ++ by_docid rs)) h in
-    nor_this x xs rs (below_last x.0 xs (by_docid rs) parts.0) (not_among xs rs parts.1)
+    let parts = and_parts (below_all int_cmp x.0 (xs ++ under_docids rs)) (is_sorted int_cmp (xs ++ under_docids rs)) h in
+    nor_this x xs rs (below_last x.0 xs (under_docids rs) parts.0) (not_among xs rs parts.1)
 
 -- ---- documents stay documents of their table
 
@@ -103,7 +103,7 @@ fit_rewritten width (r ∷ rs) documents fit h = fit_rewritten width rs (with_ce
 
 -- ---- what is known of documents after the first
 
-known_still : (first rest : List Rewrite) (documents : Documents) → is_sorted int_cmp (by_docid first) ≡ true → AllByRecursion (λ (r : Rewrite). find int_cmp r.docid (by_docid first) ≡ None) rest → AllByRecursion (λ (r : Rewrite). r.before ≡ find int_cmp r.docid documents) rest
+known_still : (first rest : List Rewrite) (documents : Documents) → is_sorted int_cmp (under_docids first) ≡ true → AllByRecursion (λ (r : Rewrite). find int_cmp r.docid (under_docids first) ≡ None) rest → AllByRecursion (λ (r : Rewrite). r.before ≡ find int_cmp r.docid documents) rest
     → AllByRecursion (λ (r : Rewrite). r.before ≡ find int_cmp r.docid (rewritten first documents)) rest
 known_still first [] documents sorted none known = tt
 known_still first (r ∷ rs) documents sorted none known = (
@@ -116,7 +116,7 @@ rewritten_both [] rest documents = refl
 rewritten_both (r ∷ rs) rest documents = rewritten_both rs rest (with_cells r.docid r.after documents)
 
 module _ (first rest : List Rewrite) (content : Content) (are : AreOf content (first ++ rest)) where
-  rising : is_sorted int_cmp (by_docid first ++ by_docid rest) ≡ true
+  rising : is_sorted int_cmp (under_docids first ++ under_docids rest) ≡ true
   rising = subst (λ l. is_sorted int_cmp l ≡ true) (map-append (λ (r : Rewrite). (r.docid, r)) first rest) are.rising
 
   abbrev known : Rewrite → Type 0
@@ -133,16 +133,16 @@ module _ (first rest : List Rewrite) (content : Content) (are : AreOf content (f
 
   first_of : AreOf content first
   first_of = record {
-    rising = sorted_first (by_docid first) (by_docid rest) rising;
+    rising = sorted_first (under_docids first) (under_docids rest) rising;
     befores = All-from_recursion known first (first_all known first rest all_known);
     afters = All-from_recursion (FitIfAny width) first (first_all (FitIfAny width) first rest all_fit);
   }
 
   rest_of : AreOf (rewritten_content first content) rest
   rest_of = record {
-    rising = sorted_last (by_docid first) (by_docid rest) rising;
+    rising = sorted_last (under_docids first) (under_docids rest) rising;
     befores = All-from_recursion (λ (r : Rewrite). r.before ≡ find int_cmp r.docid (rewritten first content.documents)) rest
-        (known_still first rest content.documents first_of.rising (not_among (by_docid first) rest rising) (last_all known first rest all_known));
+        (known_still first rest content.documents first_of.rising (not_among (under_docids first) rest rising) (last_all known first rest all_known));
     afters = All-from_recursion (FitIfAny width) rest (last_all (FitIfAny width) first rest all_fit);
   }
 
@@ -183,7 +183,7 @@ each_near tab columns docids (group ∷ groups) own =
     (All-from_recursion D group (first_all D group (flat_map (λ g. g) groups) own)))
     (each_near tab columns docids groups (last_all D group (flat_map (λ g. g) groups) own))
 
-pub groups_near : (tab : ℤ) (columns : List Column) (groups : List (List Rewrite)) → All (IsOfDocids tab (docids_of (flat_map (λ group. group) groups))) (flat_map (rewrite_changes tab columns) groups)
+pub groups_near : (tab : ℤ) (columns : List Column) (groups : List (List Rewrite)) → All (IsOfDocids tab (rewritten_docids (flat_map (λ group. group) groups))) (flat_map (rewrite_changes tab columns) groups)
 groups_near tab columns groups =
     let rewrites = flat_map (λ (group : List Rewrite). group) groups in
-    each_near tab columns (docids_of rewrites) groups (recursion_from_All (λ (r : Rewrite). Contains (docids_of rewrites) r.docid) rewrites (contains_own rewrites))
+    each_near tab columns (rewritten_docids rewrites) groups (recursion_from_All (λ (r : Rewrite). Contains (rewritten_docids rewrites) r.docid) rewrites (contains_own rewrites))

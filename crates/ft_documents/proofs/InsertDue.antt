@@ -5,7 +5,7 @@ use Rattle.ft_values.specs.Cells.{Cell}
 use Rattle.ft_values.specs.declared.fault.Fault.TheVariants as faults
 use Rattle.ft_content.specs.Content.{Content, Documents, repeats_name}
 use Rattle.ft_content.specs.Command.{Insert}
-use Rattle.ft_content.specs.Deserved.{Contents, first_of, or_else, on_sound, listed_columns, insert_rows, insert_fault, deserved}
+use Rattle.ft_content.specs.Deserved.{Contents, first_of, or_else, on_sound, listed_columns, inserted_rows, insert_fault, deserved}
 use Rattle.ft_content.specs.Step.{inserted, inserted_into}
 
 -- ---- the tests, in their order
@@ -21,5 +21,5 @@ once contents name columns rows apart = ap (λ b. or_else (first_of ((b, faults.
 
 -- and the documents after it are those that the rows make
 pub inserted_is : (content : Content) (columns : Option (List (List ℕ))) (rows : List (List Cell)) (documents : Documents) →
-    insert_rows content.columns (map (zip (listed_columns content columns)) rows) content.documents ≡ Ok documents → inserted content columns rows ≡ documents
+    inserted_rows content.columns (map (zip (listed_columns content columns)) rows) content.documents ≡ Ok documents → inserted content columns rows ≡ documents
 inserted_is content columns rows documents is = ap (inserted_into content.documents) is

@@ -8,7 +8,7 @@ use Rattle.std.specs.FinMap.Entries.{find, below_all, is_sorted}
 use Rattle.std.proofs.lemmas.Bool.{and_parts}
 use Rattle.ft_values.specs.Cells.{Cell}
 use Rattle.ft_content.specs.Content.{Documents, Content, IsContent, is_document}
-use Rattle.ft_documents.specs.Rewrite.{Rewrite, AreOf, FitIfAny, by_docid, rewritten}
+use Rattle.ft_documents.specs.Rewrite.{Rewrite, AreOf, FitIfAny, under_docids, rewritten}
 use Rattle.ft_documents.proofs.RewriteLemmas.{written, find_rewritten}
 use Rattle.ft_documents.proofs.KeyedRows.{below_apart}
 
@@ -22,18 +22,18 @@ all_of {A} P (x ∷ xs) h = go (all_of P xs h.1)
 
 -- ---- each rewrite is found under its docid
 
-found_behind : (first : Rewrite) (rs all : List Rewrite) → below_all int_cmp first.docid (by_docid rs) ≡ true → AllByRecursion (λ (r : Rewrite). find int_cmp r.docid (by_docid all) ≡ Some r) rs → AllByRecursion (λ (r : Rewrite). find int_cmp r.docid (by_docid (first ∷ all)) ≡ Some r) rs
+found_behind : (first : Rewrite) (rs all : List Rewrite) → below_all int_cmp first.docid (under_docids rs) ≡ true → AllByRecursion (λ (r : Rewrite). find int_cmp r.docid (under_docids all) ≡ Some r) rs → AllByRecursion (λ (r : Rewrite). find int_cmp r.docid (under_docids (first ∷ all)) ≡ Some r) rs
 found_behind first [] all below found = tt
 found_behind first (r ∷ rs) all below found =
-    let parts = and_parts (is_lt (int_cmp first.docid r.docid)) (below_all int_cmp first.docid (by_docid rs)) below in
+    let parts = and_parts (is_lt (int_cmp first.docid r.docid)) (below_all int_cmp first.docid (under_docids rs)) below in
     let other : int_eq r.docid first.docid ≡ false = (eq_by_cmp_equiv int_cmp_total).symm r.docid first.docid ∙ below_apart _ parts.0 in
-    (ap (λ b. cond b (Some first) (find int_cmp r.docid (by_docid all))) other ∙ found.0, found_behind first rs all parts.1 found.1)
+    (ap (λ b. cond b (Some first) (find int_cmp r.docid (under_docids all))) other ∙ found.0, found_behind first rs all parts.1 found.1)
 
-pub each_found : (rs : List Rewrite) → is_sorted int_cmp (by_docid rs) ≡ true → AllByRecursion (λ (r : Rewrite). find int_cmp r.docid (by_docid rs) ≡ Some r) rs
+pub each_found : (rs : List Rewrite) → is_sorted int_cmp (under_docids rs) ≡ true → AllByRecursion (λ (r : Rewrite). find int_cmp r.docid (under_docids rs) ≡ Some r) rs
 each_found [] sorted = tt
 each_found (r ∷ rs) sorted =
-    let parts = and_parts (below_all int_cmp r.docid (by_docid rs)) (is_sorted int_cmp (by_docid rs)) sorted in
-    (ap (λ b. cond b (Some r) (find int_cmp r.docid (by_docid rs))) (ap is_eq (tied_itself int_cmp_total r.docid)), found_behind r rs rs parts.0 (each_found rs parts.1))
+    let parts = and_parts (below_all int_cmp r.docid (under_docids rs)) (is_sorted int_cmp (under_docids rs)) sorted in
+    (ap (λ b. cond b (Some r) (find int_cmp r.docid (under_docids rs))) (ap is_eq (tied_itself int_cmp_total r.docid)), found_behind r rs rs parts.0 (each_found rs parts.1))
 
 -- a document that is found among fit ones is fit
 found_fit : (width : ℕ) (documents : Documents) (docid : ℤ) (cells : List Cell) → list_all (is_document width) documents ≡ true → find int_cmp docid documents ≡ Some cells → is_document width (docid, cells) ≡ true
@@ -53,7 +53,7 @@ fit_if_any width documents r fit found = go r.after found
     go None is = tt
     go (Some cells) is = found_fit width documents r.docid cells fit is
 
-all_fit : (width : ℕ) (documents : Documents) (all rs : List Rewrite) → is_sorted int_cmp (by_docid all) ≡ true → list_all (is_document width) (rewritten all documents) ≡ true → AllByRecursion (λ (r : Rewrite). find int_cmp r.docid (by_docid all) ≡ Some r) rs → AllByRecursion (FitIfAny width) rs
+all_fit : (width : ℕ) (documents : Documents) (all rs : List Rewrite) → is_sorted int_cmp (under_docids all) ≡ true → list_all (is_document width) (rewritten all documents) ≡ true → AllByRecursion (λ (r : Rewrite). find int_cmp r.docid (under_docids all) ≡ Some r) rs → AllByRecursion (FitIfAny width) rs
 all_fit width documents all [] sorted fit found = tt
 all_fit width documents all (r ∷ rs) sorted fit found = (
   fit_if_any width (rewritten all documents) r fit (find_rewritten r.docid all documents sorted ∙ ap (λ o. written o (find int_cmp r.docid documents)) found.0),
@@ -61,7 +61,7 @@ all_fit width documents all (r ∷ rs) sorted fit found = (
 )
 
 -- Rewrites that know what each document was, and make a content, are rewrites of the content.
-pub are_of : (name : List ℕ) (content : Content) (rewrites : List Rewrite) → is_sorted int_cmp (by_docid rewrites) ≡ true → AllByRecursion (λ (r : Rewrite). r.before ≡ find int_cmp r.docid content.documents) rewrites →
+pub are_of : (name : List ℕ) (content : Content) (rewrites : List Rewrite) → is_sorted int_cmp (under_docids rewrites) ≡ true → AllByRecursion (λ (r : Rewrite). r.before ≡ find int_cmp r.docid content.documents) rewrites →
     IsContent name (record content { documents = rewritten rewrites content.documents }) → AreOf content rewrites
 are_of name content rewrites rising befores is = record {
   rising = rising;

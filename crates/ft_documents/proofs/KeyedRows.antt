@@ -33,11 +33,6 @@ turned_round x y = (eq_by_cmp_equiv int_cmp_total).symm x y
 pub same_int : (x y : ℤ) → int_eq x y ≡ true → x ≡ y
 same_int x y h = int_cmp-IsAntisymmetric x y (tie _ h)
 
-pub second_tie : (a b : Ordering) → is_eq (ordering_then a b) ≡ true → is_eq b ≡ true
-second_tie Less b h = absurd (let no = h in cc)
-second_tie Equal b h = h
-second_tie Greater b h = absurd (let no = h in cc)
-
 pub below_apart : (o : Ordering) → is_lt o ≡ true → is_eq o ≡ false
 below_apart Less h = refl
 below_apart Equal h = absurd (let no = h in cc)

@@ -13,8 +13,8 @@ use Rattle.ft_rows.specs.Store.{column_key_cmp, Change, PutCell, DropCells, PutE
 use Rattle.ft_content.specs.Content.{Column, Documents}
 use Rattle.ft_content.specs.Index.{Entry, Key, key_cmp, key_of, StoredSpot, stored_spot, Size, SizeRow, size_row, document_tokens, document_postings, entry_at, document_entries, document_sizes, sizes, index_rows}
 use Rattle.ft_documents.specs.Tables.{IsOfDocids}
-use Rattle.ft_documents.specs.Rewrite.{Rewrite, befores, afters, document_if, docids_of}
-use Rattle.ft_documents.specs.RewriteRows.{with_entries, all_put, sized, same_cell, same_spots, gone, changed, numbered, goes, dropped_documents, put_cells, put_documents, dropped_lists, put_lists, dropped_sizes, put_sizes, lists_with, lists_of, sizes_of, list_changes, rewrite_changes}
+use Rattle.ft_documents.specs.Rewrite.{Rewrite, befores, afters, document_if, rewritten_docids}
+use Rattle.ft_documents.specs.RewriteRows.{with_entries, all_put, sized, same_cell, same_spots, gone, changed, numbered_cells, goes, dropped_documents, put_cells, put_documents, dropped_lists, put_lists, dropped_sizes, put_sizes, lists_joined_by, index_lists_of, sizes_of, list_changes, rewrite_changes}
 use Rattle.ft_documents.proofs.IndexOf.{lists_made}
 
 pub All-flat_map : {X Y : Type 0} (P : Y → Type 0) (f : X → List Y) (xs : List X) → All (λ x. All P (f x)) xs → All P (flat_map f xs)
@@ -52,8 +52,8 @@ module _ (D : ℤ → Type 0) where
       joined_near es (put key_cmp (key_of e) (unwrap_or (find key_cmp (key_of e) lists) [] ++ stored_spot e.spot ∷ []) lists) (All-tail (λ (e : Entry). D e.docid) e es h)
       (keys_put key_cmp (λ (k : Key). D k.1) (key_of e) (unwrap_or (find key_cmp (key_of e) lists) [] ++ stored_spot e.spot ∷ []) lists (All-head (λ (e : Entry). D e.docid) e es h) g)
 
-  pub lists_near : (columns : List Column) (documents : Documents) → OfDocuments documents → All (λ (l : Key × List StoredSpot). D l.0.1) (lists_of columns documents)
-  lists_near columns documents h = All-same (λ (l : Key × List StoredSpot). D l.0.1) (lists_of columns documents) (lists_with columns documents []) (sym (lists_made columns documents))
+  pub lists_near : (columns : List Column) (documents : Documents) → OfDocuments documents → All (λ (l : Key × List StoredSpot). D l.0.1) (index_lists_of columns documents)
+  lists_near columns documents h = All-same (λ (l : Key × List StoredSpot). D l.0.1) (index_lists_of columns documents) (lists_joined_by columns documents []) (sym (lists_made columns documents))
       (joined_near (flat_map (document_entries columns) documents) [] (entries_near columns documents h) (All-nil (λ (l : Key × List StoredSpot). D l.0.1)))
 
   document_near : (columns : List Column) (d : ℤ × List Cell) → D d.0 → All (λ (s : Size). D s.docid) (document_sizes columns d)
@@ -87,8 +87,8 @@ module _ (D : ℤ → Type 0) where
         ((docid column : ℤ) → D docid → P (DropSize tab docid column)) → ((docid column n : ℤ) → D docid → P (PutSize tab docid column n)) → All (λ (r : Rewrite). D r.docid) rewrites → All P (rewrite_changes tab columns rewrites)
     unfolding rewrite_changes
     changes_near tab columns rewrites drops puts drop_list put_list drop_size put_size h =
-        let old = lists_of columns (befores rewrites) in
-        let new = lists_of columns (afters rewrites) in
+        let old = index_lists_of columns (befores rewrites) in
+        let new = index_lists_of columns (afters rewrites) in
         let olds = sizes_of columns (befores rewrites) in
         let news = sizes_of columns (afters rewrites) in
         let N : Key × List StoredSpot → Type 0 = λ l. D l.0.1 in
@@ -97,7 +97,7 @@ module _ (D : ℤ → Type 0) where
         (All-map P (λ (r : Rewrite). DropCells tab r.docid) (filter goes rewrites) (All-weaker (λ (r : Rewrite). D r.docid) (λ r. P (DropCells tab r.docid)) (λ r is. drops r.docid is) (filter goes rewrites) (All-filter goes (λ (r : Rewrite). D r.docid) rewrites h)))
         (All-append P (put_documents tab rewrites) _
         (All-flat_map P (λ (r : Rewrite). put_cells tab r.docid (unwrap_or r.before []) (unwrap_or r.after [])) rewrites (All-weaker (λ (r : Rewrite). D r.docid) (λ r. All P (put_cells tab r.docid (unwrap_or r.before []) (unwrap_or r.after [])))
-        (λ r is. All-map P (λ (c : ℤ × Cell). PutCell tab r.docid c.0 c.1) (changed int_cmp same_cell (numbered (unwrap_or r.before [])) (numbered (unwrap_or r.after []))) (λ k d _. puts r.docid _ _ is)) rewrites h))
+        (λ r is. All-map P (λ (c : ℤ × Cell). PutCell tab r.docid c.0 c.1) (changed int_cmp same_cell (numbered_cells (unwrap_or r.before [])) (numbered_cells (unwrap_or r.after []))) (λ k d _. puts r.docid _ _ is)) rewrites h))
         (All-append P (list_changes tab old new) _
         (All-append P (dropped_lists tab (changed key_cmp same_spots new old)) (put_lists tab (changed key_cmp same_spots old new))
         (All-map P (λ (l : Key × List StoredSpot). DropEntries tab l.0.0 l.0.1) (changed key_cmp same_spots new old) (All-weaker N (λ l. P (DropEntries tab l.0.0 l.0.1)) (λ l is. drop_list l.0.0 l.0.1 is) (changed key_cmp same_spots new old) (All-filter _ N old (lists_near columns (befores rewrites) (befores_near rewrites h)))))
@@ -107,16 +107,16 @@ module _ (D : ℤ → Type 0) where
         (All-map P (λ (s : (ℤ × ℤ) × ℤ). PutSize tab s.0.0 s.0.1 s.1) (changed column_key_cmp int_eq olds news) (All-weaker S (λ s. P (PutSize tab s.0.0 s.0.1 s.1)) (λ s is. put_size s.0.0 s.0.1 s.1 is) (changed column_key_cmp int_eq olds news) (All-filter _ S news (sizes_near columns (afters rewrites) (afters_near rewrites h))))))))
 
 -- the docids of rewrites are those of each
-pub contains_own : (rewrites : List Rewrite) → All (λ (r : Rewrite). Contains (docids_of rewrites) r.docid) rewrites
-contains_own rewrites = mapped rewrites (All-contains_itself (docids_of rewrites))
+pub contains_own : (rewrites : List Rewrite) → All (λ (r : Rewrite). Contains (rewritten_docids rewrites) r.docid) rewrites
+contains_own rewrites = mapped rewrites (All-contains_itself (rewritten_docids rewrites))
   where
-    mapped : (rs : List Rewrite) → All (Contains (docids_of rewrites)) (map (λ (r : Rewrite). r.docid) rs) → All (λ (r : Rewrite). Contains (docids_of rewrites) r.docid) rs
-    mapped [] h = All-nil (λ (r : Rewrite). Contains (docids_of rewrites) r.docid)
-    mapped (r ∷ rs) h = All-cons (λ (r : Rewrite). Contains (docids_of rewrites) r.docid) r rs (All-head (Contains (docids_of rewrites)) r.docid (docids_of rs) h) (mapped rs (All-tail (Contains (docids_of rewrites)) r.docid (docids_of rs) h))
+    mapped : (rs : List Rewrite) → All (Contains (rewritten_docids rewrites)) (map (λ (r : Rewrite). r.docid) rs) → All (λ (r : Rewrite). Contains (rewritten_docids rewrites) r.docid) rs
+    mapped [] h = All-nil (λ (r : Rewrite). Contains (rewritten_docids rewrites) r.docid)
+    mapped (r ∷ rs) h = All-cons (λ (r : Rewrite). Contains (rewritten_docids rewrites) r.docid) r rs (All-head (Contains (rewritten_docids rewrites)) r.docid (rewritten_docids rs) h) (mapped rs (All-tail (Contains (rewritten_docids rewrites)) r.docid (rewritten_docids rs) h))
 
 -- each change is of one of the documents
-pub near : (tab : ℤ) (columns : List Column) (rewrites : List Rewrite) → All (IsOfDocids tab (docids_of rewrites)) (rewrite_changes tab columns rewrites)
+pub near : (tab : ℤ) (columns : List Column) (rewrites : List Rewrite) → All (IsOfDocids tab (rewritten_docids rewrites)) (rewrite_changes tab columns rewrites)
 near tab columns rewrites =
-    let docids = docids_of rewrites in
+    let docids = rewritten_docids rewrites in
     changes_near (Contains docids) (IsOfDocids tab docids) tab columns rewrites (λ docid is. (refl, is)) (λ docid column cell is. (refl, is)) (λ term docid is. (refl, is)) (λ term docid spots is. (refl, is)) (λ docid column is. (refl, is)) (λ docid column n is. (refl, is))
     (contains_own rewrites)

@@ -15,8 +15,8 @@ use Rattle.ft_rows.specs.Store.{StoreValue, cell_key_cmp, list_key_cmp, column_k
 use Rattle.ft_content.specs.Content.{Column, Documents, Content}
 use Rattle.ft_content.specs.Index.{Key, key_cmp, StoredSpot}
 use Rattle.ft_content.proofs.IndexLemmas.{key_cmp_total, key_cmp_exact}
-use Rattle.ft_documents.specs.Rewrite.{Rewrite, befores, afters, by_docid, AreOf, HasContent, IsNew, AreNew}
-use Rattle.ft_documents.specs.RewriteRows.{same_cell, same_spot, same_spots, was_there, gone, changed, numbered, goes, dropped_documents, put_cells, put_documents, dropped_lists, put_lists, dropped_sizes, put_sizes, lists_of, sizes_of, list_changes, rewrite_changes}
+use Rattle.ft_documents.specs.Rewrite.{Rewrite, befores, afters, under_docids, AreOf, HasContent, IsNew, AreNew}
+use Rattle.ft_documents.specs.RewriteRows.{same_cell, same_spot, same_spots, was_there, gone, changed, numbered_cells, goes, dropped_documents, put_cells, put_documents, dropped_lists, put_lists, dropped_sizes, put_sizes, index_lists_of, sizes_of, list_changes, rewrite_changes}
 use Rattle.ft_documents.proofs.StoreKeys.{column_exact, column_total, list_keys, cell_keys}
 use Rattle.ft_documents.proofs.DocumentRows.{one_by}
 use Rattle.ft_documents.proofs.RewriteLemmas.{AreRowsOf, old_there, new_there, sorted_befores, sorted_afters}
@@ -64,7 +64,7 @@ module _ {K V : Type 0} (S : K → K → Ordering) (o : IsTotalOrder S) where
 -- ---- lists and sizes
 
 module _ {K V : Type 0} (S : K → K → Ordering) (o : IsTotalOrder S) (exact : CmpEqualImpliesEq S) (docid_of : K → ℤ) (rows : Documents → List (K × V)) (one : K → Option (List Cell) → Option V) (are : AreRowsOf S docid_of rows one)
-    (documents : Documents) (rewrites : List Rewrite) (ordered : is_sorted int_cmp documents ≡ true) (rising : is_sorted int_cmp (by_docid rewrites) ≡ true) (known : All (λ (r : Rewrite). r.before ≡ find int_cmp r.docid documents) rewrites)
+    (documents : Documents) (rewrites : List Rewrite) (ordered : is_sorted int_cmp documents ≡ true) (rising : is_sorted int_cmp (under_docids rewrites) ≡ true) (known : All (λ (r : Rewrite). r.before ≡ find int_cmp r.docid documents) rewrites)
     (same : V → V → Bool) (whole : (v : V) → same v v ≡ true) where
   gone_new : All (λ (e : K × V). IsSome (find S e.0 (rows documents))) (gone S (rows (befores rewrites)) (rows (afters rewrites)))
   gone_new =
@@ -104,7 +104,7 @@ spots_whole : (ss : List StoredSpot) → same_spots ss ss ≡ true
 spots_whole [] = refl
 spots_whole (s ∷ ss) = and_from (same_spot s s) (same_spots ss ss) (spot_whole s) (spots_whole ss)
 
-held_cells : (docid column : ℤ) (before : Option (List Cell)) (cell : Cell) → one_by numbered (docid, column) before ≡ Some cell → find int_cmp column (numbered (unwrap_or before [])) ≡ Some cell
+held_cells : (docid column : ℤ) (before : Option (List Cell)) (cell : Cell) → one_by numbered_cells (docid, column) before ≡ Some cell → find int_cmp column (numbered_cells (unwrap_or before [])) ≡ Some cell
 held_cells docid column None cell is = is
 held_cells docid column (Some b) cell is = is
 
@@ -115,31 +115,31 @@ module _ (name : List ℕ) (content : Content) (tab : ℤ) (store : StoreValue) 
   abbrev columns : List Column
   columns = content.columns
 
-  list_there : (q : Key) → find list_key_cmp (tab, q.0, q.1) store.lists ≡ find key_cmp q (lists_of columns documents)
+  list_there : (q : Key) → find list_key_cmp (tab, q.0, q.1) store.lists ≡ find key_cmp q (index_lists_of columns documents)
   list_there q = sym (find_joined list_keys tab q store.lists) ∙ ap (find key_cmp q) (own_lists name content tab store has)
 
   size_there : (q : ℤ × ℤ) → find cell_key_cmp (tab, q.0, q.1) store.sizes ≡ find column_key_cmp q (sizes_of columns documents)
   size_there q = sym (find_joined cell_keys tab q store.sizes) ∙ ap (find column_key_cmp q) (own_sizes name content tab store has)
 
-  cell_there : (q : ℤ × ℤ) → find cell_key_cmp (tab, q.0, q.1) store.cells ≡ one_by numbered q (find int_cmp q.0 documents)
+  cell_there : (q : ℤ × ℤ) → find cell_key_cmp (tab, q.0, q.1) store.cells ≡ one_by numbered_cells q (find int_cmp q.0 documents)
   cell_there q = sym (find_joined cell_keys tab q store.cells) ∙ ap (find column_key_cmp q) (own_cells name content tab store has) ∙ cells_are.found q documents has.is_content.rising
 
   cells_new : (r : Rewrite) → r.before ≡ find int_cmp r.docid documents → All (IsNew store) (put_cells tab r.docid (unwrap_or r.before []) (unwrap_or r.after []))
   cells_new r known =
-      let old = numbered (unwrap_or r.before []) in
-      let new = numbered (unwrap_or r.after []) in
+      let old = numbered_cells (unwrap_or r.before []) in
+      let new = numbered_cells (unwrap_or r.after []) in
       let p : ℤ × Cell → Bool = λ c. not (was_there same_cell (find int_cmp c.0 old) c.1) in
       All-map (IsNew store) (λ (c : ℤ × Cell). PutCell tab r.docid c.0 c.1) (filter p new)
       (All-weaker (λ (c : ℤ × Cell). p c ≡ true) (λ (c : ℤ × Cell). find cell_key_cmp (tab, r.docid, c.0) store.cells ≢ Some c.1)
       (λ c is there. not_true (was_there same_cell (find int_cmp c.0 old) c.1) is
-      (ap (λ x. was_there same_cell x c.1) (held_cells r.docid c.0 r.before c.1 (ap (one_by numbered (r.docid, c.0)) known ∙ sym (cell_there (r.docid, c.0)) ∙ there)) ∙ cell_whole c.1))
+      (ap (λ x. was_there same_cell x c.1) (held_cells r.docid c.0 r.before c.1 (ap (one_by numbered_cells (r.docid, c.0)) known ∙ sym (cell_there (r.docid, c.0)) ∙ there)) ∙ cell_whole c.1))
       (filter p new) (passing p new))
 
   all_new : All (IsNew store) (rewrite_changes tab columns rewrites)
   unfolding rewrite_changes
   all_new =
-      let lists_old = lists_of columns (befores rewrites) in
-      let lists_new = lists_of columns (afters rewrites) in
+      let lists_old = index_lists_of columns (befores rewrites) in
+      let lists_new = index_lists_of columns (afters rewrites) in
       let sizes_old = sizes_of columns (befores rewrites) in
       let sizes_new = sizes_of columns (afters rewrites) in
       let known = are.befores in
@@ -150,11 +150,11 @@ module _ (name : List ℕ) (content : Content) (tab : ℤ) (store : StoreValue) 
       (All-append (IsNew store) (list_changes tab lists_old lists_new) _
       (All-append (IsNew store) (dropped_lists tab (changed key_cmp same_spots lists_new lists_old)) (put_lists tab (changed key_cmp same_spots lists_old lists_new))
       (All-map (IsNew store) (λ (l : Key × List StoredSpot). DropEntries tab l.0.0 l.0.1) (changed key_cmp same_spots lists_new lists_old)
-      (All-weaker (λ (l : Key × List StoredSpot). IsSome (find key_cmp l.0 (lists_of columns documents))) (λ (l : Key × List StoredSpot). IsSome (find list_key_cmp (tab, l.0.0, l.0.1) store.lists)) (λ l is. ap is_some (list_there l.0) ∙ is) (changed key_cmp same_spots lists_new lists_old)
-      (stale_new key_cmp key_cmp_total key_cmp_exact (λ k. k.1) (lists_of columns) (one_list columns) (lists_are columns) documents rewrites has.is_content.rising are.rising known same_spots spots_whole)))
+      (All-weaker (λ (l : Key × List StoredSpot). IsSome (find key_cmp l.0 (index_lists_of columns documents))) (λ (l : Key × List StoredSpot). IsSome (find list_key_cmp (tab, l.0.0, l.0.1) store.lists)) (λ l is. ap is_some (list_there l.0) ∙ is) (changed key_cmp same_spots lists_new lists_old)
+      (stale_new key_cmp key_cmp_total key_cmp_exact (λ k. k.1) (index_lists_of columns) (one_list columns) (lists_are columns) documents rewrites has.is_content.rising are.rising known same_spots spots_whole)))
       (All-map (IsNew store) (λ (l : Key × List StoredSpot). PutEntries tab l.0.0 l.0.1 l.1) (changed key_cmp same_spots lists_old lists_new)
-      (All-weaker (λ (l : Key × List StoredSpot). find key_cmp l.0 (lists_of columns documents) ≢ Some l.1) (λ (l : Key × List StoredSpot). find list_key_cmp (tab, l.0.0, l.0.1) store.lists ≢ Some l.1) (λ l is there. is (sym (list_there l.0) ∙ there)) (changed key_cmp same_spots lists_old lists_new)
-      (changed_new key_cmp key_cmp_total key_cmp_exact (λ k. k.1) (lists_of columns) (one_list columns) (lists_are columns) documents rewrites has.is_content.rising are.rising known same_spots spots_whole))))
+      (All-weaker (λ (l : Key × List StoredSpot). find key_cmp l.0 (index_lists_of columns documents) ≢ Some l.1) (λ (l : Key × List StoredSpot). find list_key_cmp (tab, l.0.0, l.0.1) store.lists ≢ Some l.1) (λ l is there. is (sym (list_there l.0) ∙ there)) (changed key_cmp same_spots lists_old lists_new)
+      (changed_new key_cmp key_cmp_total key_cmp_exact (λ k. k.1) (index_lists_of columns) (one_list columns) (lists_are columns) documents rewrites has.is_content.rising are.rising known same_spots spots_whole))))
       (All-append (IsNew store) (dropped_sizes tab (gone column_key_cmp sizes_old sizes_new)) (put_sizes tab (changed column_key_cmp int_eq sizes_old sizes_new))
       (All-map (IsNew store) (λ (s : (ℤ × ℤ) × ℤ). DropSize tab s.0.0 s.0.1) (gone column_key_cmp sizes_old sizes_new)
       (All-weaker (λ (s : (ℤ × ℤ) × ℤ). IsSome (find column_key_cmp s.0 (sizes_of columns documents))) (λ (s : (ℤ × ℤ) × ℤ). IsSome (find cell_key_cmp (tab, s.0.0, s.0.1) store.sizes)) (λ s is. ap is_some (size_there s.0) ∙ is) (gone column_key_cmp sizes_old sizes_new)

@@ -18,20 +18,20 @@ use Rattle.ft_values.specs.declared.fault.Fault.TheVariants as faults
 use Rattle.ft_content.specs.Content.{Documents}
 use Rattle.ft_content.specs.Deserved.{next_docid, has_docid, insert_row, append_document}
 use Rattle.ft_content.specs.Views.{cells_of}
-use Rattle.ft_documents.specs.NewDocuments.{shown_entry}
+use Rattle.ft_documents.specs.NewDocuments.{shown_new}
 use Rattle.ft_documents.specs.RewriteRows.{all_put}
 use Rattle.ft_documents.proofs.KeyedRows.{true_of, of_true, sorted_put, or_else, find_all_put, less}
 
 -- ---- a document that is put among the new ones
 
-pub put_shown : (docid : ℤ) (cells : Vec Value Global) (es : List (ℤ × Vec Value Global)) → map shown_entry (put int_cmp docid cells es) ≡ put int_cmp docid (cells_of cells) (map shown_entry es)
+pub put_shown : (docid : ℤ) (cells : Vec Value Global) (es : List (ℤ × Vec Value Global)) → map shown_new (put int_cmp docid cells es) ≡ put int_cmp docid (cells_of cells) (map shown_new es)
 put_shown docid cells [] = refl
 put_shown docid cells (e ∷ es) =
-    elim (int_cmp docid e.0) as (λ o. map shown_entry (by_order o ((docid, cells) ∷ e ∷ es) ((e.0, cells) ∷ es) (e ∷ put int_cmp docid cells es))
-    ≡ by_order o ((docid, cells_of cells) ∷ shown_entry e ∷ map shown_entry es) ((e.0, cells_of cells) ∷ map shown_entry es) (shown_entry e ∷ put int_cmp docid (cells_of cells) (map shown_entry es))) [
+    elim (int_cmp docid e.0) as (λ o. map shown_new (by_order o ((docid, cells) ∷ e ∷ es) ((e.0, cells) ∷ es) (e ∷ put int_cmp docid cells es))
+    ≡ by_order o ((docid, cells_of cells) ∷ shown_new e ∷ map shown_new es) ((e.0, cells_of cells) ∷ map shown_new es) (shown_new e ∷ put int_cmp docid (cells_of cells) (map shown_new es))) [
       | Less ↦ refl
       | Equal ↦ refl
-      | Greater ↦ ap (λ l. shown_entry e ∷ l) (put_shown docid cells es)
+      | Greater ↦ ap (λ l. shown_new e ∷ l) (put_shown docid cells es)
     ]
 
 pub all_put_more : (docid : ℤ) (cells : List Cell) (new documents : Documents) → is_sorted int_cmp new ≡ true → is_sorted int_cmp documents ≡ true → all_put int_cmp (put int_cmp docid cells new) documents ≡ put int_cmp docid cells (all_put int_cmp new documents)

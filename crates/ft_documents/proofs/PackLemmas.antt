@@ -16,7 +16,7 @@ use Rattle.ft_rows.specs.Packed as packing
 use Rattle.ft_values.specs.Cells.{Cell, Null, Int, Text}
 use Rattle.ft_content.specs.Content.{Column, cell_text, is_cell, has_nul}
 use Rattle.ft_content.specs.Index.{Spot, Entry, entry_at, Key, key_cmp, key_of, StoredSpot, stored_spot, indexed_text, cell_tokens, document_tokens, document_postings, document_entries}
-use Rattle.ft_content.specs.Laws.{spots_in, some_if_any}
+use Rattle.ft_content.specs.Laws.{spots_of_key, some_if_any}
 use Rattle.ft_content.proofs.IndexLemmas.{lists_are_entries}
 use Rattle.ft_content.proofs.MeaningLemmas.{document_texts, tokens_are}
 use Rattle.ft_documents.specs.RewriteRows.{IsShortNumber, AreShortNumbers}
@@ -148,7 +148,7 @@ are_places p ps are rise = and_from (packing.is_spot (place_of p)) (packing.rise
 abbrev stored_places : List Posting → List StoredSpot
 stored_places ps = map (λ (p : Posting). packing.stored_spot (place_of p)) ps
 
-plain_again : (ps : List Posting) → map packing.plain_spot (stored_places ps) ≡ map place_of ps
+plain_again : (ps : List Posting) → map packing.packed_spot (stored_places ps) ≡ map place_of ps
 plain_again [] = refl
 plain_again (p ∷ ps) = ap (λ ss. place_of p ∷ ss) (plain_again ps)
 
@@ -163,7 +163,7 @@ can_pack p ps are rise = record {
 }
 
 -- the spots of a key are those of the postings with its term
-spots_of : (q : Key) (docid : ℤ) (ps : List Posting) → map stored_spot (spots_in q (map (entry_at docid) ps)) ≡ stored_places (filter (λ (p : Posting). eq_by_cmp key_cmp q (key_of (entry_at docid p))) ps)
+spots_of : (q : Key) (docid : ℤ) (ps : List Posting) → map stored_spot (spots_of_key q (map (entry_at docid) ps)) ≡ stored_places (filter (λ (p : Posting). eq_by_cmp key_cmp q (key_of (entry_at docid p))) ps)
 spots_of q docid [] = refl
 spots_of q docid (p ∷ ps) =
     let entries = filter (λ (e : Entry). eq_by_cmp key_cmp q (key_of e)) (map (entry_at docid) ps) in
@@ -185,6 +185,6 @@ list_packed columns q (Some cells) ss few short is =
     let ps = document_postings columns cells in
     let test : Posting → Bool = λ p. eq_by_cmp key_cmp q (key_of (entry_at q.1 p)) in
     let none_before : 0 + length columns ≤ 100 = omega (arith, few) in
-    some_packed (filter test ps) (spots_in q (document_entries columns (q.1, cells))) ss (spots_of q q.1 ps)
+    some_packed (filter test ps) (spots_of_key q (document_entries columns (q.1, cells))) ss (spots_of q q.1 ps)
     (All-filter test IsPlace ps (places 0 columns cells none_before short)) (AllPairs-filter IsBefore test ps (in_order columns cells))
     (ap (option_map (map stored_spot)) (sym (lists_are_entries (document_entries columns (q.1, cells)) q.0 q.1)) ∙ is)

@@ -15,8 +15,8 @@ use Rattle.ft_rows.specs.Store.{column_key_cmp, PutCell, DropCells, PutEntries, 
 use Rattle.ft_content.specs.Content.{Column, Documents, is_cell, is_document}
 use Rattle.ft_content.specs.Index.{Key, key_cmp, StoredSpot}
 use Rattle.ft_content.proofs.IndexLemmas.{key_cmp_total}
-use Rattle.ft_documents.specs.Rewrite.{Rewrite, befores, afters, document_if, by_docid, FitIfAny, IsPackable}
-use Rattle.ft_documents.specs.RewriteRows.{same_cell, same_spots, gone, changed, numbered, goes, dropped_documents, put_cells, put_documents, dropped_lists, put_lists, dropped_sizes, put_sizes, lists_of, sizes_of, list_changes, rewrite_changes, AreShortNumbers}
+use Rattle.ft_documents.specs.Rewrite.{Rewrite, befores, afters, document_if, under_docids, FitIfAny, IsPackable}
+use Rattle.ft_documents.specs.RewriteRows.{same_cell, same_spots, gone, changed, numbered_cells, goes, dropped_documents, put_cells, put_documents, dropped_lists, put_lists, dropped_sizes, put_sizes, index_lists_of, sizes_of, list_changes, rewrite_changes, AreShortNumbers}
 use Rattle.ft_documents.specs.MadeIndex.{HaveShortNumbers}
 use Rattle.ft_documents.proofs.NearLemmas.{All-flat_map}
 use Rattle.ft_documents.proofs.NewLemmas.{all_found}
@@ -32,9 +32,9 @@ module _ (columns : List Column) where
   found_short docid [] h = tt
   found_short docid (d ∷ ds) h = elim (int_eq docid d.0) as (λ b. IfSome (cond b (Some d.1) (find int_cmp docid ds)) (AreShortTexts columns)) [ true ↦ All-head ShortDocument d ds h | false ↦ found_short docid ds (All-tail ShortDocument d ds h) ]
 
-  pub lists_packed : (documents : Documents) → length columns ≤ 100 → is_sorted int_cmp documents ≡ true → All ShortDocument documents → All (λ (l : Key × List StoredSpot). CanPack l.1) (lists_of columns documents)
+  pub lists_packed : (documents : Documents) → length columns ≤ 100 → is_sorted int_cmp documents ≡ true → All ShortDocument documents → All (λ (l : Key × List StoredSpot). CanPack l.1) (index_lists_of columns documents)
   lists_packed documents few rising short =
-      let rows = lists_of columns documents in
+      let rows = index_lists_of columns documents in
       All-weaker (λ (l : Key × List StoredSpot). find key_cmp l.0 rows ≡ Some l.1) (λ (l : Key × List StoredSpot). CanPack l.1)
       (λ l is. list_packed columns l.0 (find int_cmp l.0.1 documents) l.1 few (found_short l.0.1 documents short) (sym ((lists_are columns).found l.0 documents rising) ∙ is)) rows
       (all_found key_cmp key_cmp_total rows ((lists_are columns).sorted documents rising))
@@ -55,11 +55,11 @@ module _ (columns : List Column) where
       let fit = All-flat_map IsOfTable (λ (r : Rewrite). document_if r.docid r.after) rewrites (All-weaker (FitIfAny (length columns)) (λ r. All IsOfTable (document_if r.docid r.after)) (λ r is. fits_if r.docid r.before r.after is) rewrites fits) in
       All-weaker (λ (d : ℤ × List Cell). IsOfTable d × AreShortNumbers columns d.1) ShortDocument (λ d is. document_short d is.0 is.1) (afters rewrites) (λ k d within. (fit k d within, numbers k d within))
 
-all_packable : (tab : ℤ) (columns : List Column) (rewrites : List Rewrite) → length columns ≤ 100 → is_sorted int_cmp (by_docid rewrites) ≡ true → All (FitIfAny (length columns)) rewrites → HaveShortNumbers columns (afters rewrites) → All IsPackable (rewrite_changes tab columns rewrites)
+all_packable : (tab : ℤ) (columns : List Column) (rewrites : List Rewrite) → length columns ≤ 100 → is_sorted int_cmp (under_docids rewrites) ≡ true → All (FitIfAny (length columns)) rewrites → HaveShortNumbers columns (afters rewrites) → All IsPackable (rewrite_changes tab columns rewrites)
 unfolding rewrite_changes
 all_packable tab columns rewrites few rising fits numbers =
-    let old = lists_of columns (befores rewrites) in
-    let new = lists_of columns (afters rewrites) in
+    let old = index_lists_of columns (befores rewrites) in
+    let new = index_lists_of columns (afters rewrites) in
     let olds = sizes_of columns (befores rewrites) in
     let news = sizes_of columns (afters rewrites) in
     let packed = lists_packed columns (afters rewrites) few (sorted_held (λ (r : Rewrite). r.after) rewrites rising) (afters_short columns rewrites fits numbers) in
@@ -76,7 +76,7 @@ all_packable tab columns rewrites few rising fits numbers =
     (All-map IsPackable (λ (s : (ℤ × ℤ) × ℤ). PutSize tab s.0.0 s.0.1 s.1) (changed column_key_cmp int_eq olds news) (λ _ _ _. tt)))))
   where
     put_packable : (k : ℕ) (d : Rewrite) → All IsPackable (put_cells tab (get_or rewrites k d).docid (unwrap_or (get_or rewrites k d).before []) (unwrap_or (get_or rewrites k d).after []))
-    put_packable k d = All-map IsPackable (λ (c : ℤ × Cell). PutCell tab (get_or rewrites k d).docid c.0 c.1) (changed int_cmp same_cell (numbered (unwrap_or (get_or rewrites k d).before [])) (numbered (unwrap_or (get_or rewrites k d).after []))) (λ _ _ _. tt)
+    put_packable k d = All-map IsPackable (λ (c : ℤ × Cell). PutCell tab (get_or rewrites k d).docid c.0 c.1) (changed int_cmp same_cell (numbered_cells (unwrap_or (get_or rewrites k d).before [])) (numbered_cells (unwrap_or (get_or rewrites k d).after []))) (λ _ _ _. tt)
 
 can_apply : (change : RowChange) → IsPackable (shown_change change) → CanApply change
 can_apply (row.AddTable id name columns skipped) h = tt
@@ -94,5 +94,5 @@ pub all_apply : (changes : List RowChange) → All IsPackable (map shown_change 
 all_apply [] h = All-nil CanApply
 all_apply (c ∷ cs) h = All-cons CanApply c cs (can_apply c (All-head IsPackable (shown_change c) (map shown_change cs) h)) (all_apply cs (All-tail IsPackable (shown_change c) (map shown_change cs) h))
 
-pub are_packable : (tab : ℤ) (columns : List Column) (rewrites : List Rewrite) (changes : List RowChange) → map shown_change changes ≡ rewrite_changes tab columns rewrites → length columns ≤ 100 → is_sorted int_cmp (by_docid rewrites) ≡ true → All (FitIfAny (length columns)) rewrites → HaveShortNumbers columns (afters rewrites) → All CanApply changes
+pub are_packable : (tab : ℤ) (columns : List Column) (rewrites : List Rewrite) (changes : List RowChange) → map shown_change changes ≡ rewrite_changes tab columns rewrites → length columns ≤ 100 → is_sorted int_cmp (under_docids rewrites) ≡ true → All (FitIfAny (length columns)) rewrites → HaveShortNumbers columns (afters rewrites) → All CanApply changes
 are_packable tab columns rewrites changes is few rising fits numbers = all_apply changes (subst (All IsPackable) (sym is) (all_packable tab columns rewrites few rising fits numbers))

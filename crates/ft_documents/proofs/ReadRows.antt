@@ -18,7 +18,7 @@ use Rattle.ft_content.specs.Content.{CellRow, TableRows, Documents, Content, IsC
 use Rattle.ft_content.specs.Views.{last_docid}
 use Rattle.ft_content.proofs.RowLemmas.{rows_are_read}
 use Rattle.ft_documents.specs.Tables.{table_rows}
-use Rattle.ft_documents.specs.Gathered.{shown_row}
+use Rattle.ft_documents.specs.Gathered.{gathered_row}
 use Rattle.ft_documents.proofs.KeyedRows.{none_below}
 
 -- ---- the last item
@@ -199,7 +199,7 @@ some_read tab docid store name content (r ∷ rs) is rows same some = ap if_any 
 
 -- all documents as a store reads them
 pub all_read : (tab : ℤ) (store : StoreValue) (name : List ℕ) (content : Content) (read : List row.CellRow) → IsContent name content → table_rows tab store ≡ content_rows content →
-    map (shown_cell tab) read ≡ where_key cell_key_cmp (λ k. int_eq tab k.0) store.cells → gathered (map shown_row read) ≡ content.documents
+    map (shown_cell tab) read ≡ where_key cell_key_cmp (λ k. int_eq tab k.0) store.cells → gathered (map gathered_row read) ≡ content.documents
 all_read tab store name content read is rows same =
     ap gathered (sym (map-map (λ (c : CellKey × Cell). record { docid = c.0.1; column = c.0.2; value = c.1 }) (shown_cell tab) read) ∙ ap (map (λ (c : CellKey × Cell). record { docid = c.0.1; column = c.0.2; value = c.1 })) same ∙ ap (λ (r : TableRows). r.cells) rows)
     ∙ ap (λ (c : Content). c.documents) (rows_are_read name content is)

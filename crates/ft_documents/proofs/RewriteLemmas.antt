@@ -13,7 +13,7 @@ use Rattle.std.proofs.lemmas.List.Elements.{All-head, All-tail}
 use Rattle.std.proofs.lemmas.Map.Lookups.{CmpEqualImpliesEq}
 use Rattle.ft_values.specs.Cells.{Cell}
 use Rattle.ft_content.specs.Content.{Documents}
-use Rattle.ft_documents.specs.Rewrite.{Rewrite, with_cells, rewritten, document_if, befores, afters, by_docid}
+use Rattle.ft_documents.specs.Rewrite.{Rewrite, with_cells, rewritten, document_if, befores, afters, under_docids}
 use Rattle.ft_documents.specs.RewriteRows.{all_put, gone, changed}
 use Rattle.ft_documents.proofs.KeyedRows.{true_of, of_true, tie, none_below, sorted_put, sorted_dropped, all_dropped, replaced, find_replaced, find_renewed, turned_round}
 
@@ -25,35 +25,35 @@ Cells = Option (List Cell)
 abbrev pub held_in : (Rewrite → Cells) → List Rewrite → Documents
 held_in held rewrites = flat_map (λ (r : Rewrite). document_if r.docid (held r)) rewrites
 
-below_held : (held : Rewrite → Cells) (docid : ℤ) (rewrites : List Rewrite) → below_all int_cmp docid (by_docid rewrites) ≡ true → below_all int_cmp docid (held_in held rewrites) ≡ true
+below_held : (held : Rewrite → Cells) (docid : ℤ) (rewrites : List Rewrite) → below_all int_cmp docid (under_docids rewrites) ≡ true → below_all int_cmp docid (held_in held rewrites) ≡ true
 below_held held docid [] h = refl
 below_held held docid (r ∷ rs) h =
-    let parts = and_parts (is_lt (int_cmp docid r.docid)) (below_all int_cmp docid (by_docid rs)) h in
+    let parts = and_parts (is_lt (int_cmp docid r.docid)) (below_all int_cmp docid (under_docids rs)) h in
     let rest = below_held held docid rs parts.1 in
     elim (held r) as (λ cells. below_all int_cmp docid (document_if r.docid cells ++ held_in held rs) ≡ true) [ None ↦ rest | Some cells ↦ and_from (is_lt (int_cmp docid r.docid)) (below_all int_cmp docid (held_in held rs)) parts.0 rest ]
 
-pub sorted_held : (held : Rewrite → Cells) (rewrites : List Rewrite) → is_sorted int_cmp (by_docid rewrites) ≡ true → is_sorted int_cmp (held_in held rewrites) ≡ true
+pub sorted_held : (held : Rewrite → Cells) (rewrites : List Rewrite) → is_sorted int_cmp (under_docids rewrites) ≡ true → is_sorted int_cmp (held_in held rewrites) ≡ true
 sorted_held held [] h = refl
 sorted_held held (r ∷ rs) h =
-    let parts = and_parts (below_all int_cmp r.docid (by_docid rs)) (is_sorted int_cmp (by_docid rs)) h in
+    let parts = and_parts (below_all int_cmp r.docid (under_docids rs)) (is_sorted int_cmp (under_docids rs)) h in
     let rest = sorted_held held rs parts.1 in
     elim (held r) as (λ cells. is_sorted int_cmp (document_if r.docid cells ++ held_in held rs) ≡ true) [ None ↦ rest | Some cells ↦ and_from (below_all int_cmp r.docid (held_in held rs)) (is_sorted int_cmp (held_in held rs)) (below_held held r.docid rs parts.0) rest ]
 
 -- a docid below all others has no rewrite
-unwritten : (docid : ℤ) (r : Rewrite) (rs : List Rewrite) → int_eq docid r.docid ≡ true → below_all int_cmp r.docid (by_docid rs) ≡ true → find int_cmp docid (by_docid rs) ≡ None
-unwritten docid r rs same h = none_below int_cmp int_cmp_total int_cmp-IsAntisymmetric docid r.docid (by_docid rs) same h
+unwritten : (docid : ℤ) (r : Rewrite) (rs : List Rewrite) → int_eq docid r.docid ≡ true → below_all int_cmp r.docid (under_docids rs) ≡ true → find int_cmp docid (under_docids rs) ≡ None
+unwritten docid r rs same h = none_below int_cmp int_cmp_total int_cmp-IsAntisymmetric docid r.docid (under_docids rs) same h
 
-find_held : (held : Rewrite → Cells) (docid : ℤ) (rewrites : List Rewrite) → is_sorted int_cmp (by_docid rewrites) ≡ true → find int_cmp docid (held_in held rewrites) ≡ option_and_then held (find int_cmp docid (by_docid rewrites))
+find_held : (held : Rewrite → Cells) (docid : ℤ) (rewrites : List Rewrite) → is_sorted int_cmp (under_docids rewrites) ≡ true → find int_cmp docid (held_in held rewrites) ≡ option_and_then held (find int_cmp docid (under_docids rewrites))
 find_held held docid [] h = refl
 find_held held docid (r ∷ rs) h =
-    let parts = and_parts (below_all int_cmp r.docid (by_docid rs)) (is_sorted int_cmp (by_docid rs)) h in
+    let parts = and_parts (below_all int_cmp r.docid (under_docids rs)) (is_sorted int_cmp (under_docids rs)) h in
     let rest = find_held held docid rs parts.1 in
-    elim (int_eq docid r.docid) as (λ b. int_eq docid r.docid ≡ b → find int_cmp docid (document_if r.docid (held r) ++ held_in held rs) ≡ option_and_then held (cond b (Some r) (find int_cmp docid (by_docid rs)))) [
+    elim (int_eq docid r.docid) as (λ b. int_eq docid r.docid ≡ b → find int_cmp docid (document_if r.docid (held r) ++ held_in held rs) ≡ option_and_then held (cond b (Some r) (find int_cmp docid (under_docids rs)))) [
       | true ↦ λ same. elim (held r) as (λ cells. find int_cmp docid (document_if r.docid cells ++ held_in held rs) ≡ cells) [
         | None ↦ rest ∙ ap (option_and_then held) (unwritten docid r rs same parts.0)
         | Some cells ↦ ap (λ b. cond b (Some cells) (find int_cmp docid (held_in held rs))) same
       ]
-      | false ↦ λ apart. elim (held r) as (λ cells. find int_cmp docid (document_if r.docid cells ++ held_in held rs) ≡ option_and_then held (find int_cmp docid (by_docid rs))) [
+      | false ↦ λ apart. elim (held r) as (λ cells. find int_cmp docid (document_if r.docid cells ++ held_in held rs) ≡ option_and_then held (find int_cmp docid (under_docids rs))) [
         | None ↦ rest
         | Some cells ↦ ap (λ b. cond b (Some cells) (find int_cmp docid (held_in held rs))) apart ∙ rest
       ]
@@ -82,22 +82,22 @@ abbrev pub written : Option Rewrite → Cells → Cells
 written None before = before
 written (Some r) before = r.after
 
-pub find_rewritten : (docid : ℤ) (rewrites : List Rewrite) (documents : Documents) → is_sorted int_cmp (by_docid rewrites) ≡ true → find int_cmp docid (rewritten rewrites documents) ≡ written (find int_cmp docid (by_docid rewrites)) (find int_cmp docid documents)
+pub find_rewritten : (docid : ℤ) (rewrites : List Rewrite) (documents : Documents) → is_sorted int_cmp (under_docids rewrites) ≡ true → find int_cmp docid (rewritten rewrites documents) ≡ written (find int_cmp docid (under_docids rewrites)) (find int_cmp docid documents)
 find_rewritten docid [] documents h = refl
 find_rewritten docid (r ∷ rs) documents h =
-    let parts = and_parts (below_all int_cmp r.docid (by_docid rs)) (is_sorted int_cmp (by_docid rs)) h in
+    let parts = and_parts (below_all int_cmp r.docid (under_docids rs)) (is_sorted int_cmp (under_docids rs)) h in
     find_rewritten docid rs (with_cells r.docid r.after documents) parts.1
-    ∙ ap (written (find int_cmp docid (by_docid rs))) (find_with docid r.docid r.after documents)
-    ∙ elim (int_eq docid r.docid) as (λ b. int_eq docid r.docid ≡ b → written (find int_cmp docid (by_docid rs)) (cond b r.after (find int_cmp docid documents)) ≡ written (cond b (Some r) (find int_cmp docid (by_docid rs))) (find int_cmp docid documents)) [
+    ∙ ap (written (find int_cmp docid (under_docids rs))) (find_with docid r.docid r.after documents)
+    ∙ elim (int_eq docid r.docid) as (λ b. int_eq docid r.docid ≡ b → written (find int_cmp docid (under_docids rs)) (cond b r.after (find int_cmp docid documents)) ≡ written (cond b (Some r) (find int_cmp docid (under_docids rs))) (find int_cmp docid documents)) [
       | true ↦ λ same. ap (λ o. written o r.after) (unwritten docid r rs same parts.0)
       | false ↦ λ _. refl
     ] refl
 
 -- the rewrite of a docid knows what the document was
-pub before_found : (docid : ℤ) (documents : Documents) (rewrites : List Rewrite) (r : Rewrite) → All (λ (x : Rewrite). x.before ≡ find int_cmp x.docid documents) rewrites → find int_cmp docid (by_docid rewrites) ≡ Some r → r.before ≡ find int_cmp docid documents
+pub before_found : (docid : ℤ) (documents : Documents) (rewrites : List Rewrite) (r : Rewrite) → All (λ (x : Rewrite). x.before ≡ find int_cmp x.docid documents) rewrites → find int_cmp docid (under_docids rewrites) ≡ Some r → r.before ≡ find int_cmp docid documents
 before_found docid documents [] r h = λ is. absurd (let no = is in cc)
 before_found docid documents (x ∷ xs) r h =
-    elim (int_eq docid x.docid) as (λ b. int_eq docid x.docid ≡ b → cond b (Some x) (find int_cmp docid (by_docid xs)) ≡ Some r → r.before ≡ find int_cmp docid documents) [
+    elim (int_eq docid x.docid) as (λ b. int_eq docid x.docid ≡ b → cond b (Some x) (find int_cmp docid (under_docids xs)) ≡ Some r → r.before ≡ find int_cmp docid documents) [
       | true ↦ λ same is. let e : x ≡ r = same_some x r is in sym (ap (λ (y : Rewrite). y.before) e) ∙ All-head (λ (x : Rewrite). x.before ≡ find int_cmp x.docid documents) x xs h ∙ ap (λ d. find int_cmp d documents) (sym (int_cmp-IsAntisymmetric docid x.docid (tie _ same)))
       | false ↦ λ _ is. before_found docid documents xs r (All-tail (λ (x : Rewrite). x.before ≡ find int_cmp x.docid documents) x xs h) is
     ] refl
@@ -115,20 +115,20 @@ pub record AreRowsOf {K V : Type 0} (S : K → K → Ordering) (docid_of : K →
   pub none : (q : K) → one q None ≡ None
 
 module _ {K V : Type 0} (S : K → K → Ordering) (o : IsTotalOrder S) (exact : CmpEqualImpliesEq S) (docid_of : K → ℤ) (rows : Documents → List (K × V)) (one : K → Cells → Option V) (are : AreRowsOf S docid_of rows one)
-    (documents : Documents) (rewrites : List Rewrite) (ordered : is_sorted int_cmp documents ≡ true) (rising : is_sorted int_cmp (by_docid rewrites) ≡ true) (known : All (λ (r : Rewrite). r.before ≡ find int_cmp r.docid documents) rewrites) where
-  old_rows : (q : K) → find S q (rows (befores rewrites)) ≡ one q (option_and_then (λ (r : Rewrite). r.before) (find int_cmp (docid_of q) (by_docid rewrites)))
+    (documents : Documents) (rewrites : List Rewrite) (ordered : is_sorted int_cmp documents ≡ true) (rising : is_sorted int_cmp (under_docids rewrites) ≡ true) (known : All (λ (r : Rewrite). r.before ≡ find int_cmp r.docid documents) rewrites) where
+  old_rows : (q : K) → find S q (rows (befores rewrites)) ≡ one q (option_and_then (λ (r : Rewrite). r.before) (find int_cmp (docid_of q) (under_docids rewrites)))
   old_rows q = are.found q (befores rewrites) (sorted_held (λ r. r.before) rewrites rising) ∙ ap (one q) (find_held (λ r. r.before) (docid_of q) rewrites rising)
 
-  new_rows : (q : K) → find S q (rows (afters rewrites)) ≡ one q (option_and_then (λ (r : Rewrite). r.after) (find int_cmp (docid_of q) (by_docid rewrites)))
+  new_rows : (q : K) → find S q (rows (afters rewrites)) ≡ one q (option_and_then (λ (r : Rewrite). r.after) (find int_cmp (docid_of q) (under_docids rewrites)))
   new_rows q = are.found q (afters rewrites) (sorted_held (λ r. r.after) rewrites rising) ∙ ap (one q) (find_held (λ r. r.after) (docid_of q) rewrites rising)
 
-  pub last_rows : (q : K) → find S q (rows (rewritten rewrites documents)) ≡ one q (written (find int_cmp (docid_of q) (by_docid rewrites)) (find int_cmp (docid_of q) documents))
+  pub last_rows : (q : K) → find S q (rows (rewritten rewrites documents)) ≡ one q (written (find int_cmp (docid_of q) (under_docids rewrites)) (find int_cmp (docid_of q) documents))
   last_rows q = are.found q (rewritten rewrites documents) (sorted_rewritten rewrites documents ordered) ∙ ap (one q) (find_rewritten (docid_of q) rewrites documents rising)
 
   -- the rows that documents had are there
   pub old_there : (q : K) (v : V) → find S q (rows (befores rewrites)) ≡ Some v → find S q (rows documents) ≡ Some v
   old_there q v =
-      elim (find int_cmp (docid_of q) (by_docid rewrites)) as (λ x. find int_cmp (docid_of q) (by_docid rewrites) ≡ x → find S q (rows (befores rewrites)) ≡ Some v → find S q (rows documents) ≡ Some v) [
+      elim (find int_cmp (docid_of q) (under_docids rewrites)) as (λ x. find int_cmp (docid_of q) (under_docids rewrites) ≡ x → find S q (rows (befores rewrites)) ≡ Some v → find S q (rows documents) ≡ Some v) [
         | None ↦ λ is h. absurd (let no : None ≡ Some v = sym (old_rows q ∙ ap (λ x. one q (option_and_then (λ (r : Rewrite). r.before) x)) is ∙ are.none q) ∙ h in cc)
         | Some r ↦ λ is h. are.found q documents ordered ∙ ap (one q) (sym (before_found (docid_of q) documents rewrites r known is)) ∙ sym (old_rows q ∙ ap (λ x. one q (option_and_then (λ (r : Rewrite). r.before) x)) is) ∙ h
       ] refl
@@ -136,7 +136,7 @@ module _ {K V : Type 0} (S : K → K → Ordering) (o : IsTotalOrder S) (exact :
   -- and there is nothing else of the documents that they get
   pub new_there : (q : K) (v : V) → find S q (rows (afters rewrites)) ≡ Some v → find S q (rows documents) ≡ find S q (rows (befores rewrites))
   new_there q v =
-      elim (find int_cmp (docid_of q) (by_docid rewrites)) as (λ x. find int_cmp (docid_of q) (by_docid rewrites) ≡ x → find S q (rows (afters rewrites)) ≡ Some v → find S q (rows documents) ≡ find S q (rows (befores rewrites))) [
+      elim (find int_cmp (docid_of q) (under_docids rewrites)) as (λ x. find int_cmp (docid_of q) (under_docids rewrites) ≡ x → find S q (rows (afters rewrites)) ≡ Some v → find S q (rows documents) ≡ find S q (rows (befores rewrites))) [
         | None ↦ λ is h. absurd (let no : None ≡ Some v = sym (new_rows q ∙ ap (λ x. one q (option_and_then (λ (r : Rewrite). r.after) x)) is ∙ are.none q) ∙ h in cc)
         | Some r ↦ λ is _. are.found q documents ordered ∙ ap (one q) (sym (before_found (docid_of q) documents rewrites r known is)) ∙ sym (old_rows q ∙ ap (λ x. one q (option_and_then (λ (r : Rewrite). r.before) x)) is)
       ] refl
@@ -150,7 +150,7 @@ module _ {K V : Type 0} (S : K → K → Ordering) (o : IsTotalOrder S) (exact :
   replaced_by : (q : K) → replaced S o exact (find S q (rows (befores rewrites))) (find S q (rows (afters rewrites))) (find S q (rows documents)) ≡ find S q (rows (rewritten rewrites documents))
   replaced_by q =
       let there = are.found q documents ordered in
-      elim (find int_cmp (docid_of q) (by_docid rewrites)) as (λ x. find int_cmp (docid_of q) (by_docid rewrites) ≡ x → replaced S o exact (find S q (rows (befores rewrites))) (find S q (rows (afters rewrites))) (find S q (rows documents)) ≡ find S q (rows (rewritten rewrites documents))) [
+      elim (find int_cmp (docid_of q) (under_docids rewrites)) as (λ x. find int_cmp (docid_of q) (under_docids rewrites) ≡ x → replaced S o exact (find S q (rows (befores rewrites))) (find S q (rows (afters rewrites))) (find S q (rows documents)) ≡ find S q (rows (rewritten rewrites documents))) [
         | None ↦ λ is.
             (λ i. replaced S o exact ((old_rows q ∙ ap (λ x. one q (option_and_then (λ (r : Rewrite). r.before) x)) is ∙ are.none q) i) ((new_rows q ∙ ap (λ x. one q (option_and_then (λ (r : Rewrite). r.after) x)) is ∙ are.none q) i) (there i))
             ∙ sym (last_rows q ∙ ap (λ x. one q (written x (find int_cmp (docid_of q) documents))) is)

@@ -16,8 +16,8 @@ use Rattle.ft_content.specs.Content.{Column, Documents, Content, is_cell, is_doc
 use Rattle.ft_content.specs.Index.{Key, key_cmp, StoredSpot, index_rows}
 use Rattle.ft_content.proofs.IndexLemmas.{key_cmp_total, key_cmp_exact}
 use Rattle.ft_documents.specs.Tables.{table_rows, table_index}
-use Rattle.ft_documents.specs.Rewrite.{Rewrite, befores, afters, by_docid, rewritten, rewritten_content, FitIfAny, AreOf, HasContent, AreRight}
-use Rattle.ft_documents.specs.RewriteRows.{all_put, same_spot, same_spots, gone, changed, numbered, goes, dropped_documents, put_documents, dropped_lists, put_lists, dropped_sizes, put_sizes, sized, lists_of, sizes_of, list_changes, size_changes, rewrite_changes}
+use Rattle.ft_documents.specs.Rewrite.{Rewrite, befores, afters, under_docids, rewritten, rewritten_content, FitIfAny, AreOf, HasContent, AreRight}
+use Rattle.ft_documents.specs.RewriteRows.{all_put, same_spot, same_spots, gone, changed, numbered_cells, goes, dropped_documents, put_documents, dropped_lists, put_lists, dropped_sizes, put_sizes, sized, index_lists_of, sizes_of, list_changes, size_changes, rewrite_changes}
 use Rattle.ft_documents.proofs.StoreKeys.{list_exact, list_total, cell_exact, cell_total, column_exact, column_total, list_keys, cell_keys}
 use Rattle.ft_documents.proofs.KeyedRows.{tie, all_dropped, sorted_put, sorted_dropped}
 use Rattle.ft_documents.proofs.DocumentRows.{rows_by}
@@ -32,10 +32,10 @@ use Rattle.ft_documents.proofs.CellsRight.{wide, cells_right}
 
 module _ (tab : ℤ) (columns : List Column) (rewrites : List Rewrite) where
   abbrev lists_gone : List (Key × List StoredSpot)
-  lists_gone = changed key_cmp same_spots (lists_of columns (afters rewrites)) (lists_of columns (befores rewrites))
+  lists_gone = changed key_cmp same_spots (index_lists_of columns (afters rewrites)) (index_lists_of columns (befores rewrites))
 
   abbrev lists_changed : List (Key × List StoredSpot)
-  lists_changed = changed key_cmp same_spots (lists_of columns (befores rewrites)) (lists_of columns (afters rewrites))
+  lists_changed = changed key_cmp same_spots (index_lists_of columns (befores rewrites)) (index_lists_of columns (afters rewrites))
 
   abbrev sizes_gone : List ((ℤ × ℤ) × ℤ)
   sizes_gone = gone column_key_cmp (sizes_of columns (befores rewrites)) (sizes_of columns (afters rewrites))
@@ -44,7 +44,7 @@ module _ (tab : ℤ) (columns : List Column) (rewrites : List Rewrite) where
   sizes_changed = changed column_key_cmp int_eq (sizes_of columns (befores rewrites)) (sizes_of columns (afters rewrites))
 
   abbrev cells_after : StoreValue → List (CellKey × Cell)
-  cells_after store = all_put cell_key_cmp (joined cell_keys tab (rows_by new_cells (by_docid rewrites))) (cells_dropped tab (filter goes rewrites) store.cells)
+  cells_after store = all_put cell_key_cmp (joined cell_keys tab (rows_by new_cells (under_docids rewrites))) (cells_dropped tab (filter goes rewrites) store.cells)
 
   abbrev lists_after : StoreValue → List (ListKey × List StoredSpot)
   lists_after store = all_put list_key_cmp (joined list_keys tab lists_changed) (all_dropped list_key_cmp list_total list_exact (joined list_keys tab lists_gone) store.lists)
@@ -57,7 +57,7 @@ module _ (tab : ℤ) (columns : List Column) (rewrites : List Rewrite) where
   store_after store =
       let a = dropped_documents tab rewrites in
       let b = put_documents tab rewrites in
-      let l = list_changes tab (lists_of columns (befores rewrites)) (lists_of columns (afters rewrites)) in
+      let l = list_changes tab (index_lists_of columns (befores rewrites)) (index_lists_of columns (afters rewrites)) in
       let s = size_changes tab (sizes_of columns (befores rewrites)) (sizes_of columns (afters rewrites)) in
       let one : StoreValue = record store { cells = cells_dropped tab (filter goes rewrites) store.cells } in
       let two : StoreValue = record store { cells = cells_after store } in
@@ -75,7 +75,7 @@ module _ (tab : ℤ) (columns : List Column) (rewrites : List Rewrite) where
     tables = order.tables;
     columns = order.columns;
     skipped = order.skipped;
-    cells = sorted_put cell_key_cmp cell_total cell_exact (joined cell_keys tab (rows_by new_cells (by_docid rewrites))) (cells_dropped tab (filter goes rewrites) store.cells) (sorted_cells_dropped tab (filter goes rewrites) store.cells order.cells);
+    cells = sorted_put cell_key_cmp cell_total cell_exact (joined cell_keys tab (rows_by new_cells (under_docids rewrites))) (cells_dropped tab (filter goes rewrites) store.cells) (sorted_cells_dropped tab (filter goes rewrites) store.cells order.cells);
     lists = sorted_put list_key_cmp list_total list_exact (joined list_keys tab lists_changed) _ (sorted_dropped list_key_cmp list_total list_exact (joined list_keys tab lists_gone) store.lists order.lists);
     sizes = sorted_put cell_key_cmp cell_total cell_exact (joined cell_keys tab sizes_changed) _ (sorted_dropped cell_key_cmp cell_total cell_exact (joined cell_keys tab sizes_gone) store.sizes order.sizes);
     noted = order.noted;
@@ -142,10 +142,10 @@ pub shown_sizes : (tab : ℤ) (store : StoreValue) → (table_index tab store).s
 shown_sizes tab store = sym (map-map size_of (λ (e : CellKey × ℤ). ((e.0.1, e.0.2), e.1)) (filter (λ (e : CellKey × ℤ). int_eq tab e.0.0) store.sizes))
 
 module _ (name : List ℕ) (content : Content) (tab : ℤ) (store : StoreValue) (has : HasContent name content tab store) where
-  pub own_cells : own cell_keys tab store.cells ≡ rows_by numbered content.documents
-  own_cells = sym (keyed_again (own cell_keys tab store.cells)) ∙ ap (map keyed_cell) (sym (shown_cells tab store) ∙ ap (λ rows. rows.cells) has.rows ∙ content_cells content.documents) ∙ keyed_again (rows_by numbered content.documents)
+  pub own_cells : own cell_keys tab store.cells ≡ rows_by numbered_cells content.documents
+  own_cells = sym (keyed_again (own cell_keys tab store.cells)) ∙ ap (map keyed_cell) (sym (shown_cells tab store) ∙ ap (λ rows. rows.cells) has.rows ∙ content_cells content.documents) ∙ keyed_again (rows_by numbered_cells content.documents)
 
-  pub own_lists : own list_keys tab store.lists ≡ lists_of content.columns content.documents
+  pub own_lists : own list_keys tab store.lists ≡ index_lists_of content.columns content.documents
   own_lists = ap (λ index. index.lists) has.index
 
   pub own_sizes : own cell_keys tab store.sizes ≡ sizes_of content.columns content.documents
@@ -158,17 +158,17 @@ module _ (name : List ℕ) (content : Content) (tab : ℤ) (store : StoreValue) 
     abbrev last : Documents
     last = rewritten rewrites content.documents
 
-    cells_last : own cell_keys tab (cells_after tab columns rewrites store) ≡ rows_by numbered last
+    cells_last : own cell_keys tab (cells_after tab columns rewrites store) ≡ rows_by numbered_cells last
     cells_last =
-        own_all_put cell_keys tab (rows_by new_cells (by_docid rewrites)) (cells_dropped tab (filter goes rewrites) store.cells) (sorted_cells_dropped tab (filter goes rewrites) store.cells has.order.cells)
-        ∙ ap (all_put column_key_cmp (rows_by new_cells (by_docid rewrites))) (own_dropped tab (filter goes rewrites) store.cells ∙ ap (documents_dropped (filter goes rewrites)) own_cells)
+        own_all_put cell_keys tab (rows_by new_cells (under_docids rewrites)) (cells_dropped tab (filter goes rewrites) store.cells) (sorted_cells_dropped tab (filter goes rewrites) store.cells has.order.cells)
+        ∙ ap (all_put column_key_cmp (rows_by new_cells (under_docids rewrites))) (own_dropped tab (filter goes rewrites) store.cells ∙ ap (documents_dropped (filter goes rewrites)) own_cells)
         ∙ cells_right content.documents rewrites has.is_content.rising are.rising are.befores (all_wide (length columns) content.documents rewrites has.is_content.documents are.befores are.afters)
 
-    lists_last : own list_keys tab (lists_after tab columns rewrites store) ≡ lists_of columns last
+    lists_last : own list_keys tab (lists_after tab columns rewrites store) ≡ index_lists_of columns last
     lists_last =
         own_all_put list_keys tab (lists_changed tab columns rewrites) (all_dropped list_key_cmp list_total list_exact (joined list_keys tab (lists_gone tab columns rewrites)) store.lists) (sorted_dropped list_key_cmp list_total list_exact (joined list_keys tab (lists_gone tab columns rewrites)) store.lists has.order.lists)
         ∙ ap (all_put key_cmp (lists_changed tab columns rewrites)) (own_all_dropped list_keys tab (lists_gone tab columns rewrites) store.lists ∙ ap (all_dropped key_cmp key_cmp_total key_cmp_exact (lists_gone tab columns rewrites)) own_lists)
-        ∙ rows_renewed key_cmp key_cmp_total key_cmp_exact (λ k. k.1) (lists_of columns) (one_list columns) (lists_are columns) content.documents rewrites has.is_content.rising are.rising are.befores same_spots spots_sound
+        ∙ rows_renewed key_cmp key_cmp_total key_cmp_exact (λ k. k.1) (index_lists_of columns) (one_list columns) (lists_are columns) content.documents rewrites has.is_content.rising are.rising are.befores same_spots spots_sound
 
     sizes_last : own cell_keys tab (sizes_after tab columns rewrites store) ≡ sizes_of columns last
     sizes_last =

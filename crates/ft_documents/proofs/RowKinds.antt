@@ -13,7 +13,7 @@ use Rattle.ft_content.specs.Content.{Column, Documents, CellRow, document_rows}
 use Rattle.ft_content.specs.Index.{Key, key_cmp, StoredSpot, stored_spot, spot_lists, Size, SizeRow, size_row, document_tokens, document_sizes, entries, sizes, index_rows}
 use Rattle.ft_content.specs.Laws.{content_with, document_lists}
 use Rattle.ft_content.proofs.PlanLemmas.{sorted_lists, old_found}
-use Rattle.ft_documents.specs.RewriteRows.{sized, numbered, all_put, lists_of, sizes_of}
+use Rattle.ft_documents.specs.RewriteRows.{sized, numbered_cells, all_put, index_lists_of, sizes_of}
 use Rattle.ft_documents.proofs.StoreKeys.{column_total, column_exact}
 use Rattle.ft_documents.proofs.KeyedRows.{true_of, of_true, find-values, sorted-values, put_in_order}
 use Rattle.ft_documents.proofs.DocumentRows.{under, rows_by, one_by, sorted_by, find_by, passed_from, sorted_passed, sorted_numbered}
@@ -27,21 +27,21 @@ cell_row e = record { docid = e.0.0; column = e.0.1; value = e.1 }
 abbrev pub keyed_cell : CellRow → (ℤ × ℤ) × Cell
 keyed_cell row = ((row.docid, row.column), row.value)
 
-pub content_cells : (documents : Documents) → flat_map document_rows documents ≡ map cell_row (rows_by numbered documents)
+pub content_cells : (documents : Documents) → flat_map document_rows documents ≡ map cell_row (rows_by numbered_cells documents)
 content_cells [] = refl
 content_cells (d ∷ ds) =
     let es = enumerate_from 0 d.1 in
     (λ i. sym (ap (map cell_row) (map-map (λ (c : ℤ × Cell). ((d.0, c.0), c.1)) (λ (c : ℕ × Cell). (pos c.0, c.1)) es) ∙ map-map cell_row (λ (c : ℕ × Cell). ((d.0, pos c.0), c.1)) es) i ++ content_cells ds i)
-    ∙ sym (map-append cell_row (under d.0 (numbered d.1)) (rows_by numbered ds))
+    ∙ sym (map-append cell_row (under d.0 (numbered_cells d.1)) (rows_by numbered_cells ds))
 
 pub keyed_again : (rows : List ((ℤ × ℤ) × Cell)) → map keyed_cell (map cell_row rows) ≡ rows
 keyed_again [] = refl
 keyed_again (e ∷ es) = ap (λ xs. e ∷ xs) (keyed_again es)
 
-pub cells_are : AreRowsOf column_key_cmp (λ k. k.0) (rows_by numbered) (one_by numbered)
+pub cells_are : AreRowsOf column_key_cmp (λ k. k.0) (rows_by numbered_cells) (one_by numbered_cells)
 cells_are = record {
-  sorted = λ documents h. sorted_by numbered documents h (λ cells. sorted_numbered 0 cells);
-  found = λ q documents h. find_by numbered q documents h;
+  sorted = λ documents h. sorted_by numbered_cells documents h (λ cells. sorted_numbered 0 cells);
+  found = λ q documents h. find_by numbered_cells q documents h;
   none = λ q. refl;
 }
 
@@ -50,7 +50,7 @@ cells_are = record {
 abbrev pub one_list : List Column → Key → Option (List Cell) → Option (List StoredSpot)
 one_list columns q held = option_map (map stored_spot) (find key_cmp q (document_lists columns q.1 held))
 
-pub lists_are : (columns : List Column) → AreRowsOf key_cmp (λ k. k.1) (lists_of columns) (one_list columns)
+pub lists_are : (columns : List Column) → AreRowsOf key_cmp (λ k. k.1) (index_lists_of columns) (one_list columns)
 unfolding index_rows
 lists_are columns = record {
   sorted = λ documents h. sorted-values key_cmp (map stored_spot) (spot_lists (entries (content_with columns documents))) ∙ true_of _ (sorted_lists (entries (content_with columns documents)));

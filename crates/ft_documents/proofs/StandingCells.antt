@@ -8,7 +8,7 @@ use Rattle.std.specs.FinMap.Entries.{below_all, is_sorted}
 use Rattle.std.proofs.lemmas.Bool.{and_parts, and_from, false_from_ne_true}
 use Rattle.ft_values.specs.Cells.{Cell}
 use Rattle.ft_content.specs.Content.{CellRow, Documents, document_rows, is_cell, is_document}
-use Rattle.ft_documents.specs.Standing.{AreDocuments, stands_after, follows}
+use Rattle.ft_documents.specs.Standing.{AreDocumentCells, stands_after, follows}
 use Rattle.ft_documents.proofs.KeyedRows.{less, same_int}
 
 abbrev pub next_place : ℕ → ℕ → ℕ
@@ -124,7 +124,7 @@ all_follow width place last (cell ∷ cells) h =
     goes_on width place (place == 0) refl last cell cells two.1
     (joins width place (place + 1 == width) refl cell cells (same_int cell.column (pos place) one.0) one.1 (all_follow width (next_place width place) (Some cell.docid) cells parts.1))
 
-pub are_documents : (width : ℕ) (cells : List CellRow) → follow width 0 None cells ≡ true → AreDocuments width cells
+pub are_documents : (width : ℕ) (cells : List CellRow) → follow width 0 None cells ≡ true → AreDocumentCells width cells
 are_documents width cells h = let w = all_follow width 0 None cells h in record { documents = w.documents; each = w.each; rising = w.rising; are = w.is }
 
 -- ---- cells of documents follow one another
@@ -171,7 +171,7 @@ documents_follow width last (d ∷ ds) some each rising behind =
     let own = and_parts (length d.1 == width) (list_all is_cell d.1) parts.0 in
     first_follow width last d.0 d.1 (flat_map document_rows ds) some (after_last last d ds behind) (eqb-true (length d.1) width own.0) own.1 (documents_follow width (Some d.0) ds some parts.1 order.1 order.0)
 
-pub all_documents_follow : (width : ℕ) (cells : List CellRow) → 0 < width → AreDocuments width cells → follow width 0 None cells ≡ true
+pub all_documents_follow : (width : ℕ) (cells : List CellRow) → 0 < width → AreDocumentCells width cells → follow width 0 None cells ≡ true
 all_documents_follow width cells some are = ap (follow width 0 None) are.are ∙ documents_follow width None are.documents some are.each are.rising refl
 
 pub a_step : (width place next : ℕ) (last : Option ℤ) (cell : CellRow) (cells : List CellRow) (all : Bool) → follows place last cell ≡ true → next ≡ next_place width place → follow width place last (cell ∷ cells) ≡ all → follow width next (Some cell.docid) cells ≡ all
@@ -180,5 +180,5 @@ a_step width place next last cell cells all here is h = ap (λ k. follow width k
 pub no_step : (width place : ℕ) (last : Option ℤ) (cell : CellRow) (cells : List CellRow) (all : Bool) → follows place last cell ≡ false → follow width place last (cell ∷ cells) ≡ all → all ≡ false
 no_step width place last cell cells all here h = sym h ∙ ap (λ t. t && follow width (next_place width place) (Some cell.docid) cells) here
 
-pub told : (width : ℕ) (cells : List CellRow) (b : Bool) → 0 < width → follow width 0 None cells ≡ b → (IsTrue b → AreDocuments width cells) × (AreDocuments width cells → IsTrue b)
+pub told : (width : ℕ) (cells : List CellRow) (b : Bool) → 0 < width → follow width 0 None cells ≡ b → (IsTrue b → AreDocumentCells width cells) × (AreDocumentCells width cells → IsTrue b)
 told width cells b some is = ((λ h. are_documents width cells (is ∙ h)), (λ are. sym is ∙ all_documents_follow width cells some are))

@@ -10,7 +10,7 @@ use Rattle.std.specs.FinMap.{int_cmp-IsAntisymmetric}
 use Rattle.std.proofs.lemmas.Bool.{and_parts, and_from}
 use Rattle.ft_content.specs.Content.{Column, Content, TableRows, content_in, are_columns, skipped_from, is_name, names_of, names_clash}
 use Rattle.ft_content.proofs.RowLemmas.{rows_are_read}
-use Rattle.ft_documents.specs.Standing.{AreContent, AreDocuments, numbered_from, columns_in}
+use Rattle.ft_documents.specs.Standing.{AreContent, AreDocumentCells, numbered_from, columns_said}
 use Rattle.ft_documents.proofs.KeyedRows.{tie}
 
 abbrev under_numbers : ℕ → List Column → List (ℤ × List ℕ)
@@ -36,9 +36,9 @@ pub record Parts (name : List ℕ) (rows : TableRows) (made : List Column) : Typ
   pub numbered : numbered_from 0 rows.columns ≡ true
   pub columns : are_columns name made ≡ true
   pub skipped : rows.skipped ≡ skipped_from 0 made
-  pub documents : AreDocuments (length made) rows.cells
+  pub documents : AreDocumentCells (length made) rows.cells
 
-pub content_of : (name : List ℕ) (rows : TableRows) (columns : List Column) → columns ≡ columns_in rows → Parts name rows columns → AreContent name rows
+pub content_of : (name : List ℕ) (rows : TableRows) (columns : List Column) → columns ≡ columns_said rows → Parts name rows columns → AreContent name rows
 content_of name rows columns are p =
     let numbers : rows.columns ≡ under_numbers 0 columns = numbered_is rows.skipped 0 rows.columns p.numbered ∙ ap (under_numbers 0) (sym are) in
     record {
@@ -47,7 +47,7 @@ content_of name rows columns are p =
       is = λ i. record { columns = numbers i; skipped = p.skipped i; cells = p.documents.are i };
     }
 
-pub parts_of : (name : List ℕ) (rows : TableRows) (columns : List Column) → columns ≡ columns_in rows → AreContent name rows → Parts name rows columns
+pub parts_of : (name : List ℕ) (rows : TableRows) (columns : List Column) → columns ≡ columns_said rows → AreContent name rows → Parts name rows columns
 parts_of name rows columns are h =
     let c = h.content in
     let same : columns ≡ c.columns = are ∙ ap (λ (r : TableRows). (content_in r).columns) h.is ∙ ap (λ (x : Content). x.columns) (rows_are_read name c h.is_content) in
@@ -55,7 +55,7 @@ parts_of name rows columns are h =
       numbered = ap (λ (r : TableRows). numbered_from 0 r.columns) h.is ∙ is_numbered 0 c.columns;
       columns = ap (are_columns name) same ∙ h.is_content.columns;
       skipped = ap (λ (r : TableRows). r.skipped) h.is ∙ ap (skipped_from 0) (sym same);
-      documents = subst (λ cs. AreDocuments (length cs) rows.cells) (sym same) (record {
+      documents = subst (λ cs. AreDocumentCells (length cs) rows.cells) (sym same) (record {
         documents = c.documents;
         each = h.is_content.documents;
         rising = h.is_content.rising;

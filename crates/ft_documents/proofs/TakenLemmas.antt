@@ -9,7 +9,7 @@ use Rattle.ft_query.specs.Trees.{tree_of}
 use Rattle.ft_query.specs.Occurs.{PlainHit, hits_of}
 use Rattle.ft_query.specs.Walk.{Walk, Walked, WalkedTo, hit_list, hit_at}
 use Rattle.ft_content.specs.Answer.{cut}
-use Rattle.ft_documents.specs.Matched.{as_wanted, Tells}
+use Rattle.ft_documents.specs.Matched.{as_wanted, TellsHit}
 
 -- as many as are wanted
 pub full : (most : Option ℕ) (m n : ℕ) (hits rest : List PlainHit) → m ≡ unwrap_or most 18446744073709551615 → length hits ≡ n → n < 2 ^ 63 → m ≤ n → n ≤ m → hits ≡ cut most 0 (hits ++ rest)
@@ -24,11 +24,11 @@ whole None m hits is room = refl
 whole (Some k) m hits is room = sym (take_all k hits (omega arith))
 
 -- no hit is left
-pub ended : (wanted : Bool) (old new : Walk) (hit : Option Hit) (documents : List Document) → hit ≡ None → Tells wanted old new hit documents → map (as_wanted wanted) (hits_of (tree_of old.query) documents) ≡ []
+pub ended : (wanted : Bool) (old new : Walk) (hit : Option Hit) (documents : List Document) → hit ≡ None → TellsHit wanted old new hit documents → map (as_wanted wanted) (hits_of (tree_of old.query) documents) ≡ []
 ended wanted old new hit documents none tells = tells.hits_are ∙ (λ i. hit_list (none i) ++ map (as_wanted wanted) (hits_of (tree_of old.query) (tells.ended none i)))
 
 -- a hit whose offsets are wanted stays as it is
-pub told_whole : (old new : Walk) (hit : Option Hit) (documents : List Document) → Walked old new hit documents → Tells true old new hit documents
+pub told_whole : (old new : Walk) (hit : Option Hit) (documents : List Document) → Walked old new hit documents → TellsHit true old new hit documents
 told_whole old new hit documents walked = record {
   rest = walked.went.rest;
   stands = walked.went.stands;
@@ -41,7 +41,7 @@ told_whole old new hit documents walked = record {
     own (Some h) = refl
 
 -- a docid is a hit without offsets
-pub told_bare : (old new : Walk) (docid : Option ℤ) (hit : Option Hit) (documents : List Document) → hit_list hit ≡ hit_at docid [] → WalkedTo old new docid documents → Tells false old new hit documents
+pub told_bare : (old new : Walk) (docid : Option ℤ) (hit : Option Hit) (documents : List Document) → hit_list hit ≡ hit_at docid [] → WalkedTo old new docid documents → TellsHit false old new hit documents
 told_bare old new docid hit documents is walked = record {
   rest = walked.went.rest;
   stands = walked.went.stands;

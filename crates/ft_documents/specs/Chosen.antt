@@ -9,10 +9,10 @@ use Rattle.ft_content.specs.Command.{Filter, All, Docid, Match}
 use Rattle.ft_content.specs.Answer.{reading}
 
 -- the text of a MATCH reads as this query, where the filter is one
-abbrev pub ReadsAs : Content → Filter → Option Tree → Type 0
-ReadsAs content All query = Unit {0}
-ReadsAs content (Docid docid) query = Unit {0}
-ReadsAs content (Match name text) query = reading content name text ≡ Ok query
+abbrev pub ReadsFilterAs : Content → Filter → Option Tree → Type 0
+ReadsFilterAs content All query = Unit {0}
+ReadsFilterAs content (Docid docid) query = Unit {0}
+ReadsFilterAs content (Match name text) query = reading content name text ≡ Ok query
 
 -- the cells of the document of a docid
 abbrev pub cells_at : Content → ℤ → List Cell

@@ -11,8 +11,8 @@ use Rattle.ft_documents.specs.declared.documents.Document.{Document}
 abbrev pub shown_document : Document → ℤ × List Cell
 shown_document d = (d.docid, map shown_value d.cells.items)
 
-abbrev pub shown_row : source.CellRow → CellRow
-shown_row row = record { docid = row.docid; column = row.column; value = shown_value row.value }
+abbrev pub gathered_row : source.CellRow → CellRow
+gathered_row row = record { docid = row.docid; column = row.column; value = shown_value row.value }
 
 -- the documents with one more cell, which joins the last document, if that has its docid (own
 -- choice)

@@ -9,22 +9,22 @@ use Rattle.ft_values.specs.Cells.{Cell}
 use Rattle.ft_values.specs.declared.fault.Fault.{Fault}
 use Rattle.ft_values.specs.declared.fault.Fault.TheVariants as faults
 use Rattle.ft_content.specs.Content.{Documents}
-use Rattle.ft_content.specs.Deserved.{docids_in, has_docid}
+use Rattle.ft_content.specs.Deserved.{docids_named, has_docid}
 use Rattle.ft_documents.specs.declared.new_documents.NewDocuments.{NewDocuments}
 use Rattle.ft_documents.specs.declared.rewrite.Rewrite as source
-use Rattle.ft_documents.specs.Rewrite.{Rewrite, shown_rewrite, by_docid, rewritten}
+use Rattle.ft_documents.specs.Rewrite.{Rewrite, shown_rewrite, under_docids, rewritten}
 use Rattle.ft_documents.specs.NewDocuments.{with_new, AreBeside}
 
 -- Of each row it is known whether a document has the docid that the row gives.
 abbrev pub AreKnown : Documents → List (List (List ℕ × Cell)) → List Bool → Type 0
 AreKnown documents rows stored = (k : ℕ) (values : List (List ℕ × Cell)) → slice_get rows k ≡ Some values
-    → IfSome (slice_get (docids_in values) 0) (λ docid. has_docid documents docid ≡ unwrap_or (slice_get stored k) false)
+    → IfSome (slice_get (docids_named values) 0) (λ docid. has_docid documents docid ≡ unwrap_or (slice_get stored k) false)
 
 -- What comes of rows: the documents with theirs, or the fault of the first row that fails, but for
 -- want of memory.
-abbrev pub Makes : Documents → Result Documents Fault → Result NewDocuments Fault → Type 0
-Makes documents inserted (Ok new) = AreBeside documents new × (inserted ≡ Ok (with_new new documents))
-Makes documents inserted (Err fault) = (fault ≡ faults.Memory) ⊎ (inserted ≡ Err fault)
+abbrev pub MakesDocuments : Documents → Result Documents Fault → Result NewDocuments Fault → Type 0
+MakesDocuments documents inserted (Ok new) = AreBeside documents new × (inserted ≡ Ok (with_new new documents))
+MakesDocuments documents inserted (Err fault) = (fault ≡ faults.Memory) ⊎ (inserted ≡ Err fault)
 
 -- a rewrite makes a document where none was
 abbrev pub IsNewIn : Documents → Rewrite → Type 0
@@ -33,7 +33,7 @@ IsNewIn documents r = (find int_cmp r.docid documents ≡ None) × ((cells : Lis
 -- The rewrites of an Insert: by rising docid, each of a document that was not there, and together
 -- they make the documents of its rows.
 pub record AreInserts (documents : Documents) (rewrites : List Rewrite) (inserted : Result Documents Fault) : Type 0 where
-  pub rising : IsTrue (is_sorted int_cmp (by_docid rewrites))
+  pub rising : IsTrue (is_sorted int_cmp (under_docids rewrites))
   pub befores : AllByRecursion (λ (r : Rewrite). r.before ≡ find int_cmp r.docid documents) rewrites
   pub news : AllByRecursion (IsNewIn documents) rewrites
   pub made : inserted ≡ Ok (rewritten rewrites documents)

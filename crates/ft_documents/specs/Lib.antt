@@ -7,7 +7,6 @@ pub mod RewriteRows
 pub mod Gathered
 pub mod Chosen
 pub mod Inserted
-pub mod Joins
 pub mod MadeIndex
 pub mod Matched
 pub mod NewDocuments

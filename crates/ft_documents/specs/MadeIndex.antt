@@ -8,8 +8,16 @@ use Rattle.ft_rows.specs.Store.{column_key_cmp}
 use Rattle.ft_content.specs.Content.{Column, Documents, cell_text}
 use Rattle.ft_content.specs.Index.{Key, StoredSpot, stored_spot}
 use Rattle.ft_documents.specs.declared.document_index.DocumentIndex.{DocumentIndex}
-use Rattle.ft_documents.specs.RewriteRows.{lists_in, sizes_in, lists_with, sizes_with, lists_of, sizes_of, with_entries}
+use Rattle.ft_documents.specs.RewriteRows.{lists_joined_by, sizes_with, index_lists_of, sizes_of, with_entries}
 use Rattle.ft_documents.specs.RewriteRows.{cell_entries, cell_sizes, sized, all_put, IsShortNumber, AreShortNumbers}
+use Rattle.ft_documents.specs.Terms.{lists_in_groups}
+
+-- an index that is kept in memory: its lists, and its sizes
+abbrev pub lists_in : DocumentIndex → List (Key × List StoredSpot)
+lists_in index = lists_in_groups index.terms.entries
+
+abbrev pub sizes_in : DocumentIndex → List ((ℤ × ℤ) × ℤ)
+sizes_in index = index.sizes.entries
 
 -- an index has these lists and these sizes
 pub record Shows (index : DocumentIndex) (its_lists : List (Key × List StoredSpot)) (its_sizes : List ((ℤ × ℤ) × ℤ)) : Type 0 where
@@ -21,14 +29,14 @@ abbrev pub HaveShortNumbers : List Column → Documents → Type 0
 HaveShortNumbers columns documents = All (λ (d : ℤ × List Cell). AreShortNumbers columns d.1) documents
 
 -- the lists and sizes of documents join those of an index
-pub record Adds (columns : List Column) (documents : Documents) (old new : DocumentIndex) : Type 0 where
-  pub lists : lists_in new ≡ lists_with columns documents (lists_in old)
+pub record AddsDocuments (columns : List Column) (documents : Documents) (old new : DocumentIndex) : Type 0 where
+  pub lists : lists_in new ≡ lists_joined_by columns documents (lists_in old)
   pub sizes : sizes_in new ≡ sizes_with columns documents (sizes_in old)
   pub numbers : HaveShortNumbers columns documents
 
 -- an index is that of documents
 pub record IsIndexOf (columns : List Column) (documents : Documents) (index : DocumentIndex) : Type 0 where
-  pub lists : lists_in index ≡ lists_of columns documents
+  pub lists : lists_in index ≡ index_lists_of columns documents
   pub sizes : sizes_in index ≡ sizes_of columns documents
   pub numbers : HaveShortNumbers columns documents
 
@@ -38,12 +46,7 @@ pub record AddsCell (docid : ℤ) (place : ℕ) (cell : Cell) (old new : Documen
   pub sizes : sizes_in new ≡ all_put column_key_cmp (sized (cell_sizes docid place (length (tokens_of (cell_text cell))))) (sizes_in old)
   pub number : IsShortNumber cell
 
--- a size's numbers are of 63 bits
-pub record FitsSize (column count : ℕ) : Type 0 where
-  pub place : column < 2 ^ 63
-  pub n : count < 2 ^ 63
-
--- a token's numbers are
+-- a token's numbers are of 63 bits
 pub record FitsSpot (column : ℕ) (token : Token) : Type 0 where
   pub place : column < 2 ^ 63
   pub pos : token.pos < 2 ^ 63

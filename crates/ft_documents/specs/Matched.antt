@@ -27,7 +27,7 @@ as_wanted wanted hit = record { docid = hit.docid; offsets = if wanted then hit.
 
 -- From before these documents the walk went on to stand before the rest, with this hit between,
 -- with its offsets if they are wanted. Without one there is no rest.
-pub record Tells (wanted : Bool) (old new : Walk) (hit : Option Hit) (documents : List Document) : Type 0 where
+pub record TellsHit (wanted : Bool) (old new : Walk) (hit : Option Hit) (documents : List Document) : Type 0 where
   pub rest : List Document
   pub stands : StandsBefore new rest
   pub hits_are : map (as_wanted wanted) (hits_of (tree_of old.query) documents) ≡ hit_list hit ++ map (as_wanted wanted) (hits_of (tree_of old.query) rest)
@@ -35,6 +35,6 @@ pub record Tells (wanted : Bool) (old new : Walk) (hit : Option Hit) (documents 
 
 -- what a look for the next hit makes of a walk, which passes a list at least where it finds one
 pub record TellsNext (wanted : Bool) (old new : Walk) (result : Result (Option Hit) AllocError) : Type 0 where
-  pub told : IfOk result (λ hit. (documents : List Document) → StandsBefore old documents → Tells wanted old new hit documents)
+  pub told : IfOk result (λ hit. (documents : List Document) → StandsBefore old documents → TellsHit wanted old new hit documents)
   pub passes : IfOk result (λ hit. IfSome hit (λ _. lists_to_come new < lists_to_come old))
   pub query : new.query ≡ old.query

@@ -16,23 +16,23 @@ use Rattle.ft_documents.specs.declared.new_documents.NewDocuments.{NewDocuments}
 use Rattle.ft_documents.specs.Rewrite.{Rewrite}
 use Rattle.ft_documents.specs.RewriteRows.{all_put}
 
-abbrev pub shown_entry : ℤ × Vec Value Global → ℤ × List Cell
-shown_entry e = (e.0, cells_of e.1)
+abbrev pub shown_new : ℤ × Vec Value Global → ℤ × List Cell
+shown_new e = (e.0, cells_of e.1)
 
 -- the new documents by rising docid
-abbrev pub documents_in : NewDocuments → Documents
-documents_in new = map shown_entry new.documents.entries
+abbrev pub shown_documents : NewDocuments → Documents
+shown_documents new = map shown_new new.documents.entries
 
 -- a table's documents with them
 abbrev pub with_new : NewDocuments → Documents → Documents
-with_new new documents = all_put int_cmp (documents_in new) documents
+with_new new documents = all_put int_cmp (shown_documents new) documents
 
 -- New documents for a table with these documents: none has a docid that is there, and the last
 -- docid of all is known.
 pub record AreBeside (documents : Documents) (new : NewDocuments) : Type 0 where
   pub sorted : IsTrue (is_sorted int_cmp documents)
-  pub rising : IsTrue (is_sorted int_cmp (documents_in new))
-  pub apart : AllByRecursion (λ (d : ℤ × List Cell). find int_cmp d.0 documents ≡ None) (documents_in new)
+  pub rising : IsTrue (is_sorted int_cmp (shown_documents new))
+  pub apart : AllByRecursion (λ (d : ℤ × List Cell). find int_cmp d.0 documents ≡ None) (shown_documents new)
   pub last : last_docid (with_new new documents) ≡ new.last
 
 -- What comes of a row: the documents with its document, or the fault of its docid, but for want of

@@ -68,13 +68,13 @@ abbrev pub with_placed : Placed → List PlaceList → List PlaceList
 with_placed p [] = list_with p (p ∷ []) ∷ []
 with_placed p (l ∷ ls) = if int_eq p.docid l.docid then (record { docid = p.docid; places = place_in p ∷ l.places } ∷ ls) else (list_with p (p ∷ []) ∷ l ∷ ls)
 
-unfoldable pub by_docid : List Placed → List PlaceList
-by_docid [] = []
-by_docid (p ∷ ps) = with_placed p (by_docid ps)
+unfoldable pub lists_by_docid : List Placed → List PlaceList
+lists_by_docid [] = []
+lists_by_docid (p ∷ ps) = with_placed p (lists_by_docid ps)
 
 -- the lists of rows in any order: the rows' places in order, by docid
 pub record AreListsOf (rows : List ListRow) (found : List PlaceList) : Type 0 where
   pub places : List Placed
   pub same : IsPermutation (all_in (map list_of rows)) places
   pub sorted : IsSorted placed_cmp places
-  pub lists : found ≡ by_docid places
+  pub lists : found ≡ lists_by_docid places

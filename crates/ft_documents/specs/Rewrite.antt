@@ -51,11 +51,11 @@ abbrev pub afters : List Rewrite → Documents
 afters rewrites = flat_map (λ (r : Rewrite). document_if r.docid r.after) rewrites
 
 -- rewrites under their docids
-abbrev pub by_docid : List Rewrite → List (ℤ × Rewrite)
-by_docid rewrites = map (λ (r : Rewrite). (r.docid, r)) rewrites
+abbrev pub under_docids : List Rewrite → List (ℤ × Rewrite)
+under_docids rewrites = map (λ (r : Rewrite). (r.docid, r)) rewrites
 
-abbrev pub docids_of : List Rewrite → List ℤ
-docids_of rewrites = map (λ (r : Rewrite). r.docid) rewrites
+abbrev pub rewritten_docids : List Rewrite → List ℤ
+rewritten_docids rewrites = map (λ (r : Rewrite). r.docid) rewrites
 
 -- cells that a document of a table with this many columns may have
 abbrev pub FitIfAny : ℕ → Rewrite → Type 0
@@ -64,7 +64,7 @@ FitIfAny width r = IfSome r.after (λ cells. IsTrue (is_document width (r.docid,
 -- Rewrites of a content by rising docid: each knows what its document was, and makes a document of
 -- it.
 pub record AreOf (content : Content) (rewrites : List Rewrite) : Type 0 where
-  pub rising : IsTrue (is_sorted int_cmp (by_docid rewrites))
+  pub rising : IsTrue (is_sorted int_cmp (under_docids rewrites))
   pub befores : All (λ (r : Rewrite). r.before ≡ find int_cmp r.docid content.documents) rewrites
   pub afters : All (FitIfAny (length content.columns)) rewrites
 

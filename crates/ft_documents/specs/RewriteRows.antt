@@ -1,7 +1,7 @@
 -- Meaning. The row changes that follow from documents which are written anew. All of it is our own
 -- choice.
 use Rattle.std.specs.Prelude.{◌≡◌, ◌≤◌, length, ℕ, zero, suc, Bool, true, false, not, ◌&&◌, List, [], ◌∷◌, ◌++◌, map, filter, Option}
-use Rattle.std.specs.Prelude.{Some, None, ℤ, pos, is_some, unwrap_or, bytes_eq, string_bytes, String, Vec}
+use Rattle.std.specs.Prelude.{Some, None, ℤ, pos, is_some, unwrap_or, bytes_eq}
 use Rattle.std.specs.List.{flat_map, enumerate_from}
 use Rattle.std.specs.declared.cmp.Ordering.{Ordering}
 use Rattle.std.specs.Fmt.{signed_decimal}
@@ -10,14 +10,11 @@ use Rattle.std.specs.Cmp.Lexicographic.{pointwise}
 use Rattle.std.specs.FinMap.Entries.{put, find}
 use Rattle.ft_values.specs.Cells.{Cell, Null, Int, Text}
 use Rattle.ft_rows.specs.Store.{column_key_cmp, Change, PutCell, DropCells, PutEntries, DropEntries, PutSize, DropSize}
-use Rattle.std.specs.declared.alloc.Global.{Global}
 use Rattle.ft_query.specs.Tokens.{PlainToken}
 use Rattle.ft_query.specs.Documents.{posting}
 use Rattle.ft_content.specs.Content.{Column, Documents}
 use Rattle.ft_content.specs.Index.{Entry, document_entries, document_sizes, entry_at, Key, key_cmp, key_of, StoredSpot, stored_spot}
 use Rattle.ft_content.specs.Index.{SizeRow, size_row, index_rows}
-use Rattle.ft_values.specs.declared.rows.Spot.{Spot}
-use Rattle.ft_documents.specs.declared.document_index.DocumentIndex.{DocumentIndex}
 use Rattle.ft_content.specs.Laws.{content_with}
 use Rattle.ft_documents.specs.Rewrite.{Rewrite, befores, afters}
 
@@ -52,8 +49,8 @@ abbrev pub changed : {K V : Type 0} → (K → K → Ordering) → (V → V → 
 changed R same old new = filter (λ e. not (was_there same (find R e.0 old) e.1)) new
 
 -- cells under the numbers of their columns
-abbrev pub numbered : List Cell → List (ℤ × Cell)
-numbered cells = map (λ (c : ℕ × Cell). (pos c.0, c.1)) (enumerate_from 0 cells)
+abbrev pub numbered_cells : List Cell → List (ℤ × Cell)
+numbered_cells cells = map (λ (c : ℕ × Cell). (pos c.0, c.1)) (enumerate_from 0 cells)
 
 -- sizes under docid and column
 abbrev pub sized : List SizeRow → List ((ℤ × ℤ) × ℤ)
@@ -68,7 +65,7 @@ dropped_documents tab rewrites = map (λ (r : Rewrite). DropCells tab r.docid) (
 
 -- the cells of a document that are new or differ
 abbrev pub put_cells : ℤ → ℤ → List Cell → List Cell → List Change
-put_cells tab docid before after = map (λ (c : ℤ × Cell). PutCell tab docid c.0 c.1) (changed int_cmp same_cell (numbered before) (numbered after))
+put_cells tab docid before after = map (λ (c : ℤ × Cell). PutCell tab docid c.0 c.1) (changed int_cmp same_cell (numbered_cells before) (numbered_cells after))
 
 abbrev pub put_documents : ℤ → List Rewrite → List Change
 put_documents tab rewrites = flat_map (λ (r : Rewrite). put_cells tab r.docid (unwrap_or r.before []) (unwrap_or r.after [])) rewrites
@@ -97,24 +94,21 @@ AreShortNumbers [] cells = Unit {0}
 AreShortNumbers (column ∷ columns) [] = Unit {0}
 AreShortNumbers (column ∷ columns) (cell ∷ cells) = (column.indexed ≡ true → IsShortNumber cell) × AreShortNumbers columns cells
 
--- Lists with entries that join them one after another, and rows that are put one after another.
+-- Lists with spots that join them one after another, each at the end of the list under its key, and
+-- rows that are put one after another.
+abbrev pub with_spots : List (Key × StoredSpot) → List (Key × List StoredSpot) → List (Key × List StoredSpot)
+with_spots [] lists = lists
+with_spots (s ∷ ss) lists = with_spots ss (put key_cmp s.0 (unwrap_or (find key_cmp s.0 lists) [] ++ s.1 ∷ []) lists)
+
+abbrev pub entry_spot : Entry → Key × StoredSpot
+entry_spot e = (key_of e, stored_spot e.spot)
+
 abbrev pub with_entries : List Entry → List (Key × List StoredSpot) → List (Key × List StoredSpot)
-with_entries [] lists = lists
-with_entries (e ∷ es) lists = with_entries es (put key_cmp (key_of e) (unwrap_or (find key_cmp (key_of e) lists) [] ++ stored_spot e.spot ∷ []) lists)
+with_entries es lists = with_spots (map entry_spot es) lists
 
 abbrev pub all_put : {K V : Type 0} → (K → K → Ordering) → List (K × V) → List (K × V) → List (K × V)
 all_put R [] rows = rows
 all_put R (e ∷ es) rows = all_put R es (put R e.0 e.1 rows)
-
--- an index that is kept in memory: its lists, and its sizes
-abbrev pub shown_list : (String Global × ℤ) × Vec Spot Global → Key × List StoredSpot
-shown_list l = ((string_bytes l.0.0, l.0.1), l.1.items)
-
-abbrev pub lists_in : DocumentIndex → List (Key × List StoredSpot)
-lists_in index = map shown_list index.lists.entries
-
-abbrev pub sizes_in : DocumentIndex → List ((ℤ × ℤ) × ℤ)
-sizes_in index = index.sizes.entries
 
 -- the entries of a cell, and its size if it has tokens
 abbrev pub cell_entries : ℤ → ℕ → List PlainToken → List Entry
@@ -125,15 +119,15 @@ cell_sizes docid column zero = []
 cell_sizes docid column (suc n) = size_row (record { docid = docid; column = column; n = suc n }) ∷ []
 
 -- lists and sizes that those of documents join
-abbrev pub lists_with : List Column → Documents → List (Key × List StoredSpot) → List (Key × List StoredSpot)
-lists_with columns documents lists = with_entries (flat_map (document_entries columns) documents) lists
+abbrev pub lists_joined_by : List Column → Documents → List (Key × List StoredSpot) → List (Key × List StoredSpot)
+lists_joined_by columns documents lists = with_entries (flat_map (document_entries columns) documents) lists
 
 abbrev pub sizes_with : List Column → Documents → List ((ℤ × ℤ) × ℤ) → List ((ℤ × ℤ) × ℤ)
 sizes_with columns documents sizes = all_put column_key_cmp (sized (map size_row (flat_map (document_sizes columns) documents))) sizes
 
 -- the lists and sizes of documents under their keys
-abbrev pub lists_of : List Column → Documents → List (Key × List StoredSpot)
-lists_of columns documents = (index_rows (content_with columns documents)).lists
+abbrev pub index_lists_of : List Column → Documents → List (Key × List StoredSpot)
+index_lists_of columns documents = (index_rows (content_with columns documents)).lists
 
 abbrev pub sizes_of : List Column → Documents → List ((ℤ × ℤ) × ℤ)
 sizes_of columns documents = all_put column_key_cmp (sized (index_rows (content_with columns documents)).sizes) []
@@ -150,5 +144,5 @@ size_changes tab old new = dropped_sizes tab (gone column_key_cmp old new) ++ pu
 unfoldable pub rewrite_changes : ℤ → List Column → List Rewrite → List Change
 rewrite_changes tab columns rewrites =
     dropped_documents tab rewrites ++ (put_documents tab rewrites
-    ++ (list_changes tab (lists_of columns (befores rewrites)) (lists_of columns (afters rewrites))
+    ++ (list_changes tab (index_lists_of columns (befores rewrites)) (index_lists_of columns (afters rewrites))
     ++ size_changes tab (sizes_of columns (befores rewrites)) (sizes_of columns (afters rewrites))))

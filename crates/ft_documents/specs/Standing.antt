@@ -1,5 +1,5 @@
 -- Steps. How the rows of a table stand that the store lists. All of it is our own choice.
-use Rattle.std.specs.Prelude.{◌≡◌, ◌≢◌, ℕ, ◌+◌, ◌==◌, Bool, true, false, if◌then◌else◌, not, ◌&&◌, List, [], ◌∷◌, map, length}
+use Rattle.std.specs.Prelude.{◌≡◌, ◌≢◌, ℕ, ◌+◌, ◌==◌, Bool, true, if◌then◌else◌, not, ◌&&◌, List, [], ◌∷◌, map}
 use Rattle.std.specs.Prelude.{Option, Some, None, String, Vec, string_bytes, ℤ, pos, IsTrue}
 use Rattle.std.specs.declared.alloc.Global.{Global}
 use Rattle.std.specs.List.{list_all, list_any, flat_map}
@@ -9,9 +9,9 @@ use Rattle.ft_values.specs.declared.rows.CellRow as stored
 use Rattle.ft_values.specs.declared.rows.SizeRow as sizes
 use Rattle.ft_values.specs.declared.rows.TabRow.{TabRow}
 use Rattle.ft_values.specs.Cells.{shown_value}
-use Rattle.ft_content.specs.Content.{Cell, CellRow, Column, TableRows, Documents, Content, IsContent, content_rows, document_rows, is_cell, is_document}
+use Rattle.ft_content.specs.Content.{CellRow, Column, TableRows, Documents, Content, IsContent, content_rows, document_rows, is_cell, is_document}
 use Rattle.ft_content.specs.Index.{index_rows}
-use Rattle.ft_documents.specs.RewriteRows.{sized, sizes_of}
+use Rattle.ft_documents.specs.RewriteRows.{sized}
 use Rattle.ft_documents.specs.Terms.{lists_of_terms}
 use Rattle.ft_rows.specs.declared.terms.TermLists.{TermLists}
 
@@ -20,12 +20,12 @@ abbrev pub shown_row : stored.CellRow → CellRow
 shown_row cell = record { docid = cell.docid; column = cell.column; value = shown_value cell.value }
 
 -- a column under its number
-abbrev pub shown_column : ℤ × String Global → ℤ × List ℕ
-shown_column c = (c.0, string_bytes c.1)
+abbrev pub numbered_column : ℤ × String Global → ℤ × List ℕ
+numbered_column c = (c.0, string_bytes c.1)
 
 -- the rows of a table that is listed, with these cells
 abbrev pub listed_rows : TabRow → List stored.CellRow → TableRows
-listed_rows table cells = record { columns = map shown_column table.columns.items; skipped = table.skipped.items; cells = map shown_row cells }
+listed_rows table cells = record { columns = map numbered_column table.columns.items; skipped = table.skipped.items; cells = map shown_row cells }
 
 -- rows are a content that a table of this name may have
 pub record AreContent (name : List ℕ) (rows : TableRows) : Type 0 where
@@ -34,7 +34,7 @@ pub record AreContent (name : List ℕ) (rows : TableRows) : Type 0 where
   pub is : rows ≡ content_rows content
 
 -- cells are those of documents with so many columns, by rising docid
-pub record AreDocuments (width : ℕ) (cells : List CellRow) : Type 0 where
+pub record AreDocumentCells (width : ℕ) (cells : List CellRow) : Type 0 where
   pub documents : Documents
   pub each : IsTrue (list_all (is_document width) documents)
   pub rising : IsTrue (is_sorted int_cmp documents)
@@ -56,49 +56,12 @@ numbered_from k [] = true
 numbered_from k (column ∷ columns) = int_eq column.0 (pos k) && numbered_from (k + 1) columns
 
 -- the columns that rows say
-abbrev pub columns_in : TableRows → List Column
-columns_in rows = map (λ (c : ℤ × List ℕ). record { name = c.1; indexed = not (list_any (int_eq c.0) rows.skipped) }) rows.columns
+abbrev pub columns_said : TableRows → List Column
+columns_said rows = map (λ (c : ℤ × List ℕ). record { name = c.1; indexed = not (list_any (int_eq c.0) rows.skipped) }) rows.columns
 
 -- a size under docid and column, as index rows have them
-abbrev pub shown_size : sizes.SizeRow → (ℤ × ℤ) × ℤ
-shown_size s = ((s.docid, s.column), s.n)
-
-abbrev pub same_size : (ℤ × ℤ) × ℤ → (ℤ × ℤ) × ℤ → Bool
-same_size a b = int_eq a.0.0 b.0.0 && (int_eq a.0.1 b.0.1 && int_eq a.1 b.1)
-
--- whether this is the first of some
-abbrev pub is_first : {X : Type 0} → (X → X → Bool) → X → List X → Bool
-is_first same x [] = false
-is_first same x (y ∷ ys) = same x y
-
--- what comes after these, where they are the first
-abbrev pub after_first : {X : Type 0} → (X → X → Bool) → List X → List X → Option (List X)
-after_first same [] ys = Some ys
-after_first same (x ∷ xs) [] = None
-after_first same (x ∷ xs) (y ∷ ys) = if same x y then after_first same xs ys else None
-
--- what a row of a document holds
-abbrev pub cell_in : stored.CellRow → Cell
-cell_in row = shown_value row.value
-
--- the sizes of one document
-abbrev pub own_sizes : List Column → ℤ × List Cell → List ((ℤ × ℤ) × ℤ)
-own_sizes columns document = sizes_of columns (document ∷ [])
-
--- whether a rest is there that passes a test
-abbrev pub rest_passes : {X : Type 0} → Option X → (X → Bool) → Bool
-rest_passes None test = false
-rest_passes (Some xs) test = test xs
-
--- whether sizes are those of documents, one after another
-abbrev pub are_sizes_of : List Column → Documents → List ((ℤ × ℤ) × ℤ) → Bool
-are_sizes_of columns [] sizes = length sizes == 0
-are_sizes_of columns (d ∷ ds) sizes = rest_passes (after_first same_size (own_sizes columns d) sizes) (are_sizes_of columns ds)
-
--- documents of tables with so many columns that have these cells
-pub record HaveCells (width : ℕ) (rows : List CellRow) (documents : Documents) : Type 0 where
-  pub each : IsTrue (list_all (is_document width) documents)
-  pub are : rows ≡ flat_map document_rows documents
+abbrev pub size_under_key : sizes.SizeRow → (ℤ × ℤ) × ℤ
+size_under_key s = ((s.docid, s.column), s.n)
 
 -- the rows of a content
 pub record HaveContent (columns : List Column) (rows : List CellRow) (content : Content) : Type 0 where

@@ -5,7 +5,7 @@ use Rattle.ft_values.specs.Cells.{Cell}
 use Rattle.ft_content.specs.Content.{Column, Content}
 use Rattle.ft_content.specs.Command.{Filter}
 use Rattle.ft_content.specs.Answer.{chosen}
-use Rattle.ft_content.specs.Deserved.{docids_in, with_values}
+use Rattle.ft_content.specs.Deserved.{docids_named, with_values}
 use Rattle.ft_content.specs.Step.{docids_of, docid_if_any}
 use Rattle.ft_documents.specs.Rewrite.{Rewrite}
 
@@ -39,4 +39,4 @@ MayMove (Some docid) (r ∷ s ∷ rs) rewrites = Unit {0}
 
 -- the docids of the documents that an Update changes
 abbrev pub update_touches : Content → List (List ℕ × Cell) → Filter → List ℤ
-update_touches content sets f = docids_of (chosen content f) ++ docid_if_any (chosen content f) (docids_in sets)
+update_touches content sets f = docids_of (chosen content f) ++ docid_if_any (chosen content f) (docids_named sets)

@@ -1,38 +1,40 @@
-//! The index of some documents, made from scratch, and the row changes from one to another.
+//! The index of some documents, made from scratch.
+ghost use Rattle.std.specs.Prelude.{◌≡◌, IsTrue, IfOk, OnOk};
+ghost use Rattle.ft_documents.specs.Placed.{rise};
+ghost use Rattle.ft_documents.specs.Terms.{by_docids, lists_of_terms, lists_in_groups, spots_of_docid};
+
 use crate::tokens::{spot_of, text_of};
 use ft_content::{Column, Value};
 use ft_query::Tokenizer;
-use ft_values::{RowChange, Spot};
+use ft_rows::{Posting, TermLists};
 use itoa::Buffer;
 use std::alloc::{AllocError, Global};
-use std::collections::BTreeMap;
+use std::collections::{BTreeMap, HashMap};
 
-/// Posting lists under term and docid.
-pub(crate) type PostingLists = BTreeMap<(String, i64), Vec<Spot>>;
+/// Postings under their terms, in the order in which they came.
+pub(crate) type Terms = HashMap<String, Vec<Posting>>;
 
 /// The sizes of cells under docid and column.
 pub(crate) type Sizes = BTreeMap<(i64, i64), i64>;
 
-/// The posting lists of documents, and the sizes of their cells.
+/// The postings of documents under their terms, and the sizes of their cells. A term is found by
+/// its hash, and the terms are sorted once, at the end: there is a step for each posting, and far
+/// fewer terms.
 #[derive(Drop)]
 pub(crate) struct DocumentIndex {
     alloc: Global,
-    pub(crate) lists: PostingLists,
+    pub(crate) terms: Terms,
     pub(crate) sizes: Sizes,
 }
 
 impl DocumentIndex {
     ghost use Rattle.std.specs.Prelude.{◌≡◌, ◌<◌, ◌^◌, ◌++◌, ◌∷◌, [], map, option_map, unwrap_or, string_bytes, OnOk};
-    ghost use Rattle.std.specs.Ordering.{int_eq};
     ghost use Rattle.std.specs.FinMap.Entries.{put, find};
     ghost use Rattle.ft_values.specs.Cells.{shown_value};
-    ghost use Rattle.ft_rows.specs.Store.{column_key_cmp};
-    ghost use Rattle.ft_rows.specs.Changes.{shown_change};
     ghost use Rattle.ft_content.specs.Index.{key_cmp};
     ghost use Rattle.ft_content.specs.Views.{cells_of, column_of};
-    ghost use Rattle.ft_documents.specs.MadeIndex.{Shows, Adds, AddsCell};
+    ghost use Rattle.ft_documents.specs.MadeIndex.{Shows, AddsDocuments, AddsCell, lists_in, sizes_in};
     ghost use Rattle.ft_documents.specs.Rewrite.{document_if};
-    ghost use Rattle.ft_documents.specs.RewriteRows as rows;
 
     /// The index of no document.
     pub(crate) fn new(alloc: Global) -> DocumentIndex
@@ -40,7 +42,7 @@ impl DocumentIndex {
     {
         DocumentIndex {
             alloc,
-            lists: BTreeMap::new(alloc),
+            terms: HashMap::new(alloc),
             sizes: BTreeMap::new(alloc),
         }
     }
@@ -52,7 +54,7 @@ impl DocumentIndex {
         docid: i64,
         cells: &Option<Vec<Value>>,
     ) -> Result<(), AllocError>
-        ensures { OnOk result (Adds (map column_of columns.now)
+        ensures { OnOk result (AddsDocuments (map column_of columns.now)
             (document_if docid (option_map cells_of cells.now)) self.old self.new) }
     {
         let Some(cells) = cells else {
@@ -78,7 +80,7 @@ impl DocumentIndex {
         let mut count: usize = 0;
         while let Some(token) = tokenizer.next()? {
             let spot = spot_of(place, &token);
-            self.add_spot((token.term, docid), spot)?;
+            self.add_posting(token.term, Posting { docid, spot })?;
             count += 1;
         }
         if count > 0 {
@@ -87,99 +89,43 @@ impl DocumentIndex {
         Ok(())
     }
 
-    // Adds a spot to a list.
-    fn add_spot(&mut self, key: (String, i64), spot: Spot) -> Result<(), AllocError>
-        ensures { OnOk result (Shows self.new (put key_cmp (string_bytes key.0, key.1)
-            (unwrap_or (find key_cmp (string_bytes key.0, key.1) (rows.lists_in self.old)) []
-            ++ spot ∷ []) (rows.lists_in self.old)) (rows.sizes_in self.old)) }
+    // Adds a posting of a term.
+    fn add_posting(&mut self, term: String, posting: Posting) -> Result<(), AllocError>
+        ensures { OnOk result (Shows self.new (put key_cmp (string_bytes term, posting.docid)
+            (unwrap_or (find key_cmp (string_bytes term, posting.docid) (lists_in self.old)) []
+            ++ posting.spot ∷ []) (lists_in self.old)) (sizes_in self.old)) }
     {
-        if let Some(spots) = self.lists.get_mut(&key) {
-            spots.push(spot)?;
+        if let Some(postings) = self.terms.get_mut(&term) {
+            postings.push(posting)?;
             return Ok(());
         }
-        // most terms stand once in a document
-        let mut spots = Vec::with_capacity(self.alloc, 1)?;
-        spots.push(spot)?;
-        self.lists.insert(key, spots)?;
+        let mut postings = Vec::new(self.alloc);
+        postings.push(posting)?;
+        self.terms.insert(term, postings)?;
         Ok(())
     }
+}
 
-    /// Drops the lists that another index has not, or has otherwise.
-    pub(crate) fn drop_lists(
-        &self,
-        changes: &mut Vec<RowChange>,
-        tab: i64,
-        new: &DocumentIndex,
-    ) -> Result<(), AllocError>
-        ensures { OnOk result (map shown_change changes.new.items
-            ≡ map shown_change changes.old.items ++ rows.dropped_lists tab
-            (rows.changed key_cmp rows.same_spots (rows.lists_in new.now)
-            (rows.lists_in self.now))) }
-    {
-        for (key, spots) in self.lists.iter() {
-            if new.lists.get(key) != Some(spots) {
-                changes.push(RowChange::DropEntries(tab, key.0.clone()?, key.1))?;
-            }
-        }
-        Ok(())
+// Puts postings in order by their documents. Those of one document stay as they came.
+fn put_in_order(postings: &mut Vec<Posting>) -> Result<(), AllocError>
+    ensures { OnOk result (IsTrue (rise by_docids postings.new.items)
+        × (spots_of_docid postings.new.items ≡ spots_of_docid postings.old.items)) }
+{
+    if !postings.is_sorted_by_key(|posting| posting.docid) {
+        postings.sort_by_key(|posting| posting.docid)?;
     }
+    Ok(())
+}
 
-    /// Puts the lists of another index that are new or differ. They are moved into the changes.
-    pub(crate) fn put_lists(
-        &self,
-        changes: &mut Vec<RowChange>,
-        tab: i64,
-        new: PostingLists,
-    ) -> Result<(), AllocError>
-        ensures { OnOk result (map shown_change changes.new.items
-            ≡ map shown_change changes.old.items ++ rows.put_lists tab
-            (rows.changed key_cmp rows.same_spots (rows.lists_in self.now)
-            (map rows.shown_list new.entries))) }
-    {
-        for (key, spots) in new {
-            if self.lists.get(&key) != Some(&spots) {
-                let (term, docid) = key;
-                changes.push(RowChange::PutEntries(tab, term, docid, spots))?;
-            }
-        }
-        Ok(())
+/// The postings of each term, by rising terms and then docids.
+pub(crate) fn term_lists(alloc: Global, terms: Terms) -> Result<Vec<TermLists>, AllocError>
+    ensures { IfOk result (λ lists. lists_of_terms lists.items ≡ lists_in_groups terms.entries) }
+{
+    let mut found = Vec::with_capacity(alloc, terms.len())?;
+    for (term, mut postings) in terms {
+        put_in_order(&mut postings)?;
+        found.push(TermLists { term, postings })?;
     }
-
-    /// Drops the sizes that another index has not.
-    pub(crate) fn drop_sizes(
-        &self,
-        changes: &mut Vec<RowChange>,
-        tab: i64,
-        new: &Sizes,
-    ) -> Result<(), AllocError>
-        ensures { OnOk result (map shown_change changes.new.items
-            ≡ map shown_change changes.old.items ++ rows.dropped_sizes tab
-            (rows.gone column_key_cmp (rows.sizes_in self.now) new.now.entries)) }
-    {
-        for (key, _n) in self.sizes.iter() {
-            if !new.contains_key(key) {
-                changes.push(RowChange::DropSize(tab, key.0, key.1))?;
-            }
-        }
-        Ok(())
-    }
-
-    /// Puts the sizes of another index that are new or differ.
-    pub(crate) fn put_sizes(
-        &self,
-        changes: &mut Vec<RowChange>,
-        tab: i64,
-        new: &Sizes,
-    ) -> Result<(), AllocError>
-        ensures { OnOk result (map shown_change changes.new.items
-            ≡ map shown_change changes.old.items ++ rows.put_sizes tab
-            (rows.changed column_key_cmp int_eq (rows.sizes_in self.now) new.now.entries)) }
-    {
-        for (key, n) in new.iter() {
-            if self.sizes.get(key) != Some(n) {
-                changes.push(RowChange::PutSize(tab, key.0, key.1, *n))?;
-            }
-        }
-        Ok(())
-    }
+    found.sort_unstable_by(|one, other| one.term.cmp(&other.term));
+    Ok(found)
 }

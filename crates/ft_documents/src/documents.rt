@@ -1,6 +1,6 @@
 //! Documents that are held in memory.
 ghost use Rattle.std.specs.Prelude.{◌≡◌, map, IfOk};
-ghost use Rattle.ft_documents.specs.Gathered.{shown_document, shown_row};
+ghost use Rattle.ft_documents.specs.Gathered.{shown_document, gathered_row};
 ghost use Rattle.ft_content.specs.Content as content;
 
 use ft_content::Value;
@@ -17,7 +17,7 @@ pub struct Document {
 /// The documents that rows of cells are of.
 pub fn gathered(alloc: Global, rows: Vec<CellRow>) -> Result<Vec<Document>, AllocError>
     ensures { IfOk result (λ documents. map shown_document documents.items
-        ≡ content.gathered (map shown_row rows.items)) }
+        ≡ content.gathered (map gathered_row rows.items)) }
 {
     let mut documents: Vec<Document> = Vec::new(alloc);
     for row in rows {

@@ -3,7 +3,7 @@ ghost use Rattle.std.specs.Prelude.{◌≡◌, ◌≢◌, option_map, None, Some
 ghost use Rattle.ft_query.specs.Trees.{tree_of};
 ghost use Rattle.ft_content.specs.Deserved.{query_fault};
 ghost use Rattle.ft_content.specs.Views.{bare_content, filter_of};
-ghost use Rattle.ft_documents.specs.Chosen.{ReadsAs};
+ghost use Rattle.ft_documents.specs.Chosen.{ReadsFilterAs};
 ghost use Rattle.ft_query.specs.Documents.{Document};
 ghost use Rattle.ft_query.specs.Occurs.{plain_hit, hits_of};
 ghost use Rattle.ft_query.specs.Walk.{StandsBefore};
@@ -26,7 +26,8 @@ pub fn filter_query(
     columns: &[Column],
     filter: &Filter,
 ) -> Result<Option<Query>, Fault>
-    ensures query { IfOk result (λ query. ReadsAs (bare_content columns.now) (filter_of filter.now)
+    ensures query { IfOk result (λ query. ReadsFilterAs (bare_content columns.now)
+        (filter_of filter.now)
         (option_map tree_of query)) }
     ensures fine { OnOk result (query_fault (bare_content columns.now) (filter_of filter.now)
         ≡ None) }
@@ -41,7 +42,7 @@ pub fn filter_query(
     }
 }
 
-/// The next hit, with its offsets where they are wanted, or `None` where there is none left.
+// The next hit, with its offsets where they are wanted, or `None` where there is none left.
 fn next_hit(
     alloc: Global,
     walk: &mut Matches<'_>,

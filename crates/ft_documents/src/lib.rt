@@ -5,13 +5,13 @@
 mod document_index;
 mod documents;
 mod hits;
+mod index_changes;
 mod lists;
 mod new_documents;
 mod rewrite;
 mod standing_index;
 mod standing_rows;
 mod tables;
-mod term_index;
 mod tokens;
 mod writes;
 

@@ -1,7 +1,7 @@
 //! Index rows, as lists of places by document.
 ghost use Rattle.std.specs.Prelude.{◌≡◌, map, nat_abs, IfOk, OnOk, IsPermutation, IsSorted};
 ghost use Rattle.ft_query.specs.Documents.{plain_list};
-ghost use Rattle.ft_documents.specs.Placed.{place_of, list_of, placed_in, all_in, place_in, placed_cmp, by_docid, is_before, is_in_order, are_in_order, AreListsOf};
+ghost use Rattle.ft_documents.specs.Placed.{place_of, list_of, placed_in, all_in, place_in, placed_cmp, lists_by_docid, is_before, is_in_order, are_in_order, AreListsOf};
 
 use ft_query::{DocList, Place};
 use ft_values::{ListRow, Spot};
@@ -37,14 +37,14 @@ impl Placed {
     }
 }
 
-/// A number of a spot. No index has one below 0.
+// A number of a spot. No index has one below 0.
 fn number(n: i64) -> usize
     ensures { result ≡ nat_abs n }
 {
     n.unsigned_abs() as usize
 }
 
-/// The place of a spot.
+// The place of a spot.
 fn place_of(spot: &Spot) -> Place
     ensures { result ≡ place_of spot.now }
 {
@@ -58,7 +58,7 @@ fn place_of(spot: &Spot) -> Place
 
 // ---- rows in order, each a list
 
-/// Whether a place stands before another of its document.
+// Whether a place stands before another of its document.
 fn is_before(one: &Spot, other: &Spot) -> bool
     ensures { result ≡ is_before (place_of one.now) (place_of other.now) }
 {
@@ -66,7 +66,7 @@ fn is_before(one: &Spot, other: &Spot) -> bool
     column < other_column || (column == other_column && number(one.pos) < number(other.pos))
 }
 
-/// Whether a row has places, in order.
+// Whether a row has places, in order.
 fn is_in_order(row: &ListRow) -> bool
     ensures { result ≡ is_in_order row.now }
 {
@@ -74,7 +74,7 @@ fn is_in_order(row: &ListRow) -> bool
     !spots.is_empty() && spots.is_sorted_by(|one, other| is_before(one, other))
 }
 
-/// Whether rows stand by rising docid, each with places in order.
+// Whether rows stand by rising docid, each with places in order.
 fn are_in_order(rows: &[ListRow]) -> bool
     ensures { result ≡ are_in_order rows.now }
 {
@@ -82,7 +82,7 @@ fn are_in_order(rows: &[ListRow]) -> bool
         && rows.iter().all(|row| is_in_order(row))
 }
 
-/// The lists of rows. Each row goes as its list is made, so that the next list finds its room free.
+// The lists of rows. Each row goes as its list is made, so that the next list finds its room free.
 fn row_lists(alloc: Global, rows: Vec<ListRow>) -> Result<Vec<DocList>, AllocError>
     ensures { IfOk result (λ lists. map plain_list lists.items ≡ map list_of rows.items) }
 {
@@ -97,7 +97,7 @@ fn row_lists(alloc: Global, rows: Vec<ListRow>) -> Result<Vec<DocList>, AllocErr
 
 // ---- rows of several terms, by document
 
-/// The places of rows, one after another.
+// The places of rows, one after another.
 fn places_of(alloc: Global, rows: &[ListRow]) -> Result<Vec<Placed>, AllocError>
     ensures { IfOk result (λ places. places.items ≡ all_in (map list_of rows.now)) }
 {
@@ -110,7 +110,7 @@ fn places_of(alloc: Global, rows: &[ListRow]) -> Result<Vec<Placed>, AllocError>
 }
 
 #[tactic(auto, using(crate::proofs::PlacedLemmas::same_places))]
-/// Puts places in order.
+// Puts places in order.
 fn put_in_order(places: &mut Vec<Placed>) -> Result<(), AllocError>
     ensures { IsPermutation places.old.items places.new.items
         × OnOk result (IsSorted placed_cmp places.new.items) }
@@ -121,9 +121,9 @@ fn put_in_order(places: &mut Vec<Placed>) -> Result<(), AllocError>
     Ok(())
 }
 
-/// A list for each document, of places in order.
+// A list for each document, of places in order.
 fn grouped(alloc: Global, places: &[Placed]) -> Result<Vec<DocList>, AllocError>
-    ensures { IfOk result (λ lists. map plain_list lists.items ≡ by_docid places.now) }
+    ensures { IfOk result (λ lists. map plain_list lists.items ≡ lists_by_docid places.now) }
 {
     let mut lists = Vec::new(alloc);
     let mut rest = places;

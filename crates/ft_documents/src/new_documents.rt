@@ -3,10 +3,10 @@ ghost use Rattle.std.specs.Prelude.{◌≡◌, map, zip, IsTrue};
 ghost use Rattle.std.specs.Ordering.{int_cmp};
 ghost use Rattle.std.specs.FinMap.Entries.{is_sorted};
 ghost use Rattle.ft_content.specs.Content.{Documents};
-ghost use Rattle.ft_content.specs.Deserved.{insert_rows};
+ghost use Rattle.ft_content.specs.Deserved.{inserted_rows};
 ghost use Rattle.ft_content.specs.Views as views;
 ghost use Rattle.ft_content.specs.Views.{cells_of, column_of};
-ghost use Rattle.ft_documents.specs.Inserted.{AreKnown, Makes};
+ghost use Rattle.ft_documents.specs.Inserted.{AreKnown, MakesDocuments};
 
 use crate::rewrite::Rewrite;
 use ft_content::{Column, Fault, Value, docid_for_row, last_docid_after, new_cells, row_docid};
@@ -27,7 +27,7 @@ impl NewDocuments {
     ghost use Rattle.ft_content.specs.Content.{Documents};
     ghost use Rattle.ft_content.specs.Deserved as deserved;
     ghost use Rattle.ft_content.specs.Views.{column_of};
-    ghost use Rattle.ft_documents.specs.NewDocuments.{documents_in, with_new, new_rewrite, AreBeside, Places};
+    ghost use Rattle.ft_documents.specs.NewDocuments.{shown_documents, with_new, new_rewrite, AreBeside, Places};
     ghost use Rattle.ft_documents.specs.Rewrite.{shown_rewrite};
 
     /// Adds the document of a row, whose docid, if it gives one, may be that of a document of the
@@ -40,11 +40,11 @@ impl NewDocuments {
         is_stored: bool,
     ) -> Result<(), Fault>
         ensures { (documents : Documents) → AreBeside documents self.old
-            → IfSome (slice_get (deserved.docids_in
+            → IfSome (slice_get (deserved.docids_named
             (zip (map (λ n. n.now) names.now) (map shown_value row.now))) 0)
             (λ docid. deserved.has_docid documents docid ≡ is_stored)
             → Places documents (deserved.insert_row (with_new self.old documents)
-            (deserved.docids_in (zip (map (λ n. n.now) names.now) (map shown_value row.now)))
+            (deserved.docids_named (zip (map (λ n. n.now) names.now) (map shown_value row.now)))
             (deserved.new_cells (zip (map (λ n. n.now) names.now) (map shown_value row.now))
             (map column_of columns.now))) self.new result }
     {
@@ -60,7 +60,7 @@ impl NewDocuments {
     /// The rewrites that make these documents.
     pub fn into_rewrites(self) -> Result<Vec<Rewrite>, AllocError>
         ensures { IfOk result (λ rewrites. map shown_rewrite rewrites.items
-            ≡ map new_rewrite (documents_in self)) }
+            ≡ map new_rewrite (shown_documents self)) }
     {
         self.documents
             .into_iter()
@@ -84,7 +84,7 @@ pub fn made_documents(
         → views.last_docid documents ≡ last
         → AreKnown documents (map (zip (map (λ n. n.now) names.now)) (map cells_of rows.now))
         stored.now
-        → Makes documents (insert_rows (map column_of columns.now)
+        → MakesDocuments documents (inserted_rows (map column_of columns.now)
         (map (zip (map (λ n. n.now) names.now)) (map cells_of rows.now)) documents) result }
 {
     let mut new = NewDocuments {

@@ -6,13 +6,14 @@ ghost use Rattle.ft_values.specs.Cells.{shown_value};
 ghost use Rattle.ft_rows.specs.Changes.{shown_change, CanApply};
 ghost use Rattle.ft_content.specs.Views.{cells_of, column_of};
 ghost use Rattle.ft_documents.specs.Tables.{IsOfDocids};
-ghost use Rattle.ft_documents.specs.Rewrite.{shown_rewrite, docids_of, by_docid, AreRight, AreNew, FitIfAny, IsSmall};
+ghost use Rattle.ft_documents.specs.Rewrite.{shown_rewrite, rewritten_docids, under_docids, AreRight, AreNew, FitIfAny, IsSmall};
 ghost use Rattle.ft_documents.specs.Rewrite as texts;
 ghost use Rattle.std.specs.Vec.{vec_items};
 ghost use Rattle.std.specs.List.{flat_map};
 ghost use Rattle.ft_documents.specs.RewriteRows as rows;
 
 use crate::document_index::DocumentIndex;
+use crate::index_changes::{drop_lists, drop_sizes, posting_lists, put_lists, put_sizes};
 use ft_content::{Column, Value};
 use ft_values::RowChange;
 use std::alloc::{AllocError, Global};
@@ -52,13 +53,13 @@ pub fn row_changes(
     ensures right { IfOk result (λ changes. AreRight tab (map column_of columns.now)
         (map shown_rewrite rewrites.items) (map shown_change changes.items)) }
     ensures packable { IfOk result (λ changes. length columns.now ≤ 100
-        → IsTrue (is_sorted int_cmp (by_docid (map shown_rewrite rewrites.items)))
+        → IsTrue (is_sorted int_cmp (under_docids (map shown_rewrite rewrites.items)))
         → All (FitIfAny (length columns.now)) (map shown_rewrite rewrites.items)
         → All CanApply changes.items) }
     ensures new { IfOk result (λ changes. AreNew tab (map column_of columns.now)
         (map shown_rewrite rewrites.items) (map shown_change changes.items)) }
     ensures near { IfOk result (λ changes. All
-        (IsOfDocids tab (docids_of (map shown_rewrite rewrites.items)))
+        (IsOfDocids tab (rewritten_docids (map shown_rewrite rewrites.items)))
         (map shown_change changes.items)) }
 {
     let mut changes = Vec::new(alloc);
@@ -72,10 +73,17 @@ pub fn row_changes(
         }
     }
     put_documents(alloc, &mut changes, tab, rewrites)?;
-    old.drop_lists(&mut changes, tab, &new)?;
-    old.put_lists(&mut changes, tab, new.lists)?;
-    old.drop_sizes(&mut changes, tab, &new.sizes)?;
-    old.put_sizes(&mut changes, tab, &new.sizes)?;
+    let old_lists = posting_lists(alloc, old.terms)?;
+    let new_lists = posting_lists(alloc, new.terms)?;
+    drop_lists(
+        &mut changes,
+        tab,
+        old_lists.as_slice(),
+        new_lists.as_slice(),
+    )?;
+    put_lists(&mut changes, tab, old_lists.as_slice(), new_lists)?;
+    drop_sizes(&mut changes, tab, &old.sizes, &new.sizes)?;
+    put_sizes(&mut changes, tab, &old.sizes, &new.sizes)?;
     Ok(changes)
 }
 

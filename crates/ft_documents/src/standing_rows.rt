@@ -31,10 +31,10 @@ fn follows(place: usize, last: Option<i64>, cell: &CellRow) -> bool
         && stands_after(place, last, cell.docid)
 }
 
-/// Whether cells are those of documents with so many columns, by rising docid.
+// Whether cells are those of documents with so many columns, by rising docid.
 fn are_documents(width: usize, cells: &[CellRow]) -> bool
     requires { (0 < width) × (width ≤ 100) }
-    ensures { IsTrue result ↔ standing.AreDocuments width (map standing.shown_row cells.now) }
+    ensures { IsTrue result ↔ standing.AreDocumentCells width (map standing.shown_row cells.now) }
 {
     let mut place = 0;
     let mut last = None;
@@ -51,7 +51,7 @@ fn are_documents(width: usize, cells: &[CellRow]) -> bool
 /// The columns of a table that is listed.
 pub fn listed_columns(alloc: Global, table: &TabRow) -> Result<Vec<Column>, AllocError>
     ensures { IfOk result (λ columns. map column_of columns.items
-        ≡ standing.columns_in (standing.listed_rows table.now [])) }
+        ≡ standing.columns_said (standing.listed_rows table.now [])) }
 {
     let mut columns = Vec::new(alloc);
     for column in table.columns.as_slice() {
@@ -64,7 +64,7 @@ pub fn listed_columns(alloc: Global, table: &TabRow) -> Result<Vec<Column>, Allo
 
 // Whether columns are numbered from 0 on.
 fn are_numbered(columns: &[(i64, String)]) -> bool
-    ensures { result ≡ standing.numbered_from 0 (map standing.shown_column columns.now) }
+    ensures { result ≡ standing.numbered_from 0 (map standing.numbered_column columns.now) }
 {
     for (place, column) in columns.iter().enumerate() {
         if column.0 != place as i64 {
@@ -92,7 +92,7 @@ pub fn is_content(
     columns: &[Column],
     cells: &[CellRow],
 ) -> Result<bool, AllocError>
-    ensures { map column_of columns.now ≡ standing.columns_in (standing.listed_rows table.now [])
+    ensures { map column_of columns.now ≡ standing.columns_said (standing.listed_rows table.now [])
         → IfOk result (λ b. IsTrue b ↔ standing.AreContent (string_bytes table.now.name)
         (standing.listed_rows table.now cells.now)) }
 {

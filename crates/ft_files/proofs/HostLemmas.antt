@@ -12,13 +12,13 @@ use Rattle.sqlite.specs.Held.{Held, IsNew}
 use Rattle.sqlite.specs.State.{HasCleanDisk}
 use Rattle.ft_store.specs.declared.fault.StoreFault.{StoreFault}
 use Rattle.ft_store.specs.declared.fault.StoreFault.TheVariants as store
-use Rattle.ft_store.specs.Adopted.{IsNotTaken, IsTaken, LeavesMade}
+use Rattle.ft_store.specs.Adopted.{IsNotTaken, IsTakenAsStore, LeavesMade}
 use Rattle.ft_store.specs.Kept.{StoreState}
 use Rattle.ft_store.specs.Opened.{IsNewFrom}
 use Rattle.ft_files.specs.declared.databases.OpenFault.{OpenFault}
 use Rattle.ft_files.specs.declared.databases.OpenFault.TheVariants as fault
 use Rattle.ft_files.specs.Hosts.{IsHeld, IsLeft, IsLetGo, Names, OpensBothIn, OpensPlainIn, OpensStoreIn, Stay, StayBut, files_in}
-use Rattle.ft_files.specs.Opening.{fault_of}
+use Rattle.ft_files.specs.Opening.{open_fault_of}
 
 -- one name after another
 abbrev pub but_then : (tells : Bool) (name : List ℕ) (old mid new : Names) → (IsTrue tells → StayBut name old mid) → (IsTrue tells → StayBut name mid new) → IsTrue tells → StayBut name old new
@@ -43,7 +43,7 @@ module _ {D : Type 0} (g : disk.Ghosts D) (tells : Bool) where
 
   -- ---- the store
 
-  pub refuses_store : (name : List ℕ) (old mid new : Names) (why : OpenFault) → why ≡ fault_of store.Refused → (IsTrue tells → Stay old mid) → (IsTrue tells → IsLetGo g (mid name) (new name)) → (IsTrue tells → StayBut name mid new) →
+  pub refuses_store : (name : List ℕ) (old mid new : Names) (why : OpenFault) → why ≡ open_fault_of store.Refused → (IsTrue tells → Stay old mid) → (IsTrue tells → IsLetGo g (mid name) (new name)) → (IsTrue tells → StayBut name mid new) →
       OpensStoreIn g tells name old new (Err why)
   refuses_store name old mid new why is stay gone others = record {
     opened = tt;
@@ -53,7 +53,7 @@ module _ {D : Type 0} (g : disk.Ghosts D) (tells : Bool) where
   }
 
   pub takes_store : (name : List ℕ) (old mid new : Names) (conn : Held (FileStore D g)) (made : StoreState (FileStore D g)) → (IsTrue tells → Stay old mid) → (image : Image) → IsHeld tells (mid name) image → IsNewFrom image conn →
-      IsTaken over_files conn made.held → LeavesMade over_files conn made.held → made.rows_read ≡ 0 → (IsTrue tells → StayBut name mid new) → OpensStoreIn g tells name old new (Ok made)
+      IsTakenAsStore over_files conn made.held → LeavesMade over_files conn made.held → made.rows_read ≡ 0 → (IsTrue tells → StayBut name mid new) → OpensStoreIn g tells name old new (Ok made)
   takes_store name old mid new conn made stay image held found taken left unread others = record {
     opened = (image, (λ t. held t ∙ stay t name), record { opened = record { conn = conn; fresh = found.fresh; opened = found.opened; found = found.found; taken = taken; left = left }; unread = unread });
     refused = tt;
@@ -65,7 +65,7 @@ module _ {D : Type 0} (g : disk.Ghosts D) (tells : Bool) where
   abbrev pub ClosesIn : List ℕ → Names → Held (FileStore D g) → Type 0
   ClosesIn name new conn = (left : Result (Files D) (Files D)) × IsLeft conn left × (new name ≡ image_of g (files_in left))
 
-  pub takes_no_store : (name : List ℕ) (old mid last new : Names) (conn after : Held (FileStore D g)) (cause : StoreFault) (why : OpenFault) → why ≡ fault_of cause → (IsTrue tells → Stay old mid) → (image : Image) → IsHeld tells (mid name) image → IsNewFrom image conn →
+  pub takes_no_store : (name : List ℕ) (old mid last new : Names) (conn after : Held (FileStore D g)) (cause : StoreFault) (why : OpenFault) → why ≡ open_fault_of cause → (IsTrue tells → Stay old mid) → (image : Image) → IsHeld tells (mid name) image → IsNewFrom image conn →
       IsNotTaken over_files conn after cause → LeavesMade over_files conn after → (IsTrue tells → ClosesIn name new after) → (IsTrue tells → StayBut name mid last) → (IsTrue tells → StayBut name last new) → OpensStoreIn g tells name old new (Err why)
   takes_no_store name old mid last new conn after cause why is stay image held found refused left closes first second =
       let same : IsTrue tells → image ≡ old name = λ t. held t ∙ stay t name in
@@ -82,7 +82,7 @@ module _ {D : Type 0} (g : disk.Ghosts D) (tells : Bool) where
     swapped : beside ≢ path
     swapped is = are_apart (sym is)
 
-    pub names_refuse : (old mid new : Names) (why : OpenFault) → why ≡ fault_of store.Refused → (IsTrue tells → Stay old mid) → (IsTrue tells → Stay mid new) → OpensBothIn g tells path beside old new (Err why)
+    pub names_refuse : (old mid new : Names) (why : OpenFault) → why ≡ open_fault_of store.Refused → (IsTrue tells → Stay old mid) → (IsTrue tells → Stay mid new) → OpensBothIn g tells path beside old new (Err why)
     names_refuse old mid new why is first second = record {
       plain = tt;
       store = tt;

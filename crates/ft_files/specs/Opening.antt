@@ -20,10 +20,10 @@ use Rattle.ft_files.specs.declared.databases.OpenFault.{OpenFault}
 use Rattle.ft_files.specs.declared.databases.OpenFault.TheVariants as fault
 
 -- why a store is not opened: it is none, or of a version that is not taken, or no more is known
-abbrev pub fault_of : StoreFault → OpenFault
-fault_of store.NotAStore = fault.NotAStore
-fault_of (store.Version n) = fault.Version n
-fault_of _ = fault.Store
+abbrev pub open_fault_of : StoreFault → OpenFault
+open_fault_of store.NotAStore = fault.NotAStore
+open_fault_of (store.Version n) = fault.Version n
+open_fault_of _ = fault.Store
 
 -- where the file of a name lies: one that begins with `file:` is no URI
 abbrev pub file_path : List ℕ → List ℕ
@@ -69,7 +69,7 @@ pub record IsStoreFrom {D : Type 0} {g : disk.Ghosts D} (image : Image) (store :
 -- why it is not opened: a plain fault, or the database that is found in them is not taken as a
 -- store
 abbrev pub IsNoStoreFor : {D : Type 0} → disk.Ghosts D → Image → OpenFault → Type 0
-IsNoStoreFor g image f = (cause : StoreFault) × (f ≡ fault_of cause) × (IsPlainFault cause ⊎ IsNotTakenFrom g image cause)
+IsNoStoreFor g image f = (cause : StoreFault) × (f ≡ open_fault_of cause) × (IsPlainFault cause ⊎ IsNotTakenFrom g image cause)
 
 -- both databases, empty and in memory
 pub record OpensMemory {P S : Type 0} (g : Ghosts P) (h : Ghosts S) (result : Result (Held P × StoreState S) OpenFault) : Type 0 where

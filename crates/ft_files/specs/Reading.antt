@@ -11,10 +11,10 @@ abbrev pub unknown_files : Files
 unknown_files name = record { bytes = None; may_refuse = λ fault. true }
 
 -- which fault stands for a reader's own
-abbrev pub fault_of : ErrorKind → SourceFault
-fault_of kind.NotFound = fault.Missing
-fault_of kind.OutOfMemory = fault.Memory
-fault_of _ = fault.Read
+abbrev pub source_fault_of : ErrorKind → SourceFault
+source_fault_of kind.NotFound = fault.Missing
+source_fault_of kind.OutOfMemory = fault.Memory
+source_fault_of _ = fault.Read
 
 -- the bytes are all that a reader had, where these are known, and at most 64 MiB
 abbrev pub AreAll : Option (List ℕ) → List ℕ → Type 0
@@ -22,7 +22,7 @@ AreAll known bytes = (length bytes ≤ 2 ^ 26) × IfSome known (λ all. bytes �
 
 -- It is too big only where the reader had more; any other fault is one of its own.
 abbrev pub IsRefused : Option (List ℕ) → SourceFault → Type 0
-IsRefused known why = ((why ≡ fault.TooBig) × IfSome known (λ all. 2 ^ 26 < length all)) ⊎ ((own : ErrorKind) × (why ≡ fault_of own))
+IsRefused known why = ((why ≡ fault.TooBig) × IfSome known (λ all. 2 ^ 26 < length all)) ⊎ ((own : ErrorKind) × (why ≡ source_fault_of own))
 
 -- the bytes of a reader that had these, where they are known, or why they are refused
 pub record ReadsAll {A : Type 0} (known : Option (List ℕ)) (result : Result (Vec ℕ A) SourceFault) : Type 0 where

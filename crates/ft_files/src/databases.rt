@@ -20,9 +20,9 @@ pub enum OpenFault {
     Store,
 }
 
-// Why a store is not opened.
+/// Why a store is not opened.
 pub(crate) fn store_fault(cause: StoreFault) -> OpenFault
-    ensures { result ≡ forms.fault_of cause }
+    ensures { result ≡ forms.open_fault_of cause }
 {
     match cause {
         StoreFault::NotAStore => OpenFault::NotAStore,

@@ -21,7 +21,7 @@ pub struct SystemFiles<'a> {
 
 // Why a file that isn't opened or read is not there.
 fn fault_of(error: io::Error) -> SourceFault
-    ensures { result ≡ forms.fault_of (error_kind error) }
+    ensures { result ≡ forms.source_fault_of (error_kind error) }
 {
     match error.kind() {
         ErrorKind::NotFound => SourceFault::Missing,

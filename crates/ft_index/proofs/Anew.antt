@@ -17,13 +17,13 @@ use Rattle.ft_content.specs.Views.{TableInfo, shown_info}
 use Rattle.ft_content.specs.Deserved.{TableState, Sound, Contents}
 use Rattle.ft_content.specs.Step.{with_documents, on_table}
 use Rattle.ft_documents.specs.Found.{IsSoundNamed}
-use Rattle.ft_documents.specs.Rewrite.{Rewrite, AreOf, AreRight, HasContent, docids_of, rewritten, rewritten_content, shown_rewrite}
+use Rattle.ft_documents.specs.Rewrite.{Rewrite, AreOf, AreRight, HasContent, rewritten_docids, rewritten, rewritten_content, shown_rewrite}
 use Rattle.ft_documents.specs.Tables.{table_rows, table_index, IsOfDocids}
 use Rattle.ft_documents.proofs.AddLemmas.{bare, added_rows, added_index}
 use Rattle.ft_documents.proofs.KeyedRows.{true_of, of_true, same_int, turned_round, sorted_put}
 use Rattle.ft_documents.proofs.StoreKeys.{column_total, column_exact}
 use Rattle.ft_index.specs.declared.written.Written.{Written}
-use Rattle.ft_index.specs.Kept.{Reaches, AreHeld, KeepsOthers, StoreHolds, Stands, held_columns, table_info}
+use Rattle.ft_index.specs.Kept.{ReachesStep, AreHeld, KeepsOthers, StoreHolds, Stands, held_columns, table_info}
 use Rattle.ft_index.specs.Opened.{IsNamed}
 use Rattle.ft_index.specs.Written.{MakeTable}
 use Rattle.ft_index.proofs.CheckLemmas.{IsTold, told_here}
@@ -96,13 +96,13 @@ module _ (name : List ℕ) (columns : List Column) (id : ℤ) (store : StoreValu
   }
 
   -- what documents make of it that are put into it
-  anew_right : (rewrites : List Rewrite) (changes : List Change) → IsContent name (bare columns) → AreOf (bare columns) rewrites → AreRight id columns rewrites changes → All (IsOfDocids id (docids_of rewrites)) changes →
+  anew_right : (rewrites : List Rewrite) (changes : List Change) → IsContent name (bare columns) → AreOf (bare columns) rewrites → AreRight id columns rewrites changes → All (IsOfDocids id (rewritten_docids rewrites)) changes →
       LeavesRest id store (all_applied changes first) × (table_rows id (all_applied changes first) ≡ content_rows (rewritten_content rewrites (bare columns))) × (table_index id (all_applied changes first) ≡ index_rows (rewritten_content rewrites (bare columns)))
   anew_right rewrites changes is are right near =
       let has : HasContent name (bare columns) id first = record { order = first_order; is_content = is; rows = added_rows id name columns store order; index = added_index id name columns store } in
       let done = right name (bare columns) first has refl are in
       let spares = add_spares id name (names_of columns) (skipped_from 0 columns) store in
-      let rest = leaves_rest id (docids_of rewrites) changes first (recursion_from_All (IsOfDocids id (docids_of rewrites)) changes near) in (
+      let rest = leaves_rest id (rewritten_docids rewrites) changes first (recursion_from_All (IsOfDocids id (rewritten_docids rewrites)) changes near) in (
         record {
           others = record { rows = λ other apart. rest.others.rows other apart ∙ spares.rows other apart; index = λ other apart. rest.others.index other apart ∙ spares.index other apart };
           tables = rest.tables ∙ same_tables;
@@ -119,11 +119,11 @@ anew_change known = AddTable known.id known.name (names_of known.columns) (skipp
 module _ (store : StoreValue) (tables : List TableInfo) (contents : Contents) (name : List ℕ) (known : TableInfo) (order : AreInOrder store) (held : AreHeld store tables contents) (t : IsTold store contents name known) where
   -- So a table that is told and is made anew with the documents of a content holds the content.
   pub anew_holds : (content : Content) (rewrites : List Rewrite) (changes : List Change) (change : TableState → TableState) → IsContent t.table.1.name content → held_columns t.table.1.held ≡ content.columns → AreOf (bare content.columns) rewrites → rewritten rewrites [] ≡ content.documents → change t.table.1.held ≡ Sound content →
-      AreRight known.id known.columns rewrites changes → All (IsOfDocids known.id (docids_of rewrites)) changes → StoreHolds (all_applied (anew_change known ∷ changes) store) (on_table contents name change) × KeepsOthers store (all_applied (anew_change known ∷ changes) store)
+      AreRight known.id known.columns rewrites changes → All (IsOfDocids known.id (rewritten_docids rewrites)) changes → StoreHolds (all_applied (anew_change known ∷ changes) store) (on_table contents name change) × KeepsOthers store (all_applied (anew_change known ∷ changes) store)
   anew_holds content rewrites changes change is columns_are are made changed = subst Holds t.told (subst (λ cs. Holds (record (table_info t.table) { columns = cs })) (sym columns_are) here)
     where
       Holds : TableInfo → Type 0
-      Holds k = AreRight k.id k.columns rewrites changes → All (IsOfDocids k.id (docids_of rewrites)) changes → StoreHolds (all_applied (anew_change k ∷ changes) store) (on_table contents name change) × KeepsOthers store (all_applied (anew_change k ∷ changes) store)
+      Holds k = AreRight k.id k.columns rewrites changes → All (IsOfDocids k.id (rewritten_docids rewrites)) changes → StoreHolds (all_applied (anew_change k ∷ changes) store) (on_table contents name change) × KeepsOthers store (all_applied (anew_change k ∷ changes) store)
 
       named : IsNamed store t.table.0 (t.table.0, t.table.1.name)
       named = subst (λ k. IsNamed store k (t.table.0, t.table.1.name)) (ap (λ (k : TableInfo). k.id) (sym t.told)) t.named
@@ -146,7 +146,7 @@ none_stay [] = refl
 none_stay (d ∷ ds) = none_stay ds
 
 pub delete_reaches : {written : Written} (store : StoreValue) (tables : List TableInfo) (contents : Contents) (name : List ℕ) (changes : List Change) → MakeTable written changes → AreInOrder store → AreHeld store tables contents → IsSoundNamed tables name (shown_info written.table.now) →
-    map shown_rewrite written.rewrites.items ≡ [] → Reaches contents (Delete name plain.All) store changes
+    map shown_rewrite written.rewrites.items ≡ [] → ReachesStep contents (Delete name plain.All) store changes
 delete_reaches {written} store tables contents name changes makes order held named none =
     let f : Filter = plain.All in
     let known = shown_info written.table.now in
@@ -157,8 +157,8 @@ delete_reaches {written} store tables contents name changes makes order held nam
     let fits : AreOf (bare content.columns) [] = record { rising = refl; befores = All-nil _; afters = All-nil _ } in
     let done = anew_holds store tables contents name known order held t (bare content.columns) [] makes.rest (with_documents (made f)) (bare_content t.table.1.name content stands.0) (ap held_columns sound.1) fits refl
     (ap (with_documents (made f)) sound.1 ∙ ap (λ ds. Sound (record content { documents = ds })) (none_stay content.documents))
-    (subst (λ rs. AreRight known.id known.columns rs makes.rest) none makes.of_written.0) (subst (λ rs. All (IsOfDocids known.id (docids_of rs)) makes.rest) none makes.of_written.1) in
-    subst (Reaches contents (Delete name f) store) (sym makes.are) (
+    (subst (λ rs. AreRight known.id known.columns rs makes.rest) none makes.of_written.0) (subst (λ rs. All (IsOfDocids known.id (rewritten_docids rs)) makes.rest) none makes.of_written.1) in
+    subst (ReachesStep contents (Delete name f) store) (sym makes.are) (
       (is_write f name).deserves contents ∙ sound_is contents name known (record { table = t.table; found = t.found; content = content; held = sound.1; told = t.told }) (due f),
       subst (StoreHolds (all_applied (anew_change known ∷ makes.rest) store)) (sym (leaves f name contents)) done.0,
       done.1,

@@ -44,7 +44,7 @@ use Rattle.ft_documents.specs.Found.{IsSoundNamed, info_named}
 use Rattle.ft_index.specs.Kept.{AreHeld, BlamesStore, held_columns}
 use Rattle.ft_index.proofs.InsertHolds.{sound_rows}
 use Rattle.ft_index.proofs.KnownLemmas.{sound_table}
-use Rattle.ft_index.specs.Walked.{IsIndexed, Reads, Fails, FailsIf}
+use Rattle.ft_index.specs.Walked.{IsIndexed, ReadsStore, Fails, FailsIf}
 use Rattle.ft_index.proofs.Pinging.{is_refused}
 use Rattle.ft_index.proofs.ReadsLemmas.{all_read}
 use Rattle.ft_index.proofs.RowStateReads.{blamed_after}
@@ -161,7 +161,7 @@ read_failed g a b e read asked failed failed_now was (inr bad) blames damaged wh
 -- ---- calls of lists one after another
 
 module _ {X S : Type 0} (g : Ghosts S) (Becomes : X → Bool → X → Type 0) (store : X → StoreState S) (given : X → ℕ) (tab : X → ℤ) (failed : X → Bool)
-    (reads : (x : X) (all : Bool) (y : X) → Becomes x all y → Reads g (store x) (given x) all (store y) (given y))
+    (reads : (x : X) (all : Bool) (y : X) → Becomes x all y → ReadsStore g (store x) (given x) all (store y) (given y))
     (stays : (x : X) (all : Bool) (y : X) → Becomes x all y → tab y ≡ tab x)
     (fails : (x : X) (all : Bool) (y : X) → Becomes x all y → FailsIf g (tab x) (store x) (failed x) all (store y) (failed y)) where
   pub all_fails : (x : X) (all : Bool) (y : X) → Reaches Becomes x all y → Fails g (tab x) (store x) (failed x) (store y) (failed y)

@@ -11,9 +11,9 @@ use Rattle.sqlite.specs.Store.{Ghosts}
 use Rattle.sqlite.specs.Tree.{Trees}
 use Rattle.ft_rows.specs.Store.{StoreValue, applied, Note}
 use Rattle.ft_store.specs.Kept.{shows}
-use Rattle.ft_index.specs.Kept.{StoreHolds, FullText, IsUp, value_of, Holds, Answers, is_outside}
+use Rattle.ft_index.specs.Kept.{StoreHolds, FullText, IsUp, store_value, Holds, Answers, is_outside}
 use Rattle.ft_index.specs.Refused.{BlamesCommand}
-use Rattle.ft_index.specs.Crashes.{HoldsLeft, IsSettled, CommitsCommand, CommitsNote, Name}
+use Rattle.ft_index.specs.Crashes.{HoldsLeft, SurvivesCrash, CommitsCommand, CommitsNote, Name}
 use Rattle.ft_index.specs.Called.{Call, Executed, Looked, Noted, DoesCall, Runs, is_answered, accepted, left_by, with_name, noted_by, contents_with, names_with, AreAnswered, StandsAfter, LeftAfter, at_rest, running, KeptByCalls}
 
 -- a step that is done leaves what comes after it, and one that is refused leaves the contents
@@ -78,7 +78,7 @@ module _ {S : Type 0} (g : Ghosts S) where
   call_live old new (Noted name is_done) does done clean = record { clean = clean; is_open = does.1.live clean done }
   call_live old new (Looked is_done) does done clean = record { clean = clean; is_open = does.1.live clean done }
 
-  call_settled : (old new : FullText S) (call : Call) → DoesCall g old call new → IsSettled g new
+  call_settled : (old new : FullText S) (call : Call) → DoesCall g old call new → SurvivesCrash g new
   call_settled old new (Executed command answer) does = does.1.settled
   call_settled old new (Noted name is_done) does = does.1.settled
   call_settled old new (Looked is_done) does = does.1.settled
@@ -89,15 +89,15 @@ module _ {S : Type 0} (g : Ghosts S) where
 
   -- a note changes no table
   note_holds : (old new : FullText S) (name : List ℕ) (is_done : Bool) (contents : Contents) →
-      value_of g new ≡ cond is_done (applied (Note name) (value_of g old)) (value_of g old) → new.tables ≡ old.tables → Holds g old contents → Holds g new contents
+      store_value g new ≡ cond is_done (applied (Note name) (store_value g old)) (store_value g old) → new.tables ≡ old.tables → Holds g old contents → Holds g new contents
   note_holds old new name is_done contents value tables h = record {
     named_once = h.named_once;
-    held = subst (λ v. StoreHolds v contents) (sym value) (elim is_done as (λ b. StoreHolds (cond b (applied (Note name) (value_of g old)) (value_of g old)) contents) [ true ↦ h.held | false ↦ h.held ]);
+    held = subst (λ v. StoreHolds v contents) (sym value) (elim is_done as (λ b. StoreHolds (cond b (applied (Note name) (store_value g old)) (store_value g old)) contents) [ true ↦ h.held | false ↦ h.held ]);
     told = tables ∙ h.told;
   }
 
-  name_noted : (old new : FullText S) (name : List ℕ) (is_done : Bool) → value_of g new ≡ cond is_done (applied (Note name) (value_of g old)) (value_of g old) →
-      (value_of g new).noted ≡ cond is_done (with_name name (value_of g old).noted) (value_of g old).noted
+  name_noted : (old new : FullText S) (name : List ℕ) (is_done : Bool) → store_value g new ≡ cond is_done (applied (Note name) (store_value g old)) (store_value g old) →
+      (store_value g new).noted ≡ cond is_done (with_name name (store_value g old).noted) (store_value g old).noted
   name_noted old new name true is = ap (λ (v : StoreValue). v.noted) is
   name_noted old new name false is = ap (λ (v : StoreValue). v.noted) is
 
@@ -122,7 +122,7 @@ module _ {S : Type 0} (g : Ghosts S) where
     told = does.0.tables ∙ holds.told;
   }
 
-  call_names : (old new : FullText S) (call : Call) (first : Contents) → DoesCall g old call new → IsUp g new → Holds g old first → (value_of g new).noted ≡ names_next (value_of g old).noted call
+  call_names : (old new : FullText S) (call : Call) (first : Contents) → DoesCall g old call new → IsUp g new → Holds g old first → (store_value g new).noted ≡ names_next (store_value g old).noted call
   call_names old new (Executed command answer) first does up holds = (does.0.others up first holds).noted
   call_names old new (Noted name is_done) first does up holds = name_noted old new name is_done (does.0.noted up)
   call_names old new (Looked is_done) first does up holds = ap (λ (v : StoreValue). v.noted) (does.0.value up)
@@ -144,9 +144,9 @@ module _ {S : Type 0} (g : Ghosts S) where
   answered_more first old new (Looked is_done) calls does up holds rest = rest
 
   -- what stands after calls, where the store is up
-  stands_up : (start end : FullText S) (calls : List Call) (first : Contents) → IsUp g end → Holds g start first → Runs g start calls end → StandsAfter g first (value_of g start).noted calls end
+  stands_up : (start end : FullText S) (calls : List Call) (first : Contents) → IsUp g end → Holds g start first → Runs g start calls end → StandsAfter g first (store_value g start).noted calls end
   unfolding left_by AreAnswered
-  stands_up start end [] first up holds same = record { up = up; holds = subst (λ k. Holds g k first) (sym same) holds; noted = ap (λ (k : FullText S). (value_of g k).noted) same; answered = tt }
+  stands_up start end [] first up holds same = record { up = up; holds = subst (λ k. Holds g k first) (sym same) holds; noted = ap (λ (k : FullText S). (store_value g k).noted) same; answered = tt }
   stands_up start end (call ∷ calls) first up holds runs =
       let up_now = up_before runs.0 end calls up runs.2 in
       let held = call_holds start runs.0 call first runs.1 up_now holds in
@@ -154,13 +154,13 @@ module _ {S : Type 0} (g : Ghosts S) where
       record {
         up = up;
         holds = subst (Holds g end) (left_after first call calls) rest.holds;
-        noted = rest.noted ∙ ap (λ names. noted_by names calls) (call_names start runs.0 call first runs.1 up_now holds) ∙ names_after (value_of g start).noted call calls;
+        noted = rest.noted ∙ ap (λ names. noted_by names calls) (call_names start runs.0 call first runs.1 up_now holds) ∙ names_after (store_value g start).noted call calls;
         answered = answered_more first start runs.0 call calls runs.1 up_now holds rest.answered;
       }
 
   -- after a call that was answered
   stands_behind : (start end : FullText S) (calls before more : List Call) (call : Call) (first : Contents) → IsCleanAt end → Holds g start first → Runs g start calls end → calls ≡ before ++ call ∷ more → is_answered call ≡ true →
-      (mid : FullText S) × Runs g start (before ++ call ∷ []) mid × Runs g mid more end × StandsAfter g first (value_of g start).noted (before ++ call ∷ []) mid
+      (mid : FullText S) × Runs g start (before ++ call ∷ []) mid × Runs g mid more end × StandsAfter g first (store_value g start).noted (before ++ call ∷ []) mid
   stands_behind start end calls before more call first clean holds runs is done =
       let cut = runs_split start end (before ++ call ∷ []) more (subst (λ cs. Runs g start cs end) (is ∙ sym (append_assoc before (call ∷ []) more)) runs) in
       let last = runs_split start cut.0 before (call ∷ []) cut.1 in
@@ -169,7 +169,7 @@ module _ {S : Type 0} (g : Ghosts S) where
       (cut.0, cut.1, cut.2, stands_up start cut.0 (before ++ call ∷ []) first up holds cut.1)
 
   refused_behind : (start end : FullText S) (calls before more : List Call) (command : Command) (fault : Fault) → Runs g start calls end → calls ≡ before ++ Executed command (Err fault) ∷ more →
-      (was now : FullText S) × Runs g start before was × Runs g now more end × (IsUp g now → (value_of g now ≡ value_of g was) × (now.tables ≡ was.tables)) × BlamesCommand g was command (Err fault) now
+      (was now : FullText S) × Runs g start before was × Runs g now more end × (IsUp g now → (store_value g now ≡ store_value g was) × (now.tables ≡ was.tables)) × BlamesCommand g was command (Err fault) now
   refused_behind start end calls before more command fault runs is =
       let cut = runs_split start end before (Executed command (Err fault) ∷ more) (subst (λ cs. Runs g start cs end) is runs) in
       (cut.0, cut.2.0, cut.1, cut.2.2, λ up. cut.2.1.0.unchanged refl up, cut.2.1.2)
@@ -228,22 +228,22 @@ module _ {S : Type 0} (g : Ghosts S) where
   refused_left first names (Looked false ∷ calls) none = refused_left first names calls none
 
   -- what a call commits
-  call_commits : (old new : FullText S) (call : Call) (first : Contents) → DoesCall g old call new → Holds g old first → IsSettled g old → IsUp g old → IsCleanAt new → (db : Trees) → (shows g new.store).may_leave db →
-      HoldsLeft first (value_of g old).noted db ⊎ HoldsLeft (contents_with call first) (names_with call (value_of g old).noted) db
+  call_commits : (old new : FullText S) (call : Call) (first : Contents) → DoesCall g old call new → Holds g old first → SurvivesCrash g old → IsUp g old → IsCleanAt new → (db : Trees) → (shows g new.store).may_leave db →
+      HoldsLeft first (store_value g old).noted db ⊎ HoldsLeft (contents_with call first) (names_with call (store_value g old).noted) db
   call_commits old new (Executed command answer) first does holds settled up clean db may = go (does.1.survives.crash clean db may)
     where
-      go : (shows g old.store).may_leave db ⊎ (IsUp g old × CommitsCommand g old command db) → HoldsLeft first (value_of g old).noted db ⊎ HoldsLeft (step first command).1 (value_of g old).noted db
-      go (inl kept) = inl (record { left = value_of g old; stored = settled up db kept; held = holds.held; noted = refl })
+      go : (shows g old.store).may_leave db ⊎ (IsUp g old × CommitsCommand g old command db) → HoldsLeft first (store_value g old).noted db ⊎ HoldsLeft (step first command).1 (store_value g old).noted db
+      go (inl kept) = inl (record { left = store_value g old; stored = settled up db kept; held = holds.held; noted = refl })
       go (inr commits) = inr (commits.1 commits.0 first holds)
   call_commits old new (Noted name is_done) first does holds settled up clean db may = go (does.1.survives.crash clean db may)
     where
-      go : (shows g old.store).may_leave db ⊎ (IsUp g old × CommitsNote g old name db) → HoldsLeft first (value_of g old).noted db ⊎ HoldsLeft first (with_name name (value_of g old).noted) db
-      go (inl kept) = inl (record { left = value_of g old; stored = settled up db kept; held = holds.held; noted = refl })
-      go (inr commits) = inr (record { left = applied (Note name) (value_of g old); stored = commits.1 commits.0; held = holds.held; noted = refl })
+      go : (shows g old.store).may_leave db ⊎ (IsUp g old × CommitsNote g old name db) → HoldsLeft first (store_value g old).noted db ⊎ HoldsLeft first (with_name name (store_value g old).noted) db
+      go (inl kept) = inl (record { left = store_value g old; stored = settled up db kept; held = holds.held; noted = refl })
+      go (inr commits) = inr (record { left = applied (Note name) (store_value g old); stored = commits.1 commits.0; held = holds.held; noted = refl })
   call_commits old new (Looked is_done) first does holds settled up clean db may = go (does.1.survives.crash clean db may)
     where
-      go : (shows g old.store).may_leave db ⊎ (IsUp g old × ⊥) → HoldsLeft first (value_of g old).noted db ⊎ HoldsLeft first (value_of g old).noted db
-      go (inl kept) = inl (record { left = value_of g old; stored = settled up db kept; held = holds.held; noted = refl })
+      go : (shows g old.store).may_leave db ⊎ (IsUp g old × ⊥) → HoldsLeft first (store_value g old).noted db ⊎ HoldsLeft first (store_value g old).noted db
+      go (inl kept) = inl (record { left = store_value g old; stored = settled up db kept; held = holds.held; noted = refl })
       go (inr nothing) = absurd nothing.1
 
   -- one call more in front
@@ -253,21 +253,21 @@ module _ {S : Type 0} (g : Ghosts S) where
       running (call ∷ front) more one (ap (λ cs. call ∷ cs) is) none
       (subst₂ (λ c n. HoldsLeft (contents_with one c) (names_with one n) db) (left_after first call front) (names_after names call front) it)
 
-  crash_after : (start end : FullText S) (calls : List Call) (first : Contents) → Runs g start calls end → IsCleanAt end → IsUp g start → Holds g start first → IsSettled g start → (db : Trees) → (shows g end.store).may_leave db → LeftAfter first (value_of g start).noted calls db
+  crash_after : (start end : FullText S) (calls : List Call) (first : Contents) → Runs g start calls end → IsCleanAt end → IsUp g start → Holds g start first → SurvivesCrash g start → (db : Trees) → (shows g end.store).may_leave db → LeftAfter first (store_value g start).noted calls db
   unfolding left_by
   crash_after start end [] first same clean up holds settled db may =
-      at_rest (record { left = value_of g start; stored = settled up db (subst (λ (k : FullText S). (shows g k.store).may_leave db) same may); held = holds.held; noted = refl })
+      at_rest (record { left = store_value g start; stored = settled up db (subst (λ (k : FullText S). (shows g k.store).may_leave db) same may); held = holds.held; noted = refl })
   crash_after start end (call ∷ calls) first runs clean up holds settled db may = go (λ up_now held. crash_after runs.0 end calls (contents_next first call) runs.2 clean up_now held (call_settled start runs.0 call runs.1) db may) (shows g runs.0.store).is_open refl
     where
       mid_clean : IsCleanAt runs.0
       mid_clean = clean_before runs.0 end calls runs.2 clean
 
-      go : (IsUp g runs.0 → Holds g runs.0 (contents_next first call) → LeftAfter (contents_next first call) (value_of g runs.0).noted calls db) → (b : Bool) → (shows g runs.0.store).is_open ≡ b → LeftAfter first (value_of g start).noted (call ∷ calls) db
+      go : (IsUp g runs.0 → Holds g runs.0 (contents_next first call) → LeftAfter (contents_next first call) (store_value g runs.0).noted calls db) → (b : Bool) → (shows g runs.0.store).is_open ≡ b → LeftAfter first (store_value g start).noted (call ∷ calls) db
       go later true is =
           let up_now : IsUp g runs.0 = record { clean = mid_clean; is_open = is } in
           let held = call_holds start runs.0 call first runs.1 up_now holds in
           let rest = later up_now held in
-          left_more first (value_of g start).noted call calls db (subst (λ names. LeftAfter (contents_next first call) names calls db) (call_names start runs.0 call first runs.1 up_now holds) rest)
+          left_more first (store_value g start).noted call calls db (subst (λ names. LeftAfter (contents_next first call) names calls db) (call_names start runs.0 call first runs.1 up_now holds) rest)
       go later false is = shut (call_commits start runs.0 call first runs.1 holds settled up mid_clean db (shut_calls runs.0 end calls runs.2 is_shut clean db may))
         where
           is_shut : IsUp g runs.0 → ⊥
@@ -276,9 +276,9 @@ module _ {S : Type 0} (g : Ghosts S) where
           none : list_any is_answered (call ∷ calls) ≡ false
           none = ap₂ (λ a b. a || b) (unanswered call (λ done. is_shut (call_live start runs.0 call runs.1 done mid_clean))) (none_answered runs.0 end calls runs.2 is_shut clean)
 
-          shut : HoldsLeft first (value_of g start).noted db ⊎ HoldsLeft (contents_with call first) (names_with call (value_of g start).noted) db → LeftAfter first (value_of g start).noted (call ∷ calls) db
+          shut : HoldsLeft first (store_value g start).noted db ⊎ HoldsLeft (contents_with call first) (names_with call (store_value g start).noted) db → LeftAfter first (store_value g start).noted (call ∷ calls) db
           shut (inl it) =
-              let same = refused_left first (value_of g start).noted (call ∷ calls) none in
+              let same = refused_left first (store_value g start).noted (call ∷ calls) none in
               at_rest (subst₂ (λ c n. HoldsLeft c n db) (sym same.0) (sym same.1) it)
           shut (inr it) = running [] calls call refl none it
 

@@ -14,7 +14,7 @@ use Rattle.ft_content.specs.Content.{Content, Documents, IsContent}
 use Rattle.ft_content.specs.Command.{Filter}
 use Rattle.ft_content.specs.Answer.{is_chosen, chosen}
 use Rattle.ft_content.specs.Step.{without_docid, docids_of}
-use Rattle.ft_documents.specs.Rewrite.{Rewrite, by_docid, rewritten, with_cells, document_if}
+use Rattle.ft_documents.specs.Rewrite.{Rewrite, under_docids, rewritten, with_cells, document_if}
 use Rattle.ft_index.specs.Written.{LeadsTo}
 use Rattle.ft_documents.proofs.KeyedRows.{less}
 use Rattle.ft_documents.proofs.ChosenLemmas.{AreFound, all_found, less_apart}
@@ -29,10 +29,10 @@ later d ds docid (Some cells) below =
     let greater : int_cmp docid d.0 ≡ Greater = int_cmp_total.antisymm docid d.0 ∙ ap ordering_reverse (less _ below) in
     ap (λ o. by_order o ((docid, cells) ∷ d ∷ ds) ((d.0, cells) ∷ ds) (d ∷ put int_cmp docid cells ds)) greater
 
-pub spare_first : (d : ℤ × List Cell) (rs : List Rewrite) (ds : Documents) → below_all int_cmp d.0 (by_docid rs) ≡ true → rewritten rs (d ∷ ds) ≡ d ∷ rewritten rs ds
+pub spare_first : (d : ℤ × List Cell) (rs : List Rewrite) (ds : Documents) → below_all int_cmp d.0 (under_docids rs) ≡ true → rewritten rs (d ∷ ds) ≡ d ∷ rewritten rs ds
 spare_first d [] ds below = refl
 spare_first d (r ∷ rs) ds below =
-    let parts = and_parts (is_lt (int_cmp d.0 r.docid)) (below_all int_cmp d.0 (by_docid rs)) below in
+    let parts = and_parts (is_lt (int_cmp d.0 r.docid)) (below_all int_cmp d.0 (under_docids rs)) below in
     ap (rewritten rs) (later d ds r.docid r.after parts.0) ∙ spare_first d rs (with_cells r.docid r.after ds) parts.1
 
 all_later : (docid : ℤ) (ds : Documents) → below_all int_cmp docid ds ≡ true → without_docid docid ds ≡ ds
@@ -54,23 +54,23 @@ module _ (after : ℤ × List Cell → Option (List Cell)) where
   abbrev pub each_rewritten : (ℤ × List Cell → Bool) → Documents → Documents
   each_rewritten p documents = flat_map (λ (d : ℤ × List Cell). cond (p d) (document_if d.0 (after d)) (d ∷ [])) documents
 
-  below_passed : (x : ℤ) (p : ℤ × List Cell → Bool) (ds : Documents) → below_all int_cmp x ds ≡ true → below_all int_cmp x (by_docid (map rewrite_of (filter p ds))) ≡ true
+  below_passed : (x : ℤ) (p : ℤ × List Cell → Bool) (ds : Documents) → below_all int_cmp x ds ≡ true → below_all int_cmp x (under_docids (map rewrite_of (filter p ds))) ≡ true
   below_passed x p [] below = refl
   below_passed x p (d ∷ ds) below =
       let parts = and_parts (is_lt (int_cmp x d.0)) (below_all int_cmp x ds) below in
       let rest = below_passed x p ds parts.1 in
-      elim (p d) as (λ b. below_all int_cmp x (by_docid (map rewrite_of (cond b (d ∷ filter p ds) (filter p ds)))) ≡ true) [
-        | true ↦ and_from (is_lt (int_cmp x d.0)) (below_all int_cmp x (by_docid (map rewrite_of (filter p ds)))) parts.0 rest
+      elim (p d) as (λ b. below_all int_cmp x (under_docids (map rewrite_of (cond b (d ∷ filter p ds) (filter p ds)))) ≡ true) [
+        | true ↦ and_from (is_lt (int_cmp x d.0)) (below_all int_cmp x (under_docids (map rewrite_of (filter p ds)))) parts.0 rest
         | false ↦ rest
       ]
 
-  pub rise : (p : ℤ × List Cell → Bool) (ds : Documents) → is_sorted int_cmp ds ≡ true → is_sorted int_cmp (by_docid (map rewrite_of (filter p ds))) ≡ true
+  pub rise : (p : ℤ × List Cell → Bool) (ds : Documents) → is_sorted int_cmp ds ≡ true → is_sorted int_cmp (under_docids (map rewrite_of (filter p ds))) ≡ true
   rise p [] sorted = refl
   rise p (d ∷ ds) sorted =
       let parts = and_parts (below_all int_cmp d.0 ds) (is_sorted int_cmp ds) sorted in
       let rest = rise p ds parts.1 in
-      elim (p d) as (λ b. is_sorted int_cmp (by_docid (map rewrite_of (cond b (d ∷ filter p ds) (filter p ds)))) ≡ true) [
-        | true ↦ and_from (below_all int_cmp d.0 (by_docid (map rewrite_of (filter p ds)))) (is_sorted int_cmp (by_docid (map rewrite_of (filter p ds)))) (below_passed d.0 p ds parts.0) rest
+      elim (p d) as (λ b. is_sorted int_cmp (under_docids (map rewrite_of (cond b (d ∷ filter p ds) (filter p ds)))) ≡ true) [
+        | true ↦ and_from (below_all int_cmp d.0 (under_docids (map rewrite_of (filter p ds)))) (is_sorted int_cmp (under_docids (map rewrite_of (filter p ds)))) (below_passed d.0 p ds parts.0) rest
         | false ↦ rest
       ]
 
@@ -89,8 +89,8 @@ module _ (after : ℤ × List Cell → Option (List Cell)) where
       rest : List Rewrite
       rest = map rewrite_of (filter p ds)
 
-      behind : (x : ℤ × List Cell) → x.0 ≡ d.0 → below_all int_cmp d.0 ds ≡ true → below_all int_cmp x.0 (by_docid rest) ≡ true
-      behind x same below = ap (λ k. below_all int_cmp k (by_docid rest)) same ∙ below_passed d.0 p ds below
+      behind : (x : ℤ × List Cell) → x.0 ≡ d.0 → below_all int_cmp d.0 ds ≡ true → below_all int_cmp x.0 (under_docids rest) ≡ true
+      behind x same below = ap (λ k. below_all int_cmp k (under_docids rest)) same ∙ below_passed d.0 p ds below
 
       go : (b : Bool) (a : Option (List Cell)) → after d ≡ a → below_all int_cmp d.0 ds ≡ true → rewritten rest ds ≡ each_rewritten p ds →
           rewritten (map rewrite_of (cond b (d ∷ filter p ds) (filter p ds))) (d ∷ ds) ≡ cond b (document_if d.0 (after d)) (d ∷ []) ++ each_rewritten p ds

@@ -14,7 +14,7 @@ use Rattle.ft_content.specs.Views.{TableInfo}
 use Rattle.ft_content.specs.Deserved.{Contents, deserved}
 use Rattle.ft_content.specs.Step.{after, step, step_by}
 use Rattle.ft_index.specs.DocumentsRead.{Looks}
-use Rattle.ft_index.specs.Kept.{Reaches, IsUp, AreHeld, StoreHolds}
+use Rattle.ft_index.specs.Kept.{ReachesStep, IsUp, AreHeld, StoreHolds}
 use Rattle.ft_index.specs.Changed.{with_tables}
 use Rattle.ft_index.specs.Crashes.{CommandSurvives}
 use Rattle.ft_index.proofs.Acting.{looks_same}
@@ -51,14 +51,14 @@ module _ {S : Type 0} (g : Ghosts S) where
 
   -- row changes that lead to what the command leaves
   pub crash_changed : (old new : StoreState S) (tables others : List TableInfo) (command : Command) (changes : List Change) →
-      (IsUp g (with_tables old tables) → (first : Contents) → AreHeld (value_in g old) tables first → Reaches first command (value_in g old) changes) →
+      (IsUp g (with_tables old tables) → (first : Contents) → AreHeld (value_in g old) tables first → ReachesStep first command (value_in g old) changes) →
       Survives (shows g old) (shows g new) (CommitsRows old changes) → CommandSurvives g (with_tables old tables) command (with_tables new others)
   crash_changed old new tables others command changes leads survives = survives_as (shows g old) (shows g new) _ _ (λ clean db commits up first holds.
       record { left = all_applied changes (value_in g old); stored = commits up.is_open; held = subst (StoreHolds (all_applied changes (value_in g old))) (left_is first command (leads up first holds).0) (leads up first holds).1; noted = (leads up first holds).2.noted }) survives
 
   -- row changes after reads that lead to it
   pub crash_reached : (old mid new : StoreState S) (tables others : List TableInfo) (command : Command) (changes : List Change) → Looks g old mid → (HasCleanDisk (shows g mid) → IsTrue (shows g old).is_open → IsTrue (shows g mid).is_open) →
-      (IsUp g (with_tables mid tables) → (first : Contents) → AreHeld (value_in g old) tables first → Reaches first command (value_in g old) changes) → Survives (shows g mid) (shows g new) (CommitsRows mid changes) → CommandSurvives g (with_tables old tables) command (with_tables new others)
+      (IsUp g (with_tables mid tables) → (first : Contents) → AreHeld (value_in g old) tables first → ReachesStep first command (value_in g old) changes) → Survives (shows g mid) (shows g new) (CommitsRows mid changes) → CommandSurvives g (with_tables old tables) command (with_tables new others)
   crash_reached old mid new tables others command changes looks live reaches survives =
       survives_then (shows g old) (shows g mid) (shows g new) _ _ _ (λ clean db none up first holds. absurd (none up.is_open)) (λ clean db commits up first holds.
       let c : doubt (shows g new).is_clean ≡ 0 = clean in

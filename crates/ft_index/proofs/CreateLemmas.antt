@@ -16,7 +16,7 @@ use Rattle.ft_content.specs.Views.{TableInfo, shown_info, option_of, names_in, c
 use Rattle.ft_content.specs.Deserved.{Table, Contents, table_named, made_columns, deserved}
 use Rattle.ft_content.specs.Step.{free_id_from, made_column, new_table, created, after, reply_to, step, step_by}
 use Rattle.ft_documents.specs.Found.{with_info}
-use Rattle.ft_index.specs.Planned.{Makes, table_change}
+use Rattle.ft_index.specs.Planned.{PlansTable, table_change}
 use Rattle.ft_index.specs.Kept.{AreHeld, StoreHolds, table_info}
 use Rattle.ft_index.proofs.OneTable.{ids_sorted}
 use Rattle.ft_documents.proofs.AddLemmas.{bare}
@@ -50,7 +50,7 @@ makes_content contents creation fine =
 -- ---- what is held after a table was made
 
 pub made_is_held : (contents : Contents) (creation : Creation) (made : RustTableInfo) (store : StoreValue) (tables : List TableInfo) →
-    Makes contents creation (Ok (Some made)) → AreInOrder store → AreHeld store tables contents →
+    PlansTable contents creation (Ok (Some made)) → AreInOrder store → AreHeld store tables contents →
     AreHeld (applied (table_change made) store) (with_info (shown_info made) tables) (after contents (creation_of creation))
 unfolding after
 made_is_held contents creation made store tables makes order held =

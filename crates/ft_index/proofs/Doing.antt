@@ -18,7 +18,7 @@ use Rattle.ft_content.specs.Views.{TableInfo}
 use Rattle.ft_index.specs.Changed.{Does, MakesRows, with_tables}
 use Rattle.ft_index.specs.DocumentsRead.{Looks}
 use Rattle.ft_index.specs.declared.written.Written.{Written}
-use Rattle.ft_index.specs.Kept.{Reaches, IsUp, AreHeld, is_outside, table_info}
+use Rattle.ft_index.specs.Kept.{ReachesStep, IsUp, AreHeld, is_outside, table_info}
 use Rattle.ft_index.specs.Written.{PlansIn, PlansTo, PlansWritten, WritesIn}
 use Rattle.sqlite.specs.Effect.{Database}
 use Rattle.ft_values.specs.declared.fault.Fault.TheVariants as faults
@@ -39,7 +39,7 @@ module _ {S : Type 0} (g : Ghosts S) (old mid : StoreState S) (tables : List Tab
   })
 
   module _ (live : HasCleanDisk (shows g mid) → IsTrue (shows g old).is_open → IsTrue (shows g mid).is_open) (new : StoreState S) (changes : List Change) (result : Result (Unit {0}) Fault) (makes : MakesRows g mid new changes result)
-      (reaches : IsUp g (with_tables mid tables) → (first : Contents) → AreHeld (value_in g old) tables first → Reaches first command (value_in g old) changes) where
+      (reaches : IsUp g (with_tables mid tables) → (first : Contents) → AreHeld (value_in g old) tables first → ReachesStep first command (value_in g old) changes) where
     -- row changes that are refused
     pub does_undone : (fault : Fault) (answer : Result Reply Fault) → answer ≡ Err fault → result ≡ Err fault → Does g (with_tables old tables) command answer (with_tables new tables)
     does_undone fault answer is refused =

@@ -13,9 +13,9 @@ use Rattle.ft_content.specs.Views.{TableInfo, shown_info, creation_of}
 use Rattle.ft_content.specs.Deserved.{Contents, deserved}
 use Rattle.ft_content.specs.Step.{after, reply_to, step, step_by}
 use Rattle.ft_documents.specs.Found.{with_info}
-use Rattle.ft_index.specs.Planned.{Makes, table_change}
+use Rattle.ft_index.specs.Planned.{PlansTable, table_change}
 use Rattle.ft_index.specs.Changed.{Changed, with_tables}
-use Rattle.ft_index.specs.Kept.{Reaches, FullText, IsUp, KeepsOthers, PlansFrom, AreHeld, Holds, Executes, Answers, is_outside, table_info, value_of}
+use Rattle.ft_index.specs.Kept.{ReachesStep, FullText, IsUp, KeepsOthers, PlansFrom, AreHeld, Holds, Executes, Answers, is_outside, table_info, store_value}
 use Rattle.ft_index.proofs.NameLemmas.{apart_after}
 use Rattle.ft_index.proofs.OtherRows.{keeps_same, makes_table}
 use Rattle.ft_index.proofs.CreateLemmas.{made_is_held, create_answers, refused_answers, nothing_made}
@@ -25,7 +25,7 @@ pub executes_same : {S : Type 0} (g : Ghosts S) (known : FullText S) (command : 
 executes_same g known command answer answers = record {
   was_up = λ up. up;
   steps = λ up first holds. (first, holds, answers first holds);
-  others = λ up first holds. keeps_same (value_of g known);
+  others = λ up first holds. keeps_same (store_value g known);
   unchanged = λ no up. (refl, refl);
 }
 
@@ -36,7 +36,7 @@ module _ {S : Type 0} (g : Ghosts S) (creation : Creation) where
   create = creation_of creation
 
   abbrev MakesAll : List TableInfo → Result (Option RustTableInfo) Fault → Type 0
-  MakesAll tables result = (contents : Contents) → tables ≡ map table_info contents → Makes contents creation result
+  MakesAll tables result = (contents : Contents) → tables ≡ map table_info contents → PlansTable contents creation result
 
   pub create_refused : (known : FullText S) (fault : Fault) → MakesAll known.tables (Err fault) → Executes g known create (Err fault) known
   create_refused known fault makes = executes_same g known create (Err fault) (λ first holds. due first (makes first holds.told))
@@ -83,12 +83,12 @@ pub done_answers : (contents : Contents) (command : Command) → deserved conten
 unfolding step
 done_answers contents command fine done = ap (λ due. step_by due contents command) fine ∙ ap (λ r. (Ok r, after contents command)) done
 
-pub reached : (contents : Contents) (command : Command) (store : StoreValue) (changes : List Change) → PlansFrom contents command store (Ok changes) → Reaches contents command store changes
+pub reached : (contents : Contents) (command : Command) (store : StoreValue) (changes : List Change) → PlansFrom contents command store (Ok changes) → ReachesStep contents command store changes
 reached contents command store changes plans = (plans.0, plans.1, plans.2)
 
 -- Such changes that are made, and the tables that are told as they are then.
 pub executes_planned : {S : Type 0} (g : Ghosts S) (old new : StoreState S) (tables after_tables : List TableInfo) (changes : List Change) (command : Command) →
-    (IsUp g (with_tables new after_tables) → (contents : Contents) → AreHeld (value_in g old) tables contents → Reaches contents command (value_in g old) changes) → Changed g old new changes true →
+    (IsUp g (with_tables new after_tables) → (contents : Contents) → AreHeld (value_in g old) tables contents → ReachesStep contents command (value_in g old) changes) → Changed g old new changes true →
     ((contents : Contents) → AreHeld (value_in g old) tables contents → deserved contents command ≡ None → after_tables ≡ map table_info (after contents command)) → ((contents : Contents) → reply_to contents command ≡ Done) →
     Executes g (with_tables old tables) command (Ok Done) (with_tables new after_tables)
 executes_planned g old new tables after_tables changes command reaches changed told replies = record {

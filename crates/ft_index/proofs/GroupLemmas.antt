@@ -16,7 +16,7 @@ use Rattle.ft_values.specs.declared.fault.Fault.TheVariants as faults
 use Rattle.ft_content.specs.Content.{Column}
 use Rattle.ft_content.specs.Views.{column_of}
 use Rattle.ft_documents.specs.declared.rewrite.Rewrite as source
-use Rattle.ft_documents.specs.Rewrite.{Rewrite, AreOf, AreRight, shown_rewrite, docids_of}
+use Rattle.ft_documents.specs.Rewrite.{Rewrite, AreOf, AreRight, shown_rewrite, rewritten_docids}
 use Rattle.ft_documents.specs.RewriteRows.{rewrite_changes}
 use Rattle.ft_documents.specs.Tables.{IsOfDocids}
 use Rattle.ft_documents.proofs.GroupsRight.{groups_right, groups_near}
@@ -61,7 +61,7 @@ module _ (written : Written) where
   pub of_groups : (groups : Groups) → flat_map vec_items groups ≡ written.rewrites.items → AreOfWritten written (changes_in (parts_of tab columns groups))
   of_groups groups is =
       let all : flat_map (λ (group : List Rewrite). group) (shown groups) ≡ map shown_rewrite written.rewrites.items = joined groups ∙ ap (map shown_rewrite) is in
-      let P : List Rewrite → List Change → Type 0 = λ rewrites changes. AreRight tab columns rewrites changes × All (IsOfDocids tab (docids_of rewrites)) changes in
+      let P : List Rewrite → List Change → Type 0 = λ rewrites changes. AreRight tab columns rewrites changes × All (IsOfDocids tab (rewritten_docids rewrites)) changes in
       subst (λ rewrites. P rewrites (changes_in (parts_of tab columns groups))) all
       (subst (P (flat_map (λ group. group) (shown groups))) (parts_are tab columns groups) (groups_right tab columns (shown groups), groups_near tab columns (shown groups)))
 

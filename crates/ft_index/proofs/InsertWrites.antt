@@ -13,13 +13,13 @@ use Rattle.ft_content.specs.Content.{Content, Documents, IsContent, names_of, re
 use Rattle.ft_content.specs.Command.{Insert, Done}
 use Rattle.ft_values.specs.declared.table.Column.{Column}
 use Rattle.ft_content.specs.Views.{bare_content, column_of}
-use Rattle.ft_content.specs.Deserved.{Contents, or_else, listed_columns, insert_tests, insert_rows, insert_fault, fault_of, has_docid}
+use Rattle.ft_content.specs.Deserved.{Contents, or_else, listed_columns, insert_tests, inserted_rows, insert_fault, fault_if_any, has_docid}
 use Rattle.ft_content.specs.Step.{inserted, new_docids, with_documents, on_table, after, touched, reply_to}
 use Rattle.ft_content.proofs.ContentLemmas.{insert_keeps_content}
 use Rattle.ft_documents.specs.declared.rewrite.Rewrite as source
-use Rattle.ft_documents.specs.Rewrite.{Rewrite, shown_rewrite, by_docid, rewritten}
+use Rattle.ft_documents.specs.Rewrite.{Rewrite, shown_rewrite, under_docids, rewritten}
 use Rattle.ft_documents.specs.Inserted.{IsNewIn, Inserts}
-use Rattle.ft_index.specs.Written.{Writes, WritesTable}
+use Rattle.ft_index.specs.Written.{WritesDocuments, WritesTable}
 use Rattle.ft_documents.proofs.KeyedRows.{tie}
 use Rattle.ft_documents.proofs.RewriteLemmas.{written, find_rewritten}
 use Rattle.ft_documents.proofs.InsertDue.{once, inserted_is}
@@ -48,7 +48,7 @@ new_in old (d ∷ ds) docid cells found apart = go (int_eq docid d.0) refl found
         subst (λ b. Contains (map docid_of (cond b (d ∷ rest) rest)) docid) (sym fresh) (subst (Contains (d.0 ∷ map docid_of rest)) (sym same) (contains_head d.0 (map docid_of rest)))
     go false is h behind = more (not (has_docid old d.0)) (behind h)
 
-all_new : (documents after : Documents) (all rs : List Rewrite) → is_sorted int_cmp (by_docid all) ≡ true → rewritten all documents ≡ after → AllByRecursion (λ (r : Rewrite). find int_cmp r.docid (by_docid all) ≡ Some r) rs → AllByRecursion (IsNewIn documents) rs →
+all_new : (documents after : Documents) (all rs : List Rewrite) → is_sorted int_cmp (under_docids all) ≡ true → rewritten all documents ≡ after → AllByRecursion (λ (r : Rewrite). find int_cmp r.docid (under_docids all) ≡ Some r) rs → AllByRecursion (IsNewIn documents) rs →
     AllByRecursion (λ (r : Rewrite). Contains (new_docids documents after) r.docid) rs
 all_new documents after all [] sorted made found new = tt
 all_new documents after all (r ∷ rs) sorted made found new = (
@@ -91,14 +91,14 @@ module _ (columns : Option (List (List ℕ))) (rows : List (List Cell)) where
   }
 
   abbrev Made : Content → Result Documents Fault
-  Made content = insert_rows content.columns (map (zip (listed_columns content columns)) rows) content.documents
+  Made content = inserted_rows content.columns (map (zip (listed_columns content columns)) rows) content.documents
 
   -- the rewrites that its rows make
   pub writes : (name : List ℕ) (content : Content) (result : Result (Vec source.Rewrite Global) Fault) → IsContent name content → insert_tests content (listed_columns content columns) rows ≡ None → Inserts content.documents (Made content) result →
-      Writes content (due content) (made content) (news content) result
+      WritesDocuments content (due content) (made content) (news content) result
   writes name content (Ok rewrites) is tested h =
       let rs = map shown_rewrite rewrites.items in
-      let fine : due content ≡ None = ap (λ o. or_else o (fault_of (Made content))) tested ∙ ap fault_of h.made in
+      let fine : due content ≡ None = ap (λ o. or_else o (fault_if_any (Made content))) tested ∙ ap fault_if_any h.made in
       let leads : rewritten rs content.documents ≡ made content = sym (inserted_is content columns rows (rewritten rs content.documents) h.made) in (
         fine,
         record {
@@ -108,11 +108,11 @@ module _ (columns : Option (List (List ℕ))) (rows : List (List Cell)) where
         },
       )
   writes name content (Err fault) is tested (inl outside) = inl outside
-  writes name content (Err fault) is tested (inr fails) = inr (ap (λ o. or_else o (fault_of (Made content))) tested ∙ ap fault_of fails)
+  writes name content (Err fault) is tested (inr fails) = inr (ap (λ o. or_else o (fault_if_any (Made content))) tested ∙ ap fault_if_any fails)
 
   -- a test that refuses it
   pub tested_writes : (content : Content) (fault : Fault) → insert_tests content (listed_columns content columns) rows ≡ Some fault → due content ≡ Some fault
-  tested_writes content fault tested = ap (λ o. or_else o (fault_of (Made content))) tested
+  tested_writes content fault tested = ap (λ o. or_else o (fault_if_any (Made content))) tested
 
   -- tests of the columns alone are tests of the content
   pub names_are : (content : Content) (cols : List Column) (names : List (List ℕ)) → content.columns ≡ map column_of cols → names ≡ listed_columns (bare_content cols) columns → names ≡ listed_columns content columns
@@ -125,7 +125,7 @@ module _ (columns : Option (List (List ℕ))) (rows : List (List Cell)) where
 
   -- and what the rows make is so by the content's columns
   pub rows_are : (content : Content) (cols : List Column) (names : List (List ℕ)) (result : Result (Vec source.Rewrite Global) Fault) → content.columns ≡ map column_of cols → names ≡ listed_columns (bare_content cols) columns →
-      Inserts content.documents (insert_rows (map column_of cols) (map (zip names) rows) content.documents) result → Inserts content.documents (Made content) result
+      Inserts content.documents (inserted_rows (map column_of cols) (map (zip names) rows) content.documents) result → Inserts content.documents (Made content) result
   rows_are content cols names result columns_are named h =
-      subst (λ ns. Inserts content.documents (insert_rows content.columns (map (zip ns) rows) content.documents) result) (names_are content cols names columns_are named)
-      (subst (λ cs. Inserts content.documents (insert_rows cs (map (zip names) rows) content.documents) result) (sym columns_are) h)
+      subst (λ ns. Inserts content.documents (inserted_rows content.columns (map (zip ns) rows) content.documents) result) (names_are content cols names columns_are named)
+      (subst (λ cs. Inserts content.documents (inserted_rows cs (map (zip names) rows) content.documents) result) (sym columns_are) h)

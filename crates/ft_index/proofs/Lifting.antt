@@ -11,7 +11,7 @@ use Rattle.ft_content.specs.Views.{TableInfo}
 use Rattle.ft_content.specs.Deserved.{Contents}
 use Rattle.ft_content.specs.Step.{with_documents, on_table}
 use Rattle.ft_documents.specs.Tables.{table_rows, table_index}
-use Rattle.ft_documents.specs.RowLaws.{table_of}
+use Rattle.ft_documents.specs.RowLaws.{changed_table}
 use Rattle.ft_index.specs.Kept.{AreHeld, StoreHolds, Stands}
 use Rattle.ft_documents.specs.Tables.{IsOfDocids}
 use Rattle.ft_documents.proofs.ChangeLemmas.{spares_others}
@@ -24,7 +24,7 @@ pub record LeavesRest (id : ℤ) (old new : StoreValue) : Type 0 where
   pub tables : new.tables ≡ old.tables
   pub noted : new.noted ≡ old.noted
 
-of_table : (id : ℤ) (docids : List ℤ) (change : Change) → IsOfDocids id docids change → table_of change ≡ Some id
+of_table : (id : ℤ) (docids : List ℤ) (change : Change) → IsOfDocids id docids change → changed_table change ≡ Some id
 of_table id docids (AddTable tab name columns skipped) h = absurd h
 of_table id docids (DropTable tab) h = absurd h
 of_table id docids (PutCell tab docid column value) h = ap Some h.0
@@ -36,7 +36,7 @@ of_table id docids (DropSize tab docid column) h = ap Some h.0
 of_table id docids (ClearIndex tab) h = absurd h
 of_table id docids (Note name) h = absurd h
 
-one_spares : (id : ℤ) (change : Change) (store : StoreValue) → table_of change ≡ Some id → SparesAllBut id store (applied change store)
+one_spares : (id : ℤ) (change : Change) (store : StoreValue) → changed_table change ≡ Some id → SparesAllBut id store (applied change store)
 one_spares id change store is = record { rows = λ other apart. (others other apart).0; index = λ other apart. (others other apart).1 }
   where
     others : (other : ℤ) → int_eq id other ≡ false → (table_rows other (applied change store) ≡ table_rows other store) × (table_index other (applied change store) ≡ table_index other store)

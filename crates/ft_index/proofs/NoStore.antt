@@ -9,7 +9,7 @@ use Rattle.ft_values.specs.declared.fault.Fault.{Fault}
 use Rattle.ft_values.specs.declared.fault.Fault.TheVariants as faults
 use Rattle.ft_values.specs.declared.table.TableInfo.{TableInfo as RustTableInfo}
 use Rattle.ft_content.specs.Content.{Column, Documents}
-use Rattle.ft_content.specs.Deserved.{Contents, Loose, insert_row, insert_rows, move_fault, moves_fault, create_fault, create_tests, table_named, next_docid, docids_in, new_cells, has_docid, then_rows, append_document}
+use Rattle.ft_content.specs.Deserved.{Contents, Loose, insert_row, inserted_rows, move_fault, moves_fault, create_fault, create_tests, table_named, next_docid, docids_named, new_cells, has_docid, then_rows, append_document}
 use Rattle.ft_content.specs.Step.{docids_of}
 use Rattle.ft_content.specs.Views.{TableInfo, info_names, shown_info, table_names}
 use Rattle.ft_documents.specs.Found.{IsUnfit}
@@ -67,11 +67,11 @@ then_other : (made : Result Documents Fault) → RefusesOther made → (rest : D
 then_other (Ok next) other rest others = others next
 then_other (Err fault) other rest others = other
 
-pub rows_other : (columns : List Column) (rows : List (List (List ℕ × Cell))) (documents : Documents) → RefusesOther (insert_rows columns rows documents)
-unfolding insert_rows
+pub rows_other : (columns : List Column) (rows : List (List (List ℕ × Cell))) (documents : Documents) → RefusesOther (inserted_rows columns rows documents)
+unfolding inserted_rows
 rows_other columns [] documents is = absurd (let no = is in cc)
 rows_other columns (values ∷ rows) documents is =
-    then_other (insert_row documents (docids_in values) (new_cells values columns)) (row_other documents (docids_in values) (new_cells values columns)) (insert_rows columns rows) (λ next. rows_other columns rows next) is
+    then_other (insert_row documents (docids_named values) (new_cells values columns)) (row_other documents (docids_named values) (new_cells values columns)) (inserted_rows columns rows) (λ next. rows_other columns rows next) is
 
 -- a table that can't be used
 pub unfit_other : (tables : List TableInfo) (name : List ℕ) (fault : Fault) → IsUnfit tables name fault → fault ≢ faults.Store

@@ -16,13 +16,13 @@ use Rattle.ft_content.specs.Deserved.{Table, Contents}
 use Rattle.ft_index.specs.Changed.{with_tables}
 use Rattle.ft_index.specs.DocumentsRead.{Looks}
 use Rattle.ft_index.specs.Kept.{AreHeld, StoreHolds, HoldsTable, HoldsSome, table_info}
-use Rattle.ft_index.specs.Opened.{IsListed, IsMarked, AreMarked, Opens}
+use Rattle.ft_index.specs.Opened.{IsListed, HasTableMark, AreMarked, OpensStore}
 use Rattle.ft_index.proofs.HeldLemmas.{holds_one_contents}
 use Rattle.ft_documents.specs.Tables.{table_rows, table_index}
 
 -- what is told of each table that is listed
 abbrev pub IsMarkedRow : StoreValue → TabRow → TableInfo → Type 0
-IsMarkedRow store row known = (named : ℤ × List ℕ) → IsListed store named row → IsMarked store named known
+IsMarkedRow store row known = (named : ℤ × List ℕ) → IsListed store named row → HasTableMark store named known
 
 abbrev pub AreMarkedRows : StoreValue → List TabRow → List TableInfo → Type 0
 AreMarkedRows store rows known = AllZip (IsMarkedRow store) rows known
@@ -88,7 +88,7 @@ module _ {S : Type 0} (g : Ghosts S) (old new : StoreState S) (known : List Tabl
       let found = marked_holds (value_in g old) known (apart (omega (arith, looks.survives.clean, up.clean)) (looks.kept up.clean up.is_open).2) (marked up.clean) in
       (found.0, subst (λ v. AreHeld v known found.0) (sym (same_value up.clean)) found.1)
 
-  pub opens : Opens g old (with_tables new known)
+  pub opens : OpensStore g old (with_tables new known)
   opens = record {
     looks = looks;
     live = live;

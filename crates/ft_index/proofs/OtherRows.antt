@@ -15,7 +15,7 @@ use Rattle.ft_content.specs.Deserved.{Table, Contents, table_named}
 use Rattle.ft_content.specs.Index.{StoredSpot}
 use Rattle.ft_documents.specs.Tables.{table_rows, table_index}
 use Rattle.ft_documents.proofs.KeyedRows.{same_int}
-use Rattle.ft_index.specs.Kept.{KeepsOthers, names_table, no_index, no_rows}
+use Rattle.ft_index.specs.Kept.{KeepsOthers, has_table_id, no_index, no_rows}
 use Rattle.ft_index.specs.Planned.{table_change}
 use Rattle.ft_index.proofs.Lifting.{LeavesRest}
 use Rattle.ft_index.proofs.OneTable.{AreHeldIn, SparesAllBut}
@@ -50,22 +50,22 @@ names_held name t store (n ∷ ns) (x ∷ xs) h found = go (same_name x.1.name n
     go false found rest = later (int_eq t.0 n.0) (rest found)
 
 -- where the rows of all tables but one stay, and this one is named afterwards
-keeps_spared : (id : ℤ) (old new : StoreValue) → SparesAllBut id old new → new.noted ≡ old.noted → names_table new id ≡ true → ((other : ℤ) → int_eq id other ≡ false → names_table new other ≡ names_table old other) → KeepsOthers old new
+keeps_spared : (id : ℤ) (old new : StoreValue) → SparesAllBut id old new → new.noted ≡ old.noted → has_table_id new id ≡ true → ((other : ℤ) → int_eq id other ≡ false → has_table_id new other ≡ has_table_id old other) → KeepsOthers old new
 keeps_spared id old new spares noted named others = record {
   noted = noted;
-  rows = λ other none. by (table_rows other new ≡ cond (names_table old other) no_rows (table_rows other old)) other none (λ apart. spares.rows other apart ∙ ap (λ b. cond b no_rows (table_rows other old)) (sym none ∙ others other apart));
-  index = λ other none. by (table_index other new ≡ cond (names_table old other) no_index (table_index other old)) other none (λ apart. spares.index other apart ∙ ap (λ b. cond b no_index (table_index other old)) (sym none ∙ others other apart));
+  rows = λ other none. by (table_rows other new ≡ cond (has_table_id old other) no_rows (table_rows other old)) other none (λ apart. spares.rows other apart ∙ ap (λ b. cond b no_rows (table_rows other old)) (sym none ∙ others other apart));
+  index = λ other none. by (table_index other new ≡ cond (has_table_id old other) no_index (table_index other old)) other none (λ apart. spares.index other apart ∙ ap (λ b. cond b no_index (table_index other old)) (sym none ∙ others other apart));
 }
   where
-    by : (Goal : Type 0) (other : ℤ) → names_table new other ≡ false → (int_eq id other ≡ false → Goal) → Goal
+    by : (Goal : Type 0) (other : ℤ) → has_table_id new other ≡ false → (int_eq id other ≡ false → Goal) → Goal
     by Goal other none apart = go (int_eq id other) refl
       where
         go : (b : Bool) → int_eq id other ≡ b → Goal
-        go true same = absurd (let no = sym named ∙ ap (names_table new) (same_int id other same) ∙ none in cc)
+        go true same = absurd (let no = sym named ∙ ap (has_table_id new) (same_int id other same) ∙ none in cc)
         go false e = apart e
 
 -- changes of documents of a table
-pub keeps_changed : (id : ℤ) (old new : StoreValue) → LeavesRest id old new → names_table old id ≡ true → KeepsOthers old new
+pub keeps_changed : (id : ℤ) (old new : StoreValue) → LeavesRest id old new → has_table_id old id ≡ true → KeepsOthers old new
 keeps_changed id old new leaves named =
     keeps_spared id old new leaves.others leaves.noted (ap (λ ts. is_some (find int_cmp id ts)) leaves.tables ∙ named) (λ other apart. ap (λ ts. is_some (find int_cmp other ts)) leaves.tables)
 
@@ -101,7 +101,7 @@ none_twice R p (row ∷ rows) = go (p row.0) refl (none_twice R p rows)
         ∙ ap (λ b. cond b (row ∷ where_key R p (where_key R (λ k. not (p k)) rows)) (where_key R p (where_key R (λ k. not (p k)) rows))) is ∙ rest
 
 -- a table that goes
-pub keeps_dropped : (id : ℤ) (store : StoreValue) → names_table store id ≡ true → KeepsOthers store (applied (DropTable id) store)
+pub keeps_dropped : (id : ℤ) (store : StoreValue) → has_table_id store id ≡ true → KeepsOthers store (applied (DropTable id) store)
 keeps_dropped id store named = record {
   noted = refl;
   rows = λ other none. go_rows other (int_eq id other) refl none;
@@ -114,10 +114,10 @@ keeps_dropped id store named = record {
     spares : SparesAllBut id store new
     spares = drop_spares id store
 
-    there : (other : ℤ) → int_eq id other ≡ true → names_table store other ≡ true
-    there other same = ap (names_table store) (sym (same_int id other same)) ∙ named
+    there : (other : ℤ) → int_eq id other ≡ true → has_table_id store other ≡ true
+    there other same = ap (has_table_id store) (sym (same_int id other same)) ∙ named
 
-    names : (other : ℤ) → int_eq id other ≡ false → names_table new other ≡ names_table store other
+    names : (other : ℤ) → int_eq id other ≡ false → has_table_id new other ≡ has_table_id store other
     names other apart = ap is_some (named_without id other store.tables apart)
 
     rows_gone : table_rows id new ≡ no_rows
@@ -133,10 +133,10 @@ keeps_dropped id store named = record {
       sizes = map (λ (z : CellKey × ℤ). record { docid = z.0.1; column = z.0.2; n = z.1 }) (none_twice cell_key_cmp (λ k. int_eq id k.0) store.sizes i);
     }
 
-    go_rows : (other : ℤ) (b : Bool) → int_eq id other ≡ b → names_table new other ≡ false → table_rows other new ≡ cond (names_table store other) no_rows (table_rows other store)
+    go_rows : (other : ℤ) (b : Bool) → int_eq id other ≡ b → has_table_id new other ≡ false → table_rows other new ≡ cond (has_table_id store other) no_rows (table_rows other store)
     go_rows other true same none = ap (λ k. table_rows k new) (sym (same_int id other same)) ∙ rows_gone ∙ ap (λ b. cond b no_rows (table_rows other store)) (sym (there other same))
     go_rows other false apart none = spares.rows other apart ∙ ap (λ b. cond b no_rows (table_rows other store)) (sym none ∙ names other apart)
 
-    go_index : (other : ℤ) (b : Bool) → int_eq id other ≡ b → names_table new other ≡ false → table_index other new ≡ cond (names_table store other) no_index (table_index other store)
+    go_index : (other : ℤ) (b : Bool) → int_eq id other ≡ b → has_table_id new other ≡ false → table_index other new ≡ cond (has_table_id store other) no_index (table_index other store)
     go_index other true same none = ap (λ k. table_index k new) (sym (same_int id other same)) ∙ index_gone ∙ ap (λ b. cond b no_index (table_index other store)) (sym (there other same))
     go_index other false apart none = spares.index other apart ∙ ap (λ b. cond b no_index (table_index other store)) (sym none ∙ names other apart)

@@ -26,8 +26,8 @@ use Rattle.ft_content.specs.Command.{Command, Create, Drop, Insert, Update, Dele
 use Rattle.ft_content.specs.Deserved.{TableState, Sound, Stale, Loose, Table, Contents, table_named}
 use Rattle.ft_content.specs.Views.{TableInfo, answer_of}
 use Rattle.ft_index.specs.DocumentsRead.{Looks}
-use Rattle.ft_index.specs.Kept.{FullText, IsUp, IsOutside, AreHeld, Executes, KeepsOthers, OnlyLooks, is_outside, value_of}
-use Rattle.ft_index.specs.Crashes.{HoldsAfter, IsSettled, LeavesRead}
+use Rattle.ft_index.specs.Kept.{FullText, IsUp, IsOutside, AreHeld, Executes, KeepsOthers, OnlyLooks, is_outside, store_value}
+use Rattle.ft_index.specs.Crashes.{HoldsAfter, SurvivesCrash, LeavesRead}
 use Rattle.ft_index.specs.Changed.{with_tables, Does, DoesAsked, LooksAsked, MakesAsked, MakesRows}
 use Rattle.ft_index.specs.RowsRead.{CountsFound, CountsHeld, CountsIfRows, CountsRows}
 use Rattle.ft_index.proofs.Acting.{executes_read, looks_same, looks_up, then_changed}
@@ -155,7 +155,7 @@ module _ {S : Type 0} (g : Ghosts S) (old mid : StoreState S) (result : Result (
         executes_behind = record {
           was_up = λ up. looks_up g old mid tables tables pinged (does.executes.was_up up);
           steps = λ up first holds. does.executes.steps up first (subst (λ v. AreHeld v tables first) (sym (same_value up)) holds);
-          others = λ up first holds. subst (λ v. KeepsOthers v (value_of g new)) (same_value up) (does.executes.others up first (subst (λ v. AreHeld v tables first) (sym (same_value up)) holds));
+          others = λ up first holds. subst (λ v. KeepsOthers v (store_value g new)) (same_value up) (does.executes.others up first (subst (λ v. AreHeld v tables first) (sym (same_value up)) holds));
           unchanged = λ refused up. ((does.executes.unchanged refused up).0 ∙ same_value up, (does.executes.unchanged refused up).1);
         }
 
@@ -179,7 +179,7 @@ module _ {S : Type 0} (g : Ghosts S) (old mid : StoreState S) (result : Result (
         clean_mid clean = let c : doubt (shows g new).is_clean ≡ 0 = clean in omega (arith, c, rows.survives.clean)
 
 -- what a read leaves of full-text tables
-pub read_leaves : {S X : Type 0} (g : Ghosts S) (old new : StoreState S) (tables : List TableInfo) (read : Result X StoreFault) → LooksAsked g old new read → IsSettled g (with_tables old tables) → LeavesRead g (with_tables old tables) (is_ok read) (with_tables new tables)
+pub read_leaves : {S X : Type 0} (g : Ghosts S) (old new : StoreState S) (tables : List TableInfo) (read : Result X StoreFault) → LooksAsked g old new read → SurvivesCrash g (with_tables old tables) → LeavesRead g (with_tables old tables) (is_ok read) (with_tables new tables)
 read_leaves {S} g old new tables read it settled = record {
   live = λ clean done. ok_then read (it.live clean) done;
   settled = λ up db may. subst (IsStored db) (sym (same up)) (settled (was_up up) db (only (it.survives.crash up.clean db may)));

@@ -11,7 +11,7 @@ use Rattle.ft_content.specs.Views.{TableInfo, creation_of}
 use Rattle.ft_content.specs.Deserved.{Contents, select_fault, deserved}
 use Rattle.ft_content.specs.Step.{after, step, step_by}
 use Rattle.ft_documents.specs.Found.{info_named, IsUnfit, IsSoundNamed}
-use Rattle.ft_index.specs.Planned.{Makes, table_change}
+use Rattle.ft_index.specs.Planned.{PlansTable, table_change}
 use Rattle.ft_index.specs.Kept.{AreHeld, StoreHolds, StaysNear, PlansFrom, Answers, is_outside}
 use Rattle.ft_index.proofs.KnownLemmas.{sound_table, sound_is, unfit_is}
 use Rattle.ft_index.proofs.SelectAnswers.{fault_bare, told_columns}
@@ -26,14 +26,14 @@ plans_nothing contents command store tables held same near fine = (fine, subst (
 -- ---- Create
 
 module _ (contents : Contents) (creation : Creation) (store : StoreValue) (tables : List TableInfo) where
-  pub create_refused : (fault : Fault) → Makes contents creation (Err fault) → PlansFrom contents (creation_of creation) store (Err fault)
+  pub create_refused : (fault : Fault) → PlansTable contents creation (Err fault) → PlansFrom contents (creation_of creation) store (Err fault)
   create_refused fault (inl memory) = inl (ap (λ f. is_outside (Err f)) memory)
   create_refused fault (inr due) = inr due
 
-  pub create_nothing : AreHeld store tables contents → Makes contents creation (Ok None) → PlansFrom contents (creation_of creation) store (Ok [])
+  pub create_nothing : AreHeld store tables contents → PlansTable contents creation (Ok None) → PlansFrom contents (creation_of creation) store (Ok [])
   create_nothing held makes = plans_nothing contents (creation_of creation) store tables held (nothing_made contents creation makes.1) tt makes.0
 
-  pub create_makes : (made : RustTableInfo) → AreInOrder store → AreHeld store tables contents → Makes contents creation (Ok (Some made)) → PlansFrom contents (creation_of creation) store (Ok (table_change made ∷ []))
+  pub create_makes : (made : RustTableInfo) → AreInOrder store → AreHeld store tables contents → PlansTable contents creation (Ok (Some made)) → PlansFrom contents (creation_of creation) store (Ok (table_change made ∷ []))
   create_makes made order held makes = (makes.0, (made_is_held contents creation made store tables makes order held).held, makes_table made store, tt)
 
 -- ---- Select

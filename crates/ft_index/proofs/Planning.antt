@@ -12,12 +12,12 @@ use Rattle.ft_content.specs.Views.{TableInfo, column_of, shown_info}
 use Rattle.ft_content.specs.Deserved.{Contents}
 use Rattle.ft_documents.specs.declared.rewrite.Rewrite as source
 use Rattle.ft_documents.specs.Found.{IsSoundNamed, IsUnfit}
-use Rattle.ft_documents.specs.Rewrite.{AreRight, HasContent, shown_rewrite, docids_of}
+use Rattle.ft_documents.specs.Rewrite.{AreRight, HasContent, shown_rewrite, rewritten_docids}
 use Rattle.ft_index.specs.Kept.{IsUp, AreHeld, held_columns}
 use Rattle.ft_documents.specs.Tables.{IsOfDocids}
 use Rattle.ft_index.specs.Changed.{with_tables}
 use Rattle.ft_index.specs.declared.written.Written.{Written}
-use Rattle.ft_index.specs.Written.{HasAll, Writes, WritesIn, PlansTo}
+use Rattle.ft_index.specs.Written.{HasAll, WritesDocuments, WritesIn, PlansTo}
 use Rattle.ft_index.proofs.KnownLemmas.{IsSoundTable}
 use Rattle.ft_index.proofs.InsertHolds.{sound_rows}
 use Rattle.ft_index.proofs.Writing.{IsWrite, plan_unfit, sound_here, plan_fails, plan_written}
@@ -41,29 +41,29 @@ module _ {S : Type 0} (g : Ghosts S) (command : Command) (name : List ℕ) (due 
           columns_are = ap held_columns (sym t.held) ∙ ap (λ (k : TableInfo). k.columns) t.told;
         }
 
-    pub plans_fail : (fault : Fault) → ((content : Content) → HasAll g known.id known.name known.columns old new content → Writes content (due known.name content) (change content) (touch content) (Err fault)) → PlansTo g tables old new command (Err fault)
+    pub plans_fail : (fault : Fault) → ((content : Content) → HasAll g known.id known.name known.columns old new content → WritesDocuments content (due known.name content) (change content) (touch content) (Err fault)) → PlansTo g tables old new command (Err fault)
     plans_fail fault writes up contents held =
         let t = here contents held in
         plan_fails command name due change touch is (value_in g old) tables contents held known t fault
-        (subst (λ (k : TableInfo). Writes t.content (due k.name t.content) (change t.content) (touch t.content) (Err fault)) (sym t.told) (writes t.content (has_all contents held up)))
+        (subst (λ (k : TableInfo). WritesDocuments t.content (due k.name t.content) (change t.content) (touch t.content) (Err fault)) (sym t.told) (writes t.content (has_all contents held up)))
 
-    pub plans_failed : (fault : Fault) (found : Result Written Fault) → found ≡ Err fault → ((content : Content) → HasAll g known.id known.name known.columns old new content → Writes content (due known.name content) (change content) (touch content) (Err fault)) → WritesIn g tables old new command found
+    pub plans_failed : (fault : Fault) (found : Result Written Fault) → found ≡ Err fault → ((content : Content) → HasAll g known.id known.name known.columns old new content → WritesDocuments content (due known.name content) (change content) (touch content) (Err fault)) → WritesIn g tables old new command found
     plans_failed fault found failed writes = subst (WritesIn g tables old new command) (sym failed) (plans_fail fault writes)
 
-    pub plans_do : (rewrites : Vec source.Rewrite Global) (changes : List Change) → ((content : Content) → HasAll g known.id known.name known.columns old new content → Writes content (due known.name content) (change content) (touch content) (Ok rewrites)) →
-        AreRight known.id known.columns (map shown_rewrite rewrites.items) changes → All (IsOfDocids known.id (docids_of (map shown_rewrite rewrites.items))) changes → PlansTo g tables old new command (Ok changes)
+    pub plans_do : (rewrites : Vec source.Rewrite Global) (changes : List Change) → ((content : Content) → HasAll g known.id known.name known.columns old new content → WritesDocuments content (due known.name content) (change content) (touch content) (Ok rewrites)) →
+        AreRight known.id known.columns (map shown_rewrite rewrites.items) changes → All (IsOfDocids known.id (rewritten_docids (map shown_rewrite rewrites.items))) changes → PlansTo g tables old new command (Ok changes)
     plans_do rewrites changes writes right near up contents held =
         let t = here contents held in
         let has = has_all contents held up in
-        let written = subst (λ (k : TableInfo). Writes t.content (due k.name t.content) (change t.content) (touch t.content) (Ok rewrites)) (sym t.told) (writes t.content has) in
+        let written = subst (λ (k : TableInfo). WritesDocuments t.content (due k.name t.content) (change t.content) (touch t.content) (Ok rewrites)) (sym t.told) (writes t.content has) in
         let id : known.id ≡ t.table.0 = ap (λ (k : TableInfo). k.id) (sym t.told) in
         plan_written command name due change touch is (value_in g old) tables contents held known t (map shown_rewrite rewrites.items) changes order written.0 written.1
         (subst (λ (columns : List Column). AreRight t.table.0 columns (map shown_rewrite rewrites.items) changes) (sym has.columns_are) (subst (λ k. AreRight k known.columns (map shown_rewrite rewrites.items) changes) id right))
-        (subst (λ k. All (IsOfDocids k (docids_of (map shown_rewrite rewrites.items))) changes) id near)
+        (subst (λ k. All (IsOfDocids k (rewritten_docids (map shown_rewrite rewrites.items))) changes) id near)
 
   -- the same of documents that were found to be written
   pub writes_do : (written : Written) (order : AreInOrder (value_in g old)) (named : IsSoundNamed tables name (shown_info written.table.now)) → ((content : Content) → HasAll g written.table.now.id (string_bytes written.table.now.name) (map column_of written.table.now.columns.items) old new content
-      → Writes content (due (string_bytes written.table.now.name) content) (change content) (touch content) (Ok written.rewrites)) → WritesIn g tables old new command (Ok written)
+      → WritesDocuments content (due (string_bytes written.table.now.name) content) (change content) (touch content) (Ok written.rewrites)) → WritesIn g tables old new command (Ok written)
   writes_do written order named writes =
       let known = shown_info written.table.now in (
         λ changes of_written. plans_do known order named written.rewrites changes writes of_written.0 of_written.1,

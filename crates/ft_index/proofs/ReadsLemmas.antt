@@ -7,7 +7,7 @@ use Rattle.ft_query.specs.Lists.{Reaches, Stays, Goes, Ends}
 use Rattle.ft_store.specs.Calls.{Keeps}
 use Rattle.ft_store.specs.Kept.{StoreState, shows}
 use Rattle.ft_store.proofs.ChainLemmas.{kept_then, reads_then}
-use Rattle.ft_index.specs.Walked.{Reads}
+use Rattle.ft_index.specs.Walked.{ReadsStore}
 
 -- as many rows more as places were given: none, or some
 abbrev pub Grows : ℕ → ℕ → ℕ → ℕ → Type 0
@@ -29,7 +29,7 @@ pub record Read {S : Type 0} (g : Ghosts S) (old : StoreState S) (given : ℕ) (
   pub live : HasCleanDisk (shows g new) → IsTrue all → IsTrue (shows g old).is_open → IsTrue (shows g new).is_open
   pub counted : IsTrue all → Grows old.rows_read given new.rows_read given_now
 
-module _ {X S : Type 0} (g : Ghosts S) (Becomes : X → Bool → X → Type 0) (store : X → StoreState S) (given : X → ℕ) (reads : (x : X) (all : Bool) (y : X) → Becomes x all y → Reads g (store x) (given x) all (store y) (given y)) where
+module _ {X S : Type 0} (g : Ghosts S) (Becomes : X → Bool → X → Type 0) (store : X → StoreState S) (given : X → ℕ) (reads : (x : X) (all : Bool) (y : X) → Becomes x all y → ReadsStore g (store x) (given x) all (store y) (given y)) where
   none_read : (x : X) (all : Bool) → Read g (store x) (given x) all (store x) (given x)
   none_read x all = record {
     kept = λ clean is_open. (refl, refl, is_open);

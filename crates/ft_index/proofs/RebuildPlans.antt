@@ -17,7 +17,7 @@ use Rattle.ft_content.specs.Deserved.{TableState, Sound, Stale, Loose, Table, Co
 use Rattle.ft_content.specs.Step.{rebuilt, on_table, after, reply_to}
 use Rattle.ft_documents.specs.Found.{info_named, with_sound}
 use Rattle.ft_documents.specs.NewDocuments.{new_rewrite}
-use Rattle.ft_documents.specs.Rewrite.{AreOf, Rewrite, AreRight, docids_of, rewritten}
+use Rattle.ft_documents.specs.Rewrite.{AreOf, Rewrite, AreRight, rewritten_docids, rewritten}
 use Rattle.ft_documents.specs.Tables.{table_rows, table_index, IsOfDocids}
 use Rattle.ft_documents.proofs.AddLemmas.{bare}
 use Rattle.ft_documents.proofs.InsertOf.{are_of}
@@ -112,7 +112,7 @@ module _ (store : StoreValue) (tables : List TableInfo) (contents : Contents) (n
 
   -- others are put into the table anew
   pub plan_stale : (rewrites : List Rewrite) (changes : List Change) → states.Stale ≡ state_of t.table.1.held → IsAll t rewrites →
-      AreRight known.id known.columns rewrites changes → All (IsOfDocids known.id (docids_of rewrites)) changes → PlansFrom contents (Rebuild name) store (Ok (anew_change known ∷ changes))
+      AreRight known.id known.columns rewrites changes → All (IsOfDocids known.id (rewritten_docids rewrites)) changes → PlansFrom contents (Rebuild name) store (Ok (anew_change known ∷ changes))
   plan_stale rewrites changes is all right near = go t.table.1.held refl is
     where
       go : (state : TableState) → t.table.1.held ≡ state → states.Stale ≡ state_of state → PlansFrom contents (Rebuild name) store (Ok (anew_change known ∷ changes))
@@ -125,7 +125,7 @@ module _ (store : StoreValue) (tables : List TableInfo) (contents : Contents) (n
           let same = put.0 in
           let are = put.1 in
           let done = anew_holds store tables contents name known order held t content (map new_rewrite content.documents) changes rebuilt stands.0 (ap held_columns e) are made (ap rebuilt e)
-          (subst (λ rs. AreRight known.id known.columns rs changes) (sym same) right) (subst (λ rs. All (IsOfDocids known.id (docids_of rs)) changes) (sym same) near) in (
+          (subst (λ rs. AreRight known.id known.columns rs changes) (sym same) right) (subst (λ rs. All (IsOfDocids known.id (rewritten_docids rs)) changes) (sym same) near) in (
             due_at (Stale content) e,
             subst (StoreHolds (all_applied (anew_change known ∷ changes) store)) (sym (rebuild_after contents name)) done.0,
             done.1,

@@ -22,7 +22,7 @@ use Rattle.ft_documents.specs.Tables.{table_rows}
 use Rattle.ft_documents.proofs.ChosenLemmas.{chosen_all, chosen_one}
 use Rattle.ft_rows.specs.Shown.{shown_cell}
 use Rattle.ft_index.proofs.SelectRows.{found_wide}
-use Rattle.ft_index.specs.RowsRead.{is_column, count_asked, docids_asked, rows_asked}
+use Rattle.ft_index.specs.RowsRead.{reads_document, count_asked, docids_asked, rows_asked}
 
 -- so many of each
 one_more : (width m n k : ℕ) → m ≡ width → n ≡ width * k → m + n ≡ width * suc k
@@ -63,12 +63,12 @@ unfolding rows_asked
 asked_count content f limit offset = refl
 
 -- of all documents by their docids
-pub asked_all : (content : Content) (items : List Item) (limit : Option ℕ) (offset n : ℕ) → (is_some limit || not (list_any is_column items)) ≡ true → n ≡ length (cut limit offset content.documents) →
-    docids_asked content limit offset + cond (list_any is_column items) (length content.columns) 0 * n ≡ rows_asked content (Listed items) All limit offset
+pub asked_all : (content : Content) (items : List Item) (limit : Option ℕ) (offset n : ℕ) → (is_some limit || not (list_any reads_document items)) ≡ true → n ≡ length (cut limit offset content.documents) →
+    docids_asked content limit offset + cond (list_any reads_document items) (length content.columns) 0 * n ≡ rows_asked content (Listed items) All limit offset
 unfolding rows_asked
 asked_all content items limit offset n by_docid many =
-    ap (λ m. docids_asked content limit offset + m) (go (list_any is_column items))
-    ∙ sym (ap (λ b. cond b (docids_asked content limit offset + cond (list_any is_column items) (length content.columns * length (cut limit offset (chosen content All))) 0) (length content.columns * length content.documents)) by_docid)
+    ap (λ m. docids_asked content limit offset + m) (go (list_any reads_document items))
+    ∙ sym (ap (λ b. cond b (docids_asked content limit offset + cond (list_any reads_document items) (length content.columns * length (cut limit offset (chosen content All))) 0) (length content.columns * length content.documents)) by_docid)
   where
     answered : n ≡ length (cut limit offset (chosen content All))
     answered = many ∙ ap (λ ds. length (cut limit offset ds)) (sym (chosen_all content))
@@ -78,11 +78,11 @@ asked_all content items limit offset n by_docid many =
     go false = grind arith
 
 -- of documents that are read whole
-pub asked_whole : (content : Content) (items : List Item) (f : Filter) (limit : Option ℕ) (offset : ℕ) → is_match f ≡ false → (f ≡ All → (is_some limit || not (list_any is_column items)) ≡ false) →
+pub asked_whole : (content : Content) (items : List Item) (f : Filter) (limit : Option ℕ) (offset : ℕ) → is_match f ≡ false → (f ≡ All → (is_some limit || not (list_any reads_document items)) ≡ false) →
     length content.columns * length (chosen content f) ≡ rows_asked content (Listed items) f limit offset
 unfolding rows_asked
 asked_whole content items All limit offset plainly whole =
     ap (λ ds. length content.columns * length ds) (chosen_all content)
-    ∙ sym (ap (λ b. cond b (docids_asked content limit offset + cond (list_any is_column items) (length content.columns * length (cut limit offset (chosen content All))) 0) (length content.columns * length content.documents)) (whole refl))
+    ∙ sym (ap (λ b. cond b (docids_asked content limit offset + cond (list_any reads_document items) (length content.columns * length (cut limit offset (chosen content All))) 0) (length content.columns * length content.documents)) (whole refl))
 asked_whole content items (Docid docid) limit offset plainly whole = refl
 asked_whole content items (Match name text) limit offset plainly whole = absurd (let no = plainly in cc)

@@ -28,16 +28,15 @@ use Rattle.ft_content.proofs.RowLemmas.{rows_are_read}
 use Rattle.ft_index.specs.declared.row_state.RowState.TheVariants as states
 use Rattle.ft_index.specs.declared.row_state.RowState.{RowState}
 use Rattle.ft_index.specs.Kept.{Stands, held_columns, is_sound}
-use Rattle.ft_index.specs.Opened.{state_of, StandsSo, IsListed, IsMarked}
+use Rattle.ft_index.specs.Opened.{state_of, StandsSo, IsListed, HasTableMark}
 use Rattle.ft_documents.specs.RewriteRows.{sized}
-use Rattle.ft_documents.specs.Standing.{shown_size, shown_row, listed_rows, columns_in, AreContent, HaveContent}
+use Rattle.ft_documents.specs.Standing.{size_under_key, shown_row, listed_rows, columns_said, AreContent, HaveContent}
 use Rattle.ft_documents.specs.Terms.{under_term, lists_of_terms}
 use Rattle.ft_rows.specs.Terms.{lists_of_postings, lists_under, lists_by_terms}
 use Rattle.ft_rows.specs.declared.terms.TermLists.{TermLists}
 use Rattle.ft_documents.specs.Tables.{table_rows, table_index}
 use Rattle.ft_documents.proofs.KeyedRows.{same_int}
-use Rattle.ft_documents.proofs.StandingSizes.{sized_back}
-use Rattle.ft_documents.proofs.StandingContent.{some_columns, parts_of}
+use Rattle.ft_documents.proofs.RowKinds.{size_of, sizes_again}
 
 abbrev lists_asked : ℤ → StoreValue → List (ListKey × List StoredSpot)
 lists_asked tab store = where_key list_key_cmp (λ k. int_eq tab k.0) store.lists
@@ -48,7 +47,7 @@ own_list l = ((l.0.1, l.0.2), l.1)
 abbrev own_size : CellKey × ℤ → SizeRow
 own_size z = record { docid = z.0.1; column = z.0.2; n = z.1 }
 
-pub sizes_read : (tab : ℤ) (store : StoreValue) (found : List stored_size.SizeRow) → map (shown.shown_size tab) found ≡ where_key cell_key_cmp (λ k. int_eq tab k.0) store.sizes → map shown_size found ≡ sized (table_index tab store).sizes
+pub sizes_read : (tab : ℤ) (store : StoreValue) (found : List stored_size.SizeRow) → map (shown.shown_size tab) found ≡ where_key cell_key_cmp (λ k. int_eq tab k.0) store.sizes → map size_under_key found ≡ sized (table_index tab store).sizes
 sizes_read tab store found is =
     sym (ap (λ zs. sized (map own_size zs)) (sym is)
     ∙ ap sized (map-map own_size (shown.shown_size tab) found)
@@ -90,18 +89,18 @@ terms_own tab [] = refl
 terms_own tab (t ∷ ts) = map-append own_list (lists_under tab t) (lists_by_terms tab ts) ∙ (λ i. term_own tab (string_bytes t.term) (lists_of_postings t.postings.items) i ++ terms_own tab ts i)
 
 -- A table's index rows are those of a content where its sizes and lists are.
-pub rows_same : (tab : ℤ) (store : StoreValue) (content : Content) (ss : List stored_size.SizeRow) (terms : List TermLists) → SizesRead tab store ss → (map shown_size ss ≡ sized (index_rows content).sizes) × (lists_of_terms terms ≡ (index_rows content).lists) →
+pub rows_same : (tab : ℤ) (store : StoreValue) (content : Content) (ss : List stored_size.SizeRow) (terms : List TermLists) → SizesRead tab store ss → (map size_under_key ss ≡ sized (index_rows content).sizes) × (lists_of_terms terms ≡ (index_rows content).lists) →
     lists_asked tab store ≡ lists_by_terms tab terms → table_index tab store ≡ index_rows content
 rows_same tab store content ss terms read theirs same =
     let lists : (table_index tab store).lists ≡ (index_rows content).lists = ap (map own_list) same ∙ terms_own tab terms ∙ theirs.1 in
-    let sizes : (table_index tab store).sizes ≡ (index_rows content).sizes = sized_back (table_index tab store).sizes (index_rows content).sizes (sym (sizes_read tab store ss read) ∙ theirs.0) in
+    let sizes : (table_index tab store).sizes ≡ (index_rows content).sizes = sym (sizes_again (table_index tab store).sizes) ∙ ap (map size_of) (sym (sizes_read tab store ss read) ∙ theirs.0) ∙ sizes_again (index_rows content).sizes in
     λ i. record { lists = lists i; sizes = sizes i }
 
 pub lists_same : (tab : ℤ) (store : StoreValue) (content : Content) (terms : List TermLists) → lists_of_terms terms ≡ (index_rows content).lists → table_index tab store ≡ index_rows content → lists_asked tab store ≡ lists_by_terms tab terms
 lists_same tab store content terms theirs same =
     sym (asked_given tab store.lists) ∙ ap (map (given tab)) (ap (λ (r : IndexRows). r.lists) same ∙ sym theirs) ∙ terms_given tab terms
 
-pub sizes_others : (tab : ℤ) (store : StoreValue) (content : Content) (ss : List stored_size.SizeRow) → SizesRead tab store ss → map shown_size ss ≢ sized (index_rows content).sizes → table_index tab store ≢ index_rows content
+pub sizes_others : (tab : ℤ) (store : StoreValue) (content : Content) (ss : List stored_size.SizeRow) → SizesRead tab store ss → map size_under_key ss ≢ sized (index_rows content).sizes → table_index tab store ≢ index_rows content
 sizes_others tab store content ss read others same = others (sizes_read tab store ss read ∙ ap (λ (r : IndexRows). sized r.sizes) same)
 
 -- ---- reads one after another
@@ -154,19 +153,16 @@ pub stands_stale : (name : List ℕ) (rows : TableRows) (index : IndexRows) (con
 stands_stale name rows index content are wrong = record { held = Stale content; stands = (are.0, are.1, wrong); is = refl }
 
 -- the columns of a content are those that its rows say
-pub said_columns : (name : List ℕ) (rows : TableRows) (content : Content) → IsContent name content → rows ≡ content_rows content → columns_in rows ≡ content.columns
+pub said_columns : (name : List ℕ) (rows : TableRows) (content : Content) → IsContent name content → rows ≡ content_rows content → columns_said rows ≡ content.columns
 said_columns name rows content is same = ap (λ (r : TableRows). (content_in r).columns) same ∙ ap (λ (x : Content). x.columns) (rows_are_read name content is)
 
-pub have_content : (name : List ℕ) (rows : TableRows) (columns : List Column) → columns ≡ columns_in rows → (are : AreContent name rows) → HaveContent columns rows.cells are.content
+pub have_content : (name : List ℕ) (rows : TableRows) (columns : List Column) → columns ≡ columns_said rows → (are : AreContent name rows) → HaveContent columns rows.cells are.content
 have_content name rows columns are h = record {
   name = name;
   is_content = h.is_content;
   columns_are = sym (are ∙ said_columns name rows h.content h.is_content h.is);
   cells_are = ap (λ (r : TableRows). r.cells) h.is;
 }
-
-pub have_columns : (name : List ℕ) (rows : TableRows) (columns : List Column) → columns ≡ columns_in rows → AreContent name rows → 0 < length columns
-have_columns name rows columns are h = some_columns name columns (parts_of name rows columns are h).columns
 
 -- what is said of a table that is listed is said of the one that the store names
 pub are_listed : (store : StoreValue) (named : ℤ × List ℕ) (table : TabRow) (cells : List stored_cell.CellRow) → Listed store named table cells → AreContent named.1 (table_rows named.0 store) → AreContent (string_bytes table.name) (listed_rows table cells)
@@ -178,17 +174,17 @@ are_named store named table cells l are = (subst (λ n. IsContent n are.content)
 -- ---- what is told of a table
 
 -- the columns of a table are those that its rows say
-pub told_columns : (name : List ℕ) (rows : TableRows) (index : IndexRows) (held : TableState) → Stands name rows index held → columns_in rows ≡ held_columns held
+pub told_columns : (name : List ℕ) (rows : TableRows) (index : IndexRows) (held : TableState) → Stands name rows index held → columns_said rows ≡ held_columns held
 told_columns name rows index (Sound content) stands = said_columns name rows content stands.0 stands.1
 told_columns name rows index (Stale content) stands = said_columns name rows content stands.0 stands.1
 told_columns name rows index (Loose loose) stands = ap (λ (r : TableRows). (content_in r).columns) (sym stands.0)
 
 pub marked : (store : StoreValue) (named : ℤ × List ℕ) (table : TabRow) (known : TableInfo) (state : RowState) → IsListed store named table → StandsSo named.1 (table_rows named.0 store) (table_index named.0 store) state →
-    known.id ≡ table.id → known.name ≡ string_bytes table.name → known.columns ≡ columns_in (listed_rows table []) →
-    ((held : TableState) → state ≡ state_of held → known.sound ≡ is_sound held) → IsMarked store named known
+    known.id ≡ table.id → known.name ≡ string_bytes table.name → known.columns ≡ columns_said (listed_rows table []) →
+    ((held : TableState) → state ≡ state_of held → known.sound ≡ is_sound held) → HasTableMark store named known
 marked store named table known state is so id name columns sound =
     let same_id = id ∙ ap (λ (l : shown.Listed). l.id) is in
     let same_name = name ∙ ap (λ (l : shown.Listed). l.name) is in
-    let same_columns : known.columns ≡ held_columns so.held = columns ∙ (λ i. columns_in (record { columns = (is i).columns; skipped = (is i).skipped; cells = [] })) ∙ told_columns named.1 (table_rows named.0 store) (table_index named.0 store) so.held so.stands in
+    let same_columns : known.columns ≡ held_columns so.held = columns ∙ (λ i. columns_said (record { columns = (is i).columns; skipped = (is i).skipped; cells = [] })) ∙ told_columns named.1 (table_rows named.0 store) (table_index named.0 store) so.held so.stands in
     let same_mark : known.sound ≡ is_sound so.held = sound so.held so.is in
     record { held = so.held; stands = so.stands; told = λ i. record { id = same_id i; name = same_name i; columns = same_columns i; sound = same_mark i } }

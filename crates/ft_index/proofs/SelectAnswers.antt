@@ -22,7 +22,7 @@ use Rattle.ft_documents.specs.Found.{info_named, IsUnfit}
 use Rattle.ft_index.specs.Kept.{FullText, IsUp, AreHeld, Executes, KeepsOthers, OnlyLooks, Answers, is_outside, held_columns}
 use Rattle.ft_index.specs.Changed.{with_tables}
 use Rattle.ft_index.specs.DocumentsRead.{Looks}
-use Rattle.ft_documents.specs.Chosen.{ReadsAs}
+use Rattle.ft_documents.specs.Chosen.{ReadsFilterAs}
 use Rattle.ft_index.specs.Selected.{IsAsked}
 use Rattle.ft_index.specs.RowsRead.{rows_asked, CountsHeld, CountsFound, CountsRows, CountsCommand}
 use Rattle.ft_index.proofs.OtherRows.{keeps_same}
@@ -58,7 +58,7 @@ reading_bare : (columns : List Column) (content : Content) (name text : List ℕ
 unfolding reading
 reading_bare columns content name text same = λ i. query_of (names_of (sym same i)) (column_place (bare (sym same i)) name) text
 
-reads_bare : (columns : List Column) (content : Content) (f : Filter) (query : Option Tree) → content.columns ≡ columns → ReadsAs (bare columns) f query → ReadsAs content f query
+reads_bare : (columns : List Column) (content : Content) (f : Filter) (query : Option Tree) → content.columns ≡ columns → ReadsFilterAs (bare columns) f query → ReadsFilterAs content f query
 reads_bare columns content All query same h = tt
 reads_bare columns content (Docid docid) query same h = tt
 reads_bare columns content (Match name text) query same h = sym (reading_bare columns content name text same) ∙ h
@@ -156,7 +156,7 @@ module _ {S : Type 0} (g : Ghosts S) (old new : StoreState S) (tables : List Tab
     select_undone fault (inl memory) = select_refused fault (inr memory)
     select_undone fault (inr is) = does (Err fault) (λ up first holds. inr (refused_answers first command fault (due first holds ∙ is)))
 
-    module _ (order : AreInOrder (value_in g old)) (query : Option Tree) (grid : Grid) (fine : select_fault known.name (bare known.columns) items f ≡ None) (reads : ReadsAs (bare known.columns) f query) where
+    module _ (order : AreInOrder (value_in g old)) (query : Option Tree) (grid : Grid) (fine : select_fault known.name (bare known.columns) items f ≡ None) (reads : ReadsFilterAs (bare known.columns) f query) where
       asked : (up : IsUp g (with_tables new tables)) (first : Contents) (holds : AreHeld (value_in g old) tables first) → IsAsked g known.id known.columns items f query old new (table_of first holds).content
       asked up first holds =
           let t = table_of first holds in

@@ -21,7 +21,7 @@ use Rattle.ft_documents.specs.declared.documents.Document.{Document}
 use Rattle.ft_documents.specs.Gathered.{shown_document}
 use Rattle.ft_documents.specs.Chosen.{cells_at, document_at}
 use Rattle.ft_documents.specs.Matched.{hit_read, chosen_hits, as_wanted}
-use Rattle.ft_index.specs.RowsRead.{is_column, entries_asked, rows_asked}
+use Rattle.ft_index.specs.RowsRead.{reads_document, entries_asked, rows_asked}
 use Rattle.ft_index.specs.Selected.{hit_cells}
 use Rattle.ft_documents.proofs.ChosenLemmas.{chosen_again, chosen_all}
 use Rattle.sqlite_keyed.proofs.ListLemmas.{map-map}
@@ -63,14 +63,14 @@ offsets_if_asked text right content document items asked = go (list_any is_offse
     go false isnt = offsets_unasked (Text text) (Text right) content document items isnt
 
 -- without columns the cells of the document don't matter
-cells_unread : (offsets : Cell) (content : Content) (docid : ℤ) (one other : List Cell) (items : List Item) → list_any is_column items ≡ false →
+cells_unread : (offsets : Cell) (content : Content) (docid : ℤ) (one other : List Cell) (items : List Item) → list_any reads_document items ≡ false →
     flat_map (cells_with offsets content (docid, one)) items ≡ flat_map (cells_with offsets content (docid, other)) items
 cells_unread offsets content docid one other [] none = refl
 cells_unread offsets content docid one other (AllColumns ∷ items) none = absurd (let no = none in cc)
 cells_unread offsets content docid one other (Named name ∷ items) none = go (is_docid name) refl none (cells_unread offsets content docid one other items)
   where
-    go : (b : Bool) → is_docid name ≡ b → (not b || list_any is_column items) ≡ false →
-        (list_any is_column items ≡ false → flat_map (cells_with offsets content (docid, one)) items ≡ flat_map (cells_with offsets content (docid, other)) items) →
+    go : (b : Bool) → is_docid name ≡ b → (not b || list_any reads_document items) ≡ false →
+        (list_any reads_document items ≡ false → flat_map (cells_with offsets content (docid, one)) items ≡ flat_map (cells_with offsets content (docid, other)) items) →
         flat_map (cells_with offsets content (docid, one)) (Named name ∷ items) ≡ flat_map (cells_with offsets content (docid, other)) (Named name ∷ items)
     go true is none rest =
         let cell : List Cell → Cell = λ cells. unwrap_or (option_and_then (slice_get cells) (column_place content name)) Null in
@@ -81,7 +81,7 @@ cells_unread offsets content docid one other (OffsetsOf name ∷ items) none = a
 -- ---- rows of hits
 
 -- no cell is needed where no item is a column
-pub row_unread : (columns : List Column) (items : List Item) (content : Content) (cells : List Cell) (hit : Hit) → list_any is_column items ≡ false → hit_cells columns items (λ docid. cells) hit ≡ hit_cells columns items (cells_at content) hit
+pub row_unread : (columns : List Column) (items : List Item) (content : Content) (cells : List Cell) (hit : Hit) → list_any reads_document items ≡ false → hit_cells columns items (λ docid. cells) hit ≡ hit_cells columns items (cells_at content) hit
 row_unread columns items content cells h none = cells_unread (Text (offsets_text h.offsets.items)) (record { columns = columns; documents = [] }) h.docid cells (cells_at content h.docid) items none
 
 same_each : {D X : Type 0} (again : D → D) (F : D → D → X) (ds : List D) → map again ds ≡ ds → map (λ d. F d (again d)) ds ≡ map (λ d. F d d) ds
@@ -189,9 +189,9 @@ hits_answered limit most offset hits answered all is found enough = ap (map plai
 
 -- of the documents that are answered each is read where an item is a column
 pub asked_items : (content : Content) (items : List Item) (name text : List ℕ) (limit : Option ℕ) (offset : ℕ) (n : ℕ) → n ≡ length (cut limit offset (chosen content (Match name text))) →
-    entries_asked content (query_in content (Match name text)) + cond (list_any is_column items) (length content.columns) 0 * n ≡ rows_asked content (Listed items) (Match name text) limit offset
+    entries_asked content (query_in content (Match name text)) + cond (list_any reads_document items) (length content.columns) 0 * n ≡ rows_asked content (Listed items) (Match name text) limit offset
 unfolding rows_asked
-asked_items content items name text limit offset n many = go (list_any is_column items)
+asked_items content items name text limit offset n many = go (list_any reads_document items)
   where
     entries : ℕ
     entries = entries_asked content (query_in content (Match name text))

@@ -10,7 +10,7 @@ use Rattle.ft_content.specs.Content.{Content, Documents, is_docid, is_too_long, 
 use Rattle.ft_content.specs.Command.{Filter, Update, Done}
 use Rattle.ft_content.specs.Answer.{chosen}
 use Rattle.ft_content.specs.Views.{bare_content, column_of}
-use Rattle.ft_content.specs.Deserved.{Contents, first_of, or_else, on_sound, has_column, is_text, is_null, docids_in, query_fault, moves_fault, update_tests, update_fault, deserved}
+use Rattle.ft_content.specs.Deserved.{Contents, first_of, or_else, on_sound, has_column, is_text, is_null, docids_named, query_fault, moves_fault, update_tests, update_fault, deserved}
 use Rattle.ft_content.specs.Step.{updated, with_documents, on_table, after, touched, reply_to}
 use Rattle.ft_content.proofs.ContentLemmas.{update_keeps_content}
 use Rattle.ft_documents.specs.Updated.{update_touches}
@@ -65,7 +65,7 @@ module _ (sets : List (List ℕ × Cell)) (f : Filter) where
   module _ (content : Content) (cols : List source.Column) (columns_are : content.columns ≡ map column_of cols) (table : List ℕ) where
     abbrev later : List (Bool × Fault)
     later = (list_any (λ (s : List ℕ × Cell). is_docid s.0 && (is_text s.1 || is_null s.1)) sets, faults.DocidKind)
-        ∷ (nat_lt 1 (length (docids_in sets)), faults.DocidTwice)
+        ∷ (nat_lt 1 (length (docids_named sets)), faults.DocidTwice)
         ∷ (list_any (λ (s : List ℕ × Cell). is_too_long s.1) sets, faults.TooLong)
         ∷ (list_any (λ (s : List ℕ × Cell). has_nul s.1) sets, faults.HasNul)
         ∷ []
@@ -74,7 +74,7 @@ module _ (sets : List (List ℕ × Cell)) (f : Filter) where
     tests_are = λ i. first_of ((not (list_all (λ (s : List ℕ × Cell). has_column (record { columns = columns_are i; documents = [] }) s.0) sets) || unknown_bare content cols columns_are f table i, faults.NoSuchColumn) ∷ later)
 
     abbrev moves : Option Fault
-    moves = moves_fault content.documents (chosen content f) (docids_in sets)
+    moves = moves_fault content.documents (chosen content f) (docids_named sets)
 
     -- a test that refuses it
     pub tested_due : (fault : Fault) → update_tests table (bare_content cols) sets f ≡ Some fault → due table content ≡ Some fault

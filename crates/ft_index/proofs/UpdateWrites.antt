@@ -16,11 +16,11 @@ use Rattle.ft_values.specs.declared.fault.Fault.TheVariants as faults
 use Rattle.ft_content.specs.Content.{Content, Documents, IsContent}
 use Rattle.ft_content.specs.Command.{Filter}
 use Rattle.ft_content.specs.Answer.{is_chosen, chosen}
-use Rattle.ft_content.specs.Deserved.{docids_in, with_values, has_docid, moves_fault}
+use Rattle.ft_content.specs.Deserved.{docids_named, with_values, has_docid, moves_fault}
 use Rattle.ft_content.specs.Step.{docids_of, docid_if_any, without_docid, moved, updated}
 use Rattle.ft_documents.specs.declared.documents.Document.{Document}
 use Rattle.ft_documents.specs.Gathered.{shown_document}
-use Rattle.ft_documents.specs.Rewrite.{Rewrite, by_docid, rewritten}
+use Rattle.ft_documents.specs.Rewrite.{Rewrite, under_docids, rewritten}
 use Rattle.ft_documents.specs.Updated.{changing, leaving, coming, moved_from, MayMove}
 use Rattle.ft_index.specs.Written.{LeadsTo}
 use Rattle.ft_documents.proofs.KeyedRows.{tie, of_true}
@@ -79,7 +79,7 @@ module _ (docs : Documents) (sorted : is_sorted int_cmp docs ≡ true) (r : Rewr
   module _ (found : r.before ≡ find int_cmp r.docid docs) (free : find int_cmp docid docs ≡ None) (apart : int_eq r.docid docid ≡ false) where
     -- what is to be known of the two rewrites
     pub record AreMoves (rewrites : List Rewrite) : Type 0 where
-      pub rising : is_sorted int_cmp (by_docid rewrites) ≡ true
+      pub rising : is_sorted int_cmp (under_docids rewrites) ≡ true
       pub knows : AllByRecursion (λ (x : Rewrite). x.before ≡ find int_cmp x.docid docs) rewrites
       pub made : rewritten rewrites docs ≡ Moved
       pub near : AllByRecursion (λ (x : Rewrite). Contains (r.docid ∷ docid ∷ []) x.docid) rewrites
@@ -130,7 +130,7 @@ module _ (sets : List (List ℕ × Cell)) (f : Filter) where
   abbrev moved_in : Content → Documents → List ℤ → Documents
   moved_in content picked docids = moved (set_all content) (map (λ (d : ℤ × List Cell). (d.0, set_in content d)) picked) docids
 
-  made_of : (content : Content) → updated content sets f ≡ moved_in content (chosen content f) (docids_in sets)
+  made_of : (content : Content) → updated content sets f ≡ moved_in content (chosen content f) (docids_named sets)
   made_of content = refl
 
   -- where none moves

@@ -21,7 +21,7 @@ use Rattle.ft_store.specs.Calls.{Keeps}
 use Rattle.ft_store.specs.Kept.{StoreState, shows, value_in}
 use Rattle.ft_content.specs.Content.{Content, IsContent}
 use Rattle.ft_content.specs.Index.{IndexRows, index_rows}
-use Rattle.ft_content.specs.Meaning.{content_documents, documents_in, entries_in, lists_of_terms, ListsMeanDocuments, TermsAreTheirLists, DocumentsAreInOrder}
+use Rattle.ft_content.specs.Meaning.{content_documents, documents_in, entries_in, lists_with_terms, ListsMeanDocuments, TermsAreTheirLists, DocumentsAreInOrder}
 use Rattle.ft_content.proofs.MeaningLemmas.{lists_mean_documents, terms_are_their_lists, terms_are_counted, documents_are_in_order}
 use Rattle.ft_documents.specs.Placed.{list_of, all_in, AreListsOf}
 use Rattle.ft_documents.specs.Tables.{table_index}
@@ -78,11 +78,11 @@ module _ {S : Type 0} (g : Ghosts S) (tab : ℤ) (old new : StoreState S) (kept 
   walk_answer asks test same rows read found shown h =
       let order = in_order h.name h.content h.is_content in
       let lists = (index_rows h.content).lists in
-      let are : all_in (map list_of rows) ≡ map bare (entries_in (lists_of_terms test lists)) =
+      let are : all_in (map list_of rows) ≡ map bare (entries_in (lists_with_terms test lists)) =
       ap all_in (sym (map-map read_list shown_list rows) ∙ ap (map read_list) (read h.clean))
       ∙ ap (λ (v : StoreValue). all_in (map read_list (map bare_list (where_key list_key_cmp asks v.lists)))) (sym (same_value h))
       ∙ asked_entries tab asks test same (value_in g new).lists
-      ∙ ap (λ (r : IndexRows). map bare (entries_in (lists_of_terms test r.lists))) h.index in
+      ∙ ap (λ (r : IndexRows). map bare (entries_in (lists_with_terms test r.lists))) h.index in
       rows_answer (content_documents h.content) order test lists (their_lists h.name h.content test h.is_content) (terms_are_counted h.name h.content test h.is_content) rows are found shown
       ∙ ap (lists_with test) (sym (reliable_means g tab new h))
 

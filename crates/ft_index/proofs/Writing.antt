@@ -13,7 +13,7 @@ use Rattle.ft_content.specs.Views.{TableInfo}
 use Rattle.ft_content.specs.Deserved.{Contents, table_named, on_sound, deserved}
 use Rattle.ft_content.specs.Step.{with_documents, on_table, after, reply_to, touched, touched_of, touched_found, touched_held}
 use Rattle.ft_documents.specs.Found.{info_named, IsUnfit}
-use Rattle.ft_documents.specs.Rewrite.{Rewrite, AreRight, docids_of, rewritten_content}
+use Rattle.ft_documents.specs.Rewrite.{Rewrite, AreRight, rewritten_docids, rewritten_content}
 use Rattle.ft_index.specs.Kept.{AreHeld, StoreHolds, AreOfFound, StaysNear, PlansFrom, is_outside}
 use Rattle.ft_documents.specs.Tables.{IsOfDocids}
 use Rattle.ft_index.specs.Written.{LeadsTo}
@@ -34,7 +34,7 @@ pub record IsWrite (command : Command) (name : List ℕ) (due : List ℕ → Con
 
 -- ---- changes are of documents that are touched
 
-contained : (touched : List ℤ) (rewrites : List Rewrite) → AllByRecursion (λ (r : Rewrite). Contains touched r.docid) rewrites → (docid : ℤ) (k : ℕ) → k < length (docids_of rewrites) → slice_index_or (docids_of rewrites) k docid ≡ docid → Contains touched docid
+contained : (touched : List ℤ) (rewrites : List Rewrite) → AllByRecursion (λ (r : Rewrite). Contains touched r.docid) rewrites → (docid : ℤ) (k : ℕ) → k < length (rewritten_docids rewrites) → slice_index_or (rewritten_docids rewrites) k docid ≡ docid → Contains touched docid
 contained touched [] near docid k inside is = absurd (omega (arith, inside))
 contained touched (r ∷ rs) near docid zero inside is = subst (Contains touched) is near.0
 contained touched (r ∷ rs) near docid (suc k) inside is = contained touched rs near.1 docid k (omega (arith, inside)) is
@@ -74,14 +74,14 @@ module _ (command : Command) (name : List ℕ) (due : List ℕ → Content → O
 
   -- row changes that are right for rewrites which lead to what the command leaves
   pub plan_written : (known : TableInfo) (t : IsSoundTable contents name known) (rewrites : List Rewrite) (changes : List Change) → AreInOrder store → due t.table.1.name t.content ≡ None → LeadsTo t.content (change t.content) (touch t.content) rewrites →
-      AreRight t.table.0 t.content.columns rewrites changes → All (IsOfDocids t.table.0 (docids_of rewrites)) changes → PlansFrom contents command store (Ok changes)
+      AreRight t.table.0 t.content.columns rewrites changes → All (IsOfDocids t.table.0 (rewritten_docids rewrites)) changes → PlansFrom contents command store (Ok changes)
   plan_written known t rewrites changes order fine leads right of_docids =
       let has = sound_rows store tables contents name known t order held in
       let done = right t.table.1.name t.content store has refl leads.are_of in
       let same : rewritten_content rewrites t.content ≡ record t.content { documents = change t.content } = λ i. record t.content { documents = leads.made i } in
-      let few = recursion_from_All (IsOfDocids t.table.0 (docids_of rewrites)) changes of_docids in
-      let leaves = leaves_rest t.table.0 (docids_of rewrites) changes store few in
-      let many = all_widened t.table.0 (docids_of rewrites) (touch t.content) (λ docid inside. contained (touch t.content) rewrites leads.near docid inside.0 inside.1 inside.2) changes few in
+      let few = recursion_from_All (IsOfDocids t.table.0 (rewritten_docids rewrites)) changes of_docids in
+      let leaves = leaves_rest t.table.0 (rewritten_docids rewrites) changes store few in
+      let many = all_widened t.table.0 (rewritten_docids rewrites) (touch t.content) (λ docid inside. contained (touch t.content) rewrites leads.near docid inside.0 inside.1 inside.2) changes few in
       let touches : touched contents command ≡ touch t.content = is.touches contents ∙ ap (λ found. touched_found found touch) t.found ∙ ap (λ h. touched_held h touch) t.held in (
         is.deserves contents ∙ sound_is contents name known t due ∙ fine,
         subst (StoreHolds (all_applied changes store)) (sym (is.leaves contents))

@@ -16,9 +16,9 @@ use Rattle.ft_content.specs.Command.{Command, Reply}
 use Rattle.ft_content.specs.Deserved.{Table, Contents}
 use Rattle.ft_content.specs.Step.{step, after}
 use Rattle.ft_content.specs.Views.{table_names}
-use Rattle.ft_index.specs.Kept.{FullText, IsUp, Holds, StoreHolds, Executes, Notes, OnlyLooks, is_outside, is_sound, value_of}
+use Rattle.ft_index.specs.Kept.{FullText, IsUp, Holds, StoreHolds, Executes, Notes, OnlyLooks, is_outside, is_sound, store_value}
 use Rattle.ft_index.specs.Refused.{BlamesCommand}
-use Rattle.ft_index.specs.Crashes.{HoldsLeft, IsSettled, LeavesCommand, LeavesNote, LeavesRead, Name}
+use Rattle.ft_index.specs.Crashes.{HoldsLeft, SurvivesCrash, LeavesCommand, LeavesNote, LeavesRead, Name}
 
 -- a call of `execute` with its answer, of `note`, which was done or refused, or one that reads at
 -- most, which was answered or not
@@ -82,7 +82,7 @@ AreAnswered first (Looked is_done ∷ calls) = AreAnswered first calls
 pub record StandsAfter {S : Type 0} (g : Ghosts S) (first : Contents) (names : List Name) (calls : List Call) (known : FullText S) : Type 0 where
   pub up : IsUp g known
   pub holds : Holds g known (left_by first (accepted calls))
-  pub noted : (value_of g known).noted ≡ noted_by names calls
+  pub noted : (store_value g known).noted ≡ noted_by names calls
   pub answered : AreAnswered first calls
 
 -- what a call leaves of contents and noted names, where it is done
@@ -107,21 +107,23 @@ pub data LeftAfter (first : Contents) (names : List Name) (calls : List Call) (d
 pub record CallsKept {S : Type 0} (g : Ghosts S) (first : Contents) (start : FullText S) (calls : List Call) (end : FullText S) : Type 0 where
   -- so it stands after each call that is answered, whatever comes after it
   pub stands : (before more : List Call) (call : Call) → calls ≡ before ++ call ∷ more → is_answered call ≡ true →
-      (mid : FullText S) × Runs g start (before ++ call ∷ []) mid × Runs g mid more end × StandsAfter g first (value_of g start).noted (before ++ call ∷ []) mid
+      (mid : FullText S) × Runs g start (before ++ call ∷ []) mid × Runs g mid more end
+      × StandsAfter g first (store_value g start).noted (before ++ call ∷ []) mid
   -- and in the end, as long as the store is open
-  pub ends : IsTrue (shows g end.store).is_open → StandsAfter g first (value_of g start).noted calls end
+  pub ends : IsTrue (shows g end.store).is_open → StandsAfter g first (store_value g start).noted calls end
   -- a refused command changes no row of content or index, and no mark, and the store refuses it only
   -- for a cause
   pub refused : (before more : List Call) (command : Command) (fault : Fault) → calls ≡ before ++ Executed command (Err fault) ∷ more →
-      (was now : FullText S) × Runs g start before was × Runs g now more end × (IsUp g now → (value_of g now ≡ value_of g was) × (now.tables ≡ was.tables))
+      (was now : FullText S) × Runs g start before was × Runs g now more end
+      × (IsUp g now → (store_value g now ≡ store_value g was) × (now.tables ≡ was.tables))
       × BlamesCommand g was command (Err fault) now
   -- a crash leaves what stood before the running command or after it, and what was answered stands
-  pub crash : IsUp g start → (db : Trees) → (shows g end.store).may_leave db → LeftAfter first (value_of g start).noted calls db
+  pub crash : IsUp g start → (db : Trees) → (shows g end.store).may_leave db → LeftAfter first (store_value g start).noted calls db
 
 -- After any calls it is so, whatever contents the store held before them.
 abbrev pub KeptByCalls : {S : Type 0} → Ghosts S → Type 0
 KeptByCalls {S} g = (start end : FullText S) (calls : List Call) (first : Contents) → HasCleanDisk (shows g end.store) → Holds g start first
-    → IsSettled g start → Runs g start calls end → CallsKept g first start calls end
+    → SurvivesCrash g start → Runs g start calls end → CallsKept g first start calls end
 
 -- What a store holds are one contents: so its tables' marks are settled.
 abbrev pub HoldsOneContents : Type 0

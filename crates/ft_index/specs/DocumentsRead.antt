@@ -39,7 +39,7 @@ pub record LooksFor {S X F : Type 0} (g : Ghosts S) (old new : StoreState S) (re
   pub cause : IfErr result Cause
 
 -- the same of a call that asks the store in any case: its answer says that the store is open
-pub record Asks {S X F : Type 0} (g : Ghosts S) (old new : StoreState S) (result : Result X F) (Cause : F → Type 0) (Told : Type 0) : Type 0 where
+pub record AsksStore {S X F : Type 0} (g : Ghosts S) (old new : StoreState S) (result : Result X F) (Cause : F → Type 0) (Told : Type 0) : Type 0 where
   pub told : Told
   pub only : Looks g old new
   pub live : HasCleanDisk (shows g new) → OnOk result (IsTrue (shows g new).is_open)

@@ -39,8 +39,8 @@ full_text_code {S} s = code_by (StoreState S × List TableInfo) (coded× (store_
     (λ p. record { store = p.0; tables = p.1 }) (λ _. refl)
 
 -- what its store holds
-abbrev pub value_of : {S : Type 0} → Ghosts S → FullText S → StoreValue
-value_of g known = value_in g known.store
+abbrev pub store_value : {S : Type 0} → Ghosts S → FullText S → StoreValue
+store_value g known = value_in g known.store
 
 -- So far the disk returned what was written, and the store is open. What is said of rows is said
 -- then. In memory it is always so, as long as the store is open.
@@ -89,11 +89,11 @@ pub record AreHeld (store : StoreValue) (tables : List TableInfo) (contents : Co
   pub told : tables ≡ map table_info contents
 
 abbrev pub Holds : {S : Type 0} → Ghosts S → FullText S → Contents → Type 0
-Holds g known contents = AreHeld (value_of g known) known.tables contents
+Holds g known contents = AreHeld (store_value g known) known.tables contents
 
 -- the store names a table of this id
-abbrev pub names_table : StoreValue → ℤ → Bool
-names_table store id = is_some (find int_cmp id store.tables)
+abbrev pub has_table_id : StoreValue → ℤ → Bool
+has_table_id store id = is_some (find int_cmp id store.tables)
 
 -- rows and index rows of nothing
 abbrev pub no_rows : TableRows
@@ -107,8 +107,8 @@ no_index = record { lists = []; sizes = [] }
 -- table that goes.
 pub record KeepsOthers (old new : StoreValue) : Type 0 where
   pub noted : new.noted ≡ old.noted
-  pub rows : (id : ℤ) → names_table new id ≡ false → table_rows id new ≡ (if names_table old id then no_rows else table_rows id old)
-  pub index : (id : ℤ) → names_table new id ≡ false → table_index id new ≡ (if names_table old id then no_index else table_index id old)
+  pub rows : (id : ℤ) → has_table_id new id ≡ false → table_rows id new ≡ (if has_table_id old id then no_rows else table_rows id old)
+  pub index : (id : ℤ) → has_table_id new id ≡ false → table_index id new ≡ (if has_table_id old id then no_index else table_index id old)
 
 -- where it is up it holds some contents
 abbrev pub HoldsSome : {S : Type 0} → Ghosts S → FullText S → Type 0
@@ -117,7 +117,7 @@ HoldsSome g known = IsUp g known → (contents : Contents) × Holds g known cont
 -- The call has read at most: database and marks are as before, and nothing was committed.
 pub record OnlyLooks {S : Type 0} (g : Ghosts S) (old new : FullText S) : Type 0 where
   pub was_up : IsUp g new → IsUp g old
-  pub value : IsUp g new → value_of g new ≡ value_of g old
+  pub value : IsUp g new → store_value g new ≡ store_value g old
   pub survives : Survives (shows g old.store) (shows g new.store) (λ _. IsTrue (shows g old.store).is_open → ⊥)
   pub tables : new.tables ≡ old.tables
 
@@ -164,9 +164,9 @@ Answers old command answer new = (IsTrue (is_outside answer) × (new ≡ old)) �
 pub record Executes {S : Type 0} (g : Ghosts S) (old : FullText S) (command : Command) (answer : Result Reply Fault) (new : FullText S) : Type 0 where
   pub was_up : IsUp g new → IsUp g old
   pub steps : IsUp g new → (first : Contents) → Holds g old first → (last : Contents) × Holds g new last × Answers first command answer last
-  pub others : IsUp g new → (first : Contents) → Holds g old first → KeepsOthers (value_of g old) (value_of g new)
+  pub others : IsUp g new → (first : Contents) → Holds g old first → KeepsOthers (store_value g old) (store_value g new)
   -- what is refused changes nothing
-  pub unchanged : is_ok answer ≡ false → IsUp g new → (value_of g new ≡ value_of g old) × (new.tables ≡ old.tables)
+  pub unchanged : is_ok answer ≡ false → IsUp g new → (store_value g new ≡ store_value g old) × (new.tables ≡ old.tables)
 
 abbrev pub AreOfFound : Option (ℤ × Table) → List ℤ → List Change → Type 0
 AreOfFound None docids changes = changes ≡ []
@@ -185,8 +185,8 @@ StaysNear contents (Check table) changes = changes ≡ []
 StaysNear contents (Optimize table) changes = changes ≡ []
 
 -- Row changes that lead to what a command leaves, which deserves no fault.
-abbrev pub Reaches : Contents → Command → StoreValue → List Change → Type 0
-Reaches contents command store changes =
+abbrev pub ReachesStep : Contents → Command → StoreValue → List Change → Type 0
+ReachesStep contents command store changes =
     (deserved contents command ≡ None) × StoreHolds (all_applied changes store) (after contents command) × KeepsOthers store (all_applied changes store)
 
 -- What a plan is: row changes that lead to what the command leaves, or the fault that it deserves.
@@ -196,10 +196,10 @@ PlansFrom contents command store (Ok changes) = (deserved contents command ≡ N
 PlansFrom contents command store (Err fault) = IsTrue (is_outside (Err fault)) ⊎ (deserved contents command ≡ Some fault)
 
 abbrev pub Plans : {S : Type 0} → Ghosts S → FullText S → Command → Result (List Change) Fault → Type 0
-Plans g known command answer = (contents : Contents) → Holds g known contents → PlansFrom contents command (value_of g known) answer
+Plans g known command answer = (contents : Contents) → Holds g known contents → PlansFrom contents command (store_value g known) answer
 
 -- what a call of `note` does, where it is up as the call ends
 pub record Notes {S : Type 0} (g : Ghosts S) (old : FullText S) (name : List ℕ) (is_done : Bool) (new : FullText S) : Type 0 where
   pub was_up : IsUp g new → IsUp g old
-  pub noted : IsUp g new → value_of g new ≡ (if is_done then with_note name (value_of g old) else value_of g old)
+  pub noted : IsUp g new → store_value g new ≡ (if is_done then with_note name (store_value g old) else store_value g old)
   pub tables : new.tables ≡ old.tables

@@ -42,18 +42,18 @@ abbrev pub IsNamed : StoreValue → ℤ → ℤ × List ℕ → Type 0
 IsNamed store id named = find (λ (n : ℤ × List ℕ). int_eq id n.0) store.tables ≡ Some named
 
 -- what is known of a table that the store names says how its rows stand
-pub record IsMarked (store : StoreValue) (named : ℤ × List ℕ) (known : TableInfo) : Type 0 where
+pub record HasTableMark (store : StoreValue) (named : ℤ × List ℕ) (known : TableInfo) : Type 0 where
   pub held : TableState
   pub stands : Stands named.1 (table_rows named.0 store) (table_index named.0 store) held
   pub told : known ≡ table_info (named.0, record { name = named.1; held = held })
 
 -- so it is of all tables that it names
 abbrev pub AreMarked : StoreValue → List (ℤ × List ℕ) → List TableInfo → Type 0
-AreMarked store named known = AllZip (IsMarked store) named known
+AreMarked store named known = AllZip (HasTableMark store) named known
 
 -- A store is taken as it is. Where it is up, what it holds are some contents, and each table has
 -- the mark that it has in them; they are the only ones.
-pub record Opens {S : Type 0} (g : Ghosts S) (old : StoreState S) (made : FullText S) : Type 0 where
+pub record OpensStore {S : Type 0} (g : Ghosts S) (old : StoreState S) (made : FullText S) : Type 0 where
   pub looks : Looks g old made.store
   pub live : HasCleanDisk (shows g made.store) → IsTrue (shows g made.store).is_open
   pub some : IsUp g made → (contents : Contents) × Holds g made contents
@@ -62,4 +62,4 @@ pub record Opens {S : Type 0} (g : Ghosts S) (old : StoreState S) (made : FullTe
 -- A store that holds contents is opened with the marks that they give its tables.
 abbrev pub OpensWhatIsLeft : {S : Type 0} → Ghosts S → Type 0
 OpensWhatIsLeft {S} g = (left : StoreValue) (contents : Contents) → StoreHolds left contents → (old : StoreState S) (made : FullText S)
-    → value_in g old ≡ left → Opens g old made → IsUp g made → Holds g made contents
+    → value_in g old ≡ left → OpensStore g old made → IsUp g made → Holds g made contents

@@ -37,8 +37,9 @@ abbrev pub table_change : TableInfo → Change
 table_change made = AddTable made.id (string_bytes made.name) (names_of (map column_of made.columns.items)) (skipped_from 0 (map column_of made.columns.items))
 
 -- What a Create makes: a table, or nothing where one of its name is there; or its fault.
-abbrev pub Makes : Contents → Creation → Result (Option TableInfo) Fault → Type 0
-Makes contents creation (Ok (Some made)) = (deserved contents (creation_of creation) ≡ None) × (table_named contents (string_bytes creation.table) ≡ None)
+abbrev pub PlansTable : Contents → Creation → Result (Option TableInfo) Fault → Type 0
+PlansTable contents creation (Ok (Some made)) = (deserved contents (creation_of creation) ≡ None) × (table_named contents (string_bytes creation.table) ≡ None)
     × IsMade contents creation made
-Makes contents creation (Ok None) = (deserved contents (creation_of creation) ≡ None) × IsTrue (is_some (table_named contents (string_bytes creation.table)))
-Makes contents creation (Err fault) = (fault ≡ faults.Memory) ⊎ (deserved contents (creation_of creation) ≡ Some fault)
+PlansTable contents creation (Ok None) =
+    (deserved contents (creation_of creation) ≡ None) × IsTrue (is_some (table_named contents (string_bytes creation.table)))
+PlansTable contents creation (Err fault) = (fault ≡ faults.Memory) ⊎ (deserved contents (creation_of creation) ≡ Some fault)

@@ -19,7 +19,7 @@ use Rattle.ft_content.specs.Views.{TableInfo}
 use Rattle.ft_content.specs.Deserved.{Contents}
 use Rattle.ft_documents.specs.Rewrite.{Rewrite, AreOf, HasContent}
 use Rattle.ft_documents.specs.RewriteRows.{rewrite_changes}
-use Rattle.ft_index.specs.Kept.{FullText, AreHeld, Holds, Reaches, BlamesStore, puts_rows, value_of}
+use Rattle.ft_index.specs.Kept.{FullText, AreHeld, Holds, ReachesStep, BlamesStore, puts_rows, store_value}
 
 -- ---- calls that read at most
 
@@ -29,8 +29,8 @@ NeverStore result = result ≡ Err faults.Store → ⊥
 
 -- Where a table has a content of which this holds, a call is answered so only for what lies outside
 -- the store.
-abbrev pub BlamesIn : {S X : Type 0} → Ghosts S → ℤ → StoreState S → StoreState S → Result X Fault → (Content → Type 0) → Type 0
-BlamesIn g tab old new result Asked = (name : List ℕ) (content : Content) → HasContent name content tab (value_in g old) → Asked content
+abbrev pub BlamesContent : {S X : Type 0} → Ghosts S → ℤ → StoreState S → StoreState S → Result X Fault → (Content → Type 0) → Type 0
+BlamesContent g tab old new result Asked = (name : List ℕ) (content : Content) → HasContent name content tab (value_in g old) → Asked content
     → BlamesStore (shows g old) (shows g new) result
 
 -- the same where the store holds contents, and these are its tables
@@ -67,7 +67,7 @@ pub record CantDo (contents : Contents) (command : Command) (store : StoreValue)
   pub puts : IsTrue (puts_rows command)
   pub changes : List Change
   pub own : AreOwn changes
-  pub reaches : Reaches contents command store changes
+  pub reaches : ReachesStep contents command store changes
   pub cant : CantMake db changes
 
 -- why a call that makes changes is answered so
@@ -85,4 +85,4 @@ BlamesDone g tables old command new result = (contents : Contents) → AreHeld (
 -- cause alone.
 abbrev pub BlamesCommand : {S : Type 0} → Ghosts S → FullText S → Command → Result Reply Fault → FullText S → Type 0
 BlamesCommand g old command answer new = HasCleanDisk (shows g new.store) → answer ≡ Err faults.Store → IsBlamed (shows g old.store) (shows g new.store)
-    ⊎ ((contents : Contents) × Holds g old contents × CantDo contents command (value_of g old) (shows g old.store).now.trees)
+    ⊎ ((contents : Contents) × Holds g old contents × CantDo contents command (store_value g old) (shows g old.store).now.trees)

@@ -15,10 +15,10 @@ use Rattle.sqlite.specs.Store.{Ghosts}
 use Rattle.ft_index.specs.Kept.{FullText, IsUp, Holds}
 
 -- an item whose cells are read of the document
-abbrev pub is_column : Item → Bool
-is_column AllColumns = true
-is_column (Named name) = not (is_docid name)
-is_column (OffsetsOf name) = false
+abbrev pub reads_document : Item → Bool
+reads_document AllColumns = true
+reads_document (Named name) = not (is_docid name)
+reads_document (OffsetsOf name) = false
 
 -- the entries of the query's terms, each term counted as often as it is written
 abbrev pub entries_asked : Content → Option Tree → ℕ
@@ -33,7 +33,7 @@ count_asked content (Match name text) = entries_asked content (query_in content 
 
 -- where an item is a column, one row for each column of each document that is answered
 abbrev pub cells_asked : Content → List Item → Filter → Option ℕ → ℕ → ℕ
-cells_asked content items f limit offset = if list_any is_column items then (length content.columns * length (cut limit offset (chosen content f))) else 0
+cells_asked content items f limit offset = if list_any reads_document items then (length content.columns * length (cut limit offset (chosen content f))) else 0
 
 -- whether both numbers have at most 32 bits
 abbrev pub are_short : Option ℕ → ℕ → Bool
@@ -48,7 +48,7 @@ docids_asked content limit offset = if are_short limit offset then length (cut l
 -- entries, and then the cells of those that are answered
 abbrev pub list_asked : Content → List Item → Filter → Option ℕ → ℕ → ℕ
 list_asked content items All limit offset =
-    if is_some limit || not (list_any is_column items) then (docids_asked content limit offset + cells_asked content items All limit offset)
+    if is_some limit || not (list_any reads_document items) then (docids_asked content limit offset + cells_asked content items All limit offset)
     else (length content.columns * length content.documents)
 list_asked content items (Docid docid) limit offset = count_asked content (Docid docid)
 list_asked content items (Match name text) limit offset = count_asked content (Match name text) + cells_asked content items (Match name text) limit offset

@@ -13,7 +13,7 @@ use Rattle.ft_content.specs.Answer.{cells_with}
 use Rattle.ft_content.specs.Deserved.{is_match, is_offsets, items_in}
 use Rattle.ft_index.specs.DocumentsRead.{HasRows}
 use Rattle.ft_index.specs.Walked.{IsIndexed}
-use Rattle.ft_documents.specs.Chosen.{ReadsAs}
+use Rattle.ft_documents.specs.Chosen.{ReadsFilterAs}
 
 -- the row of a hit, where these are the cells of documents
 abbrev pub hit_cells : List Column → List Item → (ℤ → List Cell) → Hit → List Cell
@@ -32,5 +32,5 @@ pub record IsAsked {S : Type 0} (g : Ghosts S) (tab : ℤ) (named : List Column)
     (content : Content) : Type 0 where
   pub held : IsOf g tab old new content
   pub columns : content.columns ≡ named
-  pub reads : ReadsAs content f query
+  pub reads : ReadsFilterAs content f query
   pub offsets : (list_any is_offsets (items_in items) && not (is_match f)) ≡ false

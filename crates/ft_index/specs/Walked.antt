@@ -30,7 +30,7 @@ pub record AreReliable {S : Type 0} (g : Ghosts S) (tab : ℤ) (store : StoreSta
 -- What reads do to a store, of which the last one may be refused where `all` is false: what is seen
 -- stays, and nothing is committed. Where all are answered, the store counts as many rows more as
 -- `given` grows.
-pub record Reads {S : Type 0} (g : Ghosts S) (old : StoreState S) (given : ℕ) (all : Bool) (new : StoreState S) (given_now : ℕ) : Type 0 where
+pub record ReadsStore {S : Type 0} (g : Ghosts S) (old : StoreState S) (given : ℕ) (all : Bool) (new : StoreState S) (given_now : ℕ) : Type 0 where
   pub kept : HasCleanDisk (shows g new) → Keeps (shows g old) (shows g new)
   pub live : HasCleanDisk (shows g new) → IsTrue all → IsTrue (shows g new).is_open
   pub survives : Survives (shows g old) (shows g new) (λ _. IsTrue (shows g old).is_open → ⊥)

@@ -15,7 +15,7 @@ use Rattle.ft_content.specs.Command.{Command}
 use Rattle.ft_content.specs.Views.{TableInfo, column_of}
 use Rattle.ft_content.specs.Deserved.{Contents}
 use Rattle.ft_documents.specs.declared.rewrite.Rewrite as source
-use Rattle.ft_documents.specs.Rewrite.{Rewrite, AreOf, AreRight, HasContent, shown_rewrite, docids_of, rewritten}
+use Rattle.ft_documents.specs.Rewrite.{Rewrite, AreOf, AreRight, HasContent, shown_rewrite, rewritten_docids, rewritten}
 use Rattle.ft_documents.specs.Tables.{IsOfDocids}
 use Rattle.ft_index.specs.declared.written.Written.{Written}
 use Rattle.ft_index.specs.Kept.{IsUp, AreHeld, PlansFrom, puts_rows}
@@ -43,9 +43,9 @@ pub record LeadsTo (content : Content) (documents : Documents) (touched : List �
 
 -- What comes of a command on a content, which may deserve a fault: rewrites that lead to its
 -- documents, or the fault, but for one from outside.
-abbrev pub Writes : Content → Option Fault → Documents → List ℤ → Result (Vec source.Rewrite Global) Fault → Type 0
-Writes content due documents touched (Ok rewrites) = (due ≡ None) × LeadsTo content documents touched (map shown_rewrite rewrites.items)
-Writes content due documents touched (Err fault) = ((fault ≡ faults.Store) ⊎ (fault ≡ faults.Memory)) ⊎ (due ≡ Some fault)
+abbrev pub WritesDocuments : Content → Option Fault → Documents → List ℤ → Result (Vec source.Rewrite Global) Fault → Type 0
+WritesDocuments content due documents touched (Ok rewrites) = (due ≡ None) × LeadsTo content documents touched (map shown_rewrite rewrites.items)
+WritesDocuments content due documents touched (Err fault) = ((fault ≡ faults.Store) ⊎ (fault ≡ faults.Memory)) ⊎ (due ≡ Some fault)
 
 -- What reads lead to, where the store is up as they end: changes that are a plan of the command, or
 -- its fault.
@@ -60,7 +60,7 @@ PlansIn g tables old new command answer = PlansTo g tables old new command (chan
 abbrev pub AreOfWritten : Written → List Change → Type 0
 AreOfWritten written changes =
     AreRight written.table.now.id (map column_of written.table.now.columns.items) (map shown_rewrite written.rewrites.items) changes
-    × All (IsOfDocids written.table.now.id (docids_of (map shown_rewrite written.rewrites.items))) changes
+    × All (IsOfDocids written.table.now.id (rewritten_docids (map shown_rewrite written.rewrites.items))) changes
 
 -- Documents are rewrites of some content that has their table's columns.
 pub record IsOfContent (written : Written) : Type 0 where

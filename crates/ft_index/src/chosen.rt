@@ -9,12 +9,12 @@ ghost use Rattle.ft_content.specs.Command.{Docid};
 ghost use Rattle.ft_content.specs.Answer.{chosen};
 ghost use Rattle.ft_content.specs.Deserved.{is_match};
 ghost use Rattle.ft_content.specs.Views.{cells_of, filter_of};
-ghost use Rattle.ft_index.specs.DocumentsRead.{HasRows, LooksFor, Asks};
+ghost use Rattle.ft_index.specs.DocumentsRead.{HasRows, LooksFor, AsksStore};
 ghost use Rattle.ft_documents.specs.Gathered.{shown_document};
 ghost use Rattle.ft_index.specs.Walked.{IsIndexed};
-ghost use Rattle.ft_documents.specs.Chosen.{ReadsAs, document_at};
+ghost use Rattle.ft_documents.specs.Chosen.{ReadsFilterAs, document_at};
 ghost use Rattle.ft_index.specs.Kept.{IsOutside};
-ghost use Rattle.ft_index.specs.Refused.{BlamesIn, AreThere};
+ghost use Rattle.ft_index.specs.Refused.{BlamesContent, AreThere};
 
 use crate::documents::{all_documents, document};
 use crate::matching::matched;
@@ -39,14 +39,15 @@ pub(crate) fn chosen_documents<S: Alter>(
         (IfOk result (λ found. (content : Content)
         → HasRows S.Store tab store.old store.new content
         → IsIndexed S.Store tab store.old store.new content
-        → ReadsAs content (filter_of filter.now) (option_map (λ q. tree_of q.now) query.entry)
+        → ReadsFilterAs content (filter_of filter.now) (option_map (λ q. tree_of q.now) query.entry)
         → map shown_document found.items ≡ chosen content (filter_of filter.now))) }
     ensures counted { OnOk result ((content : Content)
         → HasRows S.Store tab store.old store.new content
         → is_match (filter_of filter.now) ≡ false
         → store.new.rows_read ≡ more_rows (length content.columns
         * length (chosen content (filter_of filter.now))) store.old) }
-    ensures refused { BlamesIn S.Store tab store.old store.new result (λ content. ReadsAs content
+    ensures refused { BlamesContent S.Store tab store.old store.new result
+        (λ content. ReadsFilterAs content
         (filter_of filter.now) (option_map (λ q. tree_of q.now) query.entry)) }
 {
     match filter {
@@ -77,7 +78,7 @@ fn documents_under<S: Alter>(
         (IfOk result (λ found. (content : Content)
         → HasRows S.Store tab store.old store.new content → map shown_document found.items
         ≡ map (document_at content) docids.now)) }
-    ensures refused { BlamesIn S.Store tab store.old store.new result
+    ensures refused { BlamesContent S.Store tab store.old store.new result
         (λ content. AreThere content docids.now) }
 {
     let mut documents = Vec::new(alloc);
@@ -95,13 +96,13 @@ pub(crate) fn found_cells<S: Alter>(
     tab: i64,
     docid: i64,
 ) -> Result<Vec<Value>, Fault>
-    ensures looks { Asks S.Store store.old store.new result IsOutside
+    ensures looks { AsksStore S.Store store.old store.new result IsOutside
         (IfOk result (λ cells. (content : Content)
         → HasRows S.Store tab store.old store.new content → find int_cmp docid content.documents
         ≡ Some (cells_of cells))) }
     ensures counted { IfOk result (λ cells. store.new.rows_read
         ≡ more_rows (vec_len cells) store.old) }
-    ensures refused { BlamesIn S.Store tab store.old store.new result
+    ensures refused { BlamesContent S.Store tab store.old store.new result
         (λ content. IsSome (find int_cmp docid content.documents)) }
 {
     document(alloc, store, tab, docid)?.ok_or(Fault::Store)

@@ -11,7 +11,7 @@ ghost use Rattle.ft_content.specs.Content as content;
 ghost use Rattle.ft_content.specs.Content.{Content};
 ghost use Rattle.ft_content.specs.Answer.{cut};
 ghost use Rattle.ft_content.specs.Views as views;
-ghost use Rattle.ft_index.specs.DocumentsRead.{HasRows, Looks, Asks};
+ghost use Rattle.ft_index.specs.DocumentsRead.{HasRows, Looks, AsksStore};
 ghost use Rattle.ft_index.specs.RowsRead.{are_short, docids_asked};
 ghost use Rattle.ft_documents.specs.Gathered.{shown_document, has_given};
 ghost use Rattle.ft_index.specs.Kept.{BlamesStore, IsOutside};
@@ -30,7 +30,7 @@ pub(crate) fn document<S: Alter>(
     tab: i64,
     docid: i64,
 ) -> Result<Option<Vec<Value>>, Fault>
-    ensures looks { Asks S.Store store.old store.new result IsOutside
+    ensures looks { AsksStore S.Store store.old store.new result IsOutside
         (IfOk result (λ found. (content : Content)
         → HasRows S.Store tab store.old store.new content → option_map views.cells_of found
         ≡ find int_cmp docid content.documents)) }
@@ -51,7 +51,7 @@ pub(crate) fn all_documents<S: Alter>(
     store: &mut Store<S>,
     tab: i64,
 ) -> Result<Vec<Document>, Fault>
-    ensures looks { Asks S.Store store.old store.new result IsOutside
+    ensures looks { AsksStore S.Store store.old store.new result IsOutside
         (IfOk result (λ found. (content : Content)
         → HasRows S.Store tab store.old store.new content → map shown_document found.items
         ≡ content.documents)) }
@@ -73,7 +73,7 @@ pub(crate) fn docids<S: Alter>(
     limit: Option<u64>,
     offset: u64,
 ) -> Result<Vec<i64>, Fault>
-    ensures looks { Asks S.Store store.old store.new result IsOutside
+    ensures looks { AsksStore S.Store store.old store.new result IsOutside
         (IfOk result (λ found. (content : Content)
         → HasRows S.Store tab store.old store.new content
         → found.items ≡ cut limit offset (map (λ d. d.0) content.documents))) }

@@ -53,19 +53,19 @@ impl<S: Alter> FullText<S> {
     ghost use Rattle.ft_values.specs.declared.fault.Fault.TheVariants as faults;
     ghost use Rattle.ft_content.specs.Deserved.{Contents};
     ghost use Rattle.ft_content.specs.Views.{shown_info, command_of, answer_of};
-    ghost use Rattle.ft_index.specs.Crashes.{IsSettled, LeavesCommand, LeavesNote, LeavesRead};
+    ghost use Rattle.ft_index.specs.Crashes.{SurvivesCrash, LeavesCommand, LeavesNote, LeavesRead};
     ghost use Rattle.ft_index.specs.Planned.{changes_of};
     ghost use Rattle.ft_index.specs.RowsRead.{CountsRows};
     ghost use Rattle.ft_index.specs.DocumentsRead.{Looks};
-    ghost use Rattle.ft_index.specs.Opened.{Opens, OpensWhatIsLeft};
-    ghost use Rattle.ft_index.specs.Kept.{IsUp, value_of, Holds, AreSound, OnlyLooks, BlamesStore, BlamesChanges, Executes, Plans, Notes};
+    ghost use Rattle.ft_index.specs.Opened.{OpensStore, OpensWhatIsLeft};
+    ghost use Rattle.ft_index.specs.Kept.{IsUp, store_value, Holds, AreSound, OnlyLooks, BlamesStore, BlamesChanges, Executes, Plans, Notes};
     ghost use Rattle.ft_index.specs.Refused.{BlamesCommand};
     ghost use Rattle.ft_index.specs.Called.{KeptByCalls, NoneGetsUnsound, NamesStayApart, HoldsOneContents};
 
     /// Takes a store, and marks each table whose rows aren't documents with exactly the index rows
     /// made from scratch. The store is only read; where a read is refused it is handed back.
     pub fn new(alloc: Global, store: Store<S>) -> Result<FullText<S>, NewFault<S>>
-        ensures opened { IfOk result (λ made. Opens S.Store store made) }
+        ensures opened { IfOk result (λ made. OpensStore S.Store store made) }
 
         // Of an empty store there are no tables.
         ensures empty { value_in S.Store store ≡ nothing_held
@@ -148,7 +148,7 @@ impl<S: Alter> FullText<S> {
             → IsTrue all ↔ AreSound contents) }
         ensures fault { IfErr result (λ fault. (fault ≡ faults.Store) ⊎ (fault ≡ faults.Memory)) }
         ensures looks { OnlyLooks S.Store self.old self.new }
-        ensures refused { AreTableTexts (value_of S.Store self.old)
+        ensures refused { AreTableTexts (store_value S.Store self.old)
             → BlamesStore (shows S.Store self.old.store) (shows S.Store self.new.store)
             result }
     {
@@ -171,7 +171,7 @@ impl<S: Alter> FullText<S> {
 
     /// The law that a crash leaves what a store that is up holds, and nothing else.
     pub fn is_settled(&self)
-        ensures { IsSettled S.Store self.now }
+        ensures { SurvivesCrash S.Store self.now }
     {
         self.store.is_settled();
     }
@@ -180,11 +180,11 @@ impl<S: Alter> FullText<S> {
     pub fn noted(&mut self) -> Result<Vec<String>, Fault>
         ensures names { IsUp S.Store self.new
             → IfOk result (λ names. map string_bytes names.items
-            ≡ map (λ n. n.1) (value_of S.Store self.old).noted) }
+            ≡ map (λ n. n.1) (store_value S.Store self.old).noted) }
         ensures fault { IfErr result (λ fault. (fault ≡ faults.Store) ⊎ (fault ≡ faults.Memory)) }
         ensures looks { OnlyLooks S.Store self.old self.new }
         ensures leaves { LeavesRead S.Store self.old (is_ok result) self.new }
-        ensures refused { AreNotedTexts (value_of S.Store self.old)
+        ensures refused { AreNotedTexts (store_value S.Store self.old)
             → BlamesStore (shows S.Store self.old.store) (shows S.Store self.new.store)
             result }
     {

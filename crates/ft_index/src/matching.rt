@@ -14,7 +14,7 @@ ghost use Rattle.ft_documents.specs.Matched.{chosen_hits, as_wanted};
 ghost use Rattle.ft_index.specs.RowsRead.{entries_asked};
 ghost use Rattle.ft_index.specs.DocumentsRead.{LooksOn, LooksFor};
 ghost use Rattle.ft_index.specs.Kept.{IsOutside};
-ghost use Rattle.ft_index.specs.Refused.{BlamesIn};
+ghost use Rattle.ft_index.specs.Refused.{BlamesContent};
 ghost use Rattle.ft_index.specs.Walked.{Fails};
 ghost use Rattle.ft_query.specs.Lists.{is_failed};
 
@@ -26,7 +26,7 @@ use ft_store::Store;
 use sqlite::Alter;
 use std::alloc::Global;
 
-/// Begins a walk over the lists: asks once for each term of the query.
+// Begins a walk over the lists: asks once for each term of the query.
 fn opened<'q, S: Alter>(
     alloc: Global,
     query: &'q Query,
@@ -72,7 +72,7 @@ pub(crate) fn matched<S: Alter>(
         → IsIndexed S.Store tab store.old store.new content
         → store.new.rows_read ≡ more_rows (entries_asked content
         (query_in content (Match name text))) store.old) }
-    ensures refused { BlamesIn S.Store tab store.old store.new result (λ _. Unit {0}) }
+    ensures refused { BlamesContent S.Store tab store.old store.new result (λ _. Unit {0}) }
 {
     // So the count of rows is known to be of 64 bits.
     let _read = store.rows_read();

@@ -8,7 +8,7 @@ ghost use Rattle.ft_content.specs.Content.{Content};
 ghost use Rattle.ft_content.specs.Index.{index_rows};
 ghost use Rattle.ft_content.specs.Views.{column_of, shown_info};
 ghost use Rattle.ft_content.specs.Deserved.{TableState};
-ghost use Rattle.ft_index.specs.DocumentsRead.{Asks};
+ghost use Rattle.ft_index.specs.DocumentsRead.{AsksStore};
 ghost use Rattle.ft_index.specs.Kept.{is_sound};
 ghost use Rattle.ft_index.specs.Opened.{state_of, StandsSo, HasState, IsListed, AreMarked};
 ghost use Rattle.ft_documents.specs.Tables.{table_rows, table_index};
@@ -45,7 +45,7 @@ pub(crate) fn known_state<S: Alter>(
     store: &mut Store<S>,
     table: &TableInfo,
 ) -> Result<RowState, StoreFault>
-    ensures asks { Asks S.Store store.old store.new result IsPlainFault
+    ensures asks { AsksStore S.Store store.old store.new result IsPlainFault
         ((held : TableState) → HasCleanDisk (shows S.Store store.new)
         → HasState (value_in S.Store store.old) (shown_info table.now) held
         → IfOk result (λ s. s ≡ state_of held)) }
@@ -61,7 +61,7 @@ fn read_state<S: Alter>(
     store: &mut Store<S>,
     table: &TabRow,
 ) -> Result<RowState, StoreFault>
-    ensures asks { Asks S.Store store.old store.new result IsPlainFault
+    ensures asks { AsksStore S.Store store.old store.new result IsPlainFault
         ((named : ℤ × List ℕ) → HasCleanDisk (shows S.Store store.new)
         → IsListed (value_in S.Store store.old) named table.now
         → IfOk result (λ s. StandsSo named.1 (table_rows named.0 (value_in S.Store store.old))
@@ -73,7 +73,7 @@ fn read_state<S: Alter>(
     if !is_content(alloc, table, columns.as_slice(), cells.as_slice())? {
         return Ok(RowState::Loose);
     }
-    if has_right_index(alloc, store, table.id, columns.as_slice(), cells.as_slice())? {
+    if has_right_index(alloc, store, table.id, columns.as_slice(), cells)? {
         return Ok(RowState::Sound);
     }
     Ok(RowState::Stale)
@@ -87,13 +87,12 @@ fn has_right_index<S: Alter>(
     store: &mut Store<S>,
     tab: i64,
     columns: &[Column],
-    cells: &[CellRow],
+    cells: Vec<CellRow>,
 ) -> Result<bool, StoreFault>
-    requires { 0 < length columns.now }
-    ensures asks { Asks S.Store store.old store.new result IsPlainFault
+    ensures asks { AsksStore S.Store store.old store.new result IsPlainFault
         ((content : Content) → HasCleanDisk (shows S.Store store.new)
         → standing.HaveContent (map column_of columns.now)
-        (map standing.shown_row cells.now) content → IfOk result (λ b. IsTrue b ↔ (table_index tab
+        (map standing.shown_row cells.items) content → IfOk result (λ b. IsTrue b ↔ (table_index tab
         (value_in S.Store store.old) ≡ index_rows content))) }
     ensures refused { Blames (shows S.Store store.old) (shows S.Store store.new) result }
 {
@@ -110,7 +109,7 @@ pub(crate) fn opened_tables<S: Alter>(
     alloc: Global,
     store: &mut Store<S>,
 ) -> Result<Vec<TableInfo>, StoreFault>
-    ensures asks { Asks S.Store store.old store.new result IsPlainFault
+    ensures asks { AsksStore S.Store store.old store.new result IsPlainFault
         (HasCleanDisk (shows S.Store store.new) → IfOk result (λ tables. AreMarked
         (value_in S.Store store.old) (value_in S.Store store.old).tables
         (map shown_info tables.items))) }

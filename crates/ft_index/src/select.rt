@@ -14,13 +14,13 @@ ghost use Rattle.ft_content.specs.Deserved as deserved;
 ghost use Rattle.ft_content.specs.Views.{bare_content, rows_of, column_of, item_of, items_of, filter_of, selection_of, shown_info, answer_of};
 ghost use Rattle.ft_index.specs.Kept.{Executes, OnlyLooks, IsOutside};
 ghost use Rattle.ft_index.specs.Changed.{with_tables};
-ghost use Rattle.ft_index.specs.Refused.{BlamesIn, BlamesOver, AreThere, NeverStore};
+ghost use Rattle.ft_index.specs.Refused.{BlamesContent, BlamesOver, AreThere, NeverStore};
 ghost use Rattle.ft_index.specs.Planned.{PlansOver};
 ghost use Rattle.ft_index.specs.DocumentsRead.{HasRows, LooksFor};
 ghost use Rattle.ft_documents.specs.Gathered.{shown_document};
 ghost use Rattle.ft_index.specs.RowsRead as rows;
 ghost use Rattle.ft_index.specs.RowsRead.{rows_asked, CountsRows};
-ghost use Rattle.ft_documents.specs.Chosen.{ReadsAs, cells_at};
+ghost use Rattle.ft_documents.specs.Chosen.{ReadsFilterAs, cells_at};
 ghost use Rattle.ft_index.specs.Selected.{hit_cells, IsOf, IsAsked};
 
 use crate::chosen::{chosen_documents, found_cells};
@@ -79,9 +79,9 @@ pub(crate) fn select_changes(
     Ok(Vec::new(alloc))
 }
 
-/// The query of a Select over a table, after the tests of its names, or the fault that it deserves.
+// The query of a Select over a table, after the tests of its names, or the fault that it deserves.
 fn select_query(alloc: Global, info: &TableInfo, select: &Selection) -> Result<Option<Query>, Fault>
-    ensures query { IfOk result (λ query. ReadsAs (bare_content info.now.columns.items)
+    ensures query { IfOk result (λ query. ReadsFilterAs (bare_content info.now.columns.items)
         (filter_of select.now.filter) (option_map tree_of query)) }
     ensures fine { OnOk result (deserved.select_fault (string_bytes info.now.name)
         (bare_content info.now.columns.items) (items_of select.now.items)
@@ -98,8 +98,8 @@ fn select_query(alloc: Global, info: &TableInfo, select: &Selection) -> Result<O
     filter_query(alloc, columns, &select.filter)
 }
 
-/// The rows of an answer. A walk stops where no more hits are answered, and of all documents with a
-/// limit, or without columns, just those are read that are answered.
+// The rows of an answer. A walk stops where no more hits are answered, and of all documents with a
+// limit, or without columns, just those are read that are answered.
 fn selected_rows<S: Alter>(
     alloc: Global,
     store: &mut Store<S>,
@@ -120,7 +120,8 @@ fn selected_rows<S: Alter>(
         store.new content → store.new.rows_read
         ≡ more_rows (rows_asked content (items_of select.now.items)
         (filter_of select.now.filter) select.now.limit select.now.offset) store.old) }
-    ensures refused { BlamesIn S.Store tab store.old store.new result (λ content. ReadsAs content
+    ensures refused { BlamesContent S.Store tab store.old store.new result
+        (λ content. ReadsFilterAs content
         (filter_of select.now.filter) (option_map (λ q. tree_of q.now) query.entry)) }
 {
     let Items::List(items) = &select.items else {
@@ -158,14 +159,15 @@ fn chosen_count<S: Alter>(
 ) -> Result<i64, Fault>
     ensures looks { LooksFor S.Store store.old store.new result IsOutside
         (IfOk result (λ count. (content : Content) → IsOf S.Store tab store.old store.new content
-        → ReadsAs content (filter_of filter.now) (option_map (λ q. tree_of q.now) query.entry)
+        → ReadsFilterAs content (filter_of filter.now) (option_map (λ q. tree_of q.now) query.entry)
         → count ≡ pos (length (chosen content (filter_of filter.now))))) }
     ensures counted { OnOk result ((content : Content)
         → IsOf S.Store tab store.old store.new content
-        → ReadsAs content (filter_of filter.now) (option_map (λ q. tree_of q.now) query.entry)
+        → ReadsFilterAs content (filter_of filter.now) (option_map (λ q. tree_of q.now) query.entry)
         → store.new.rows_read ≡ more_rows (rows.count_asked content (filter_of filter.now))
         store.old) }
-    ensures refused { BlamesIn S.Store tab store.old store.new result (λ content. ReadsAs content
+    ensures refused { BlamesContent S.Store tab store.old store.new result
+        (λ content. ReadsFilterAs content
         (filter_of filter.now) (option_map (λ q. tree_of q.now) query.entry)) }
 {
     match filter {
@@ -219,7 +221,7 @@ fn most_hits(limit: Option<u64>, offset: u64) -> Option<u64>
 
 // Whether cells of documents are asked for.
 fn has_column(items: &[Item]) -> bool
-    ensures { result ≡ list_any rows.is_column (map item_of items.now) }
+    ensures { result ≡ list_any rows.reads_document (map item_of items.now) }
 {
     items.iter().any(|item| match item {
         Item::All => true,
@@ -244,9 +246,9 @@ fn hit_rows<S: Alter>(
         (cells_at content)) hits.now)) }
     ensures counted { OnOk result ((content : Content)
         → HasRows S.Store tab store.old store.new content
-        → store.new.rows_read ≡ more_rows ((if list_any rows.is_column (map item_of items.now)
+        → store.new.rows_read ≡ more_rows ((if list_any rows.reads_document (map item_of items.now)
         then length content.columns else 0) * length hits.now) store.old) }
-    ensures refused { BlamesIn S.Store tab store.old store.new result
+    ensures refused { BlamesContent S.Store tab store.old store.new result
         (λ content. AreThere content (map (λ h. h.docid) hits.now)) }
 {
     // So the count of rows is known to be of 64 bits.

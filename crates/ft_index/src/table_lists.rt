@@ -11,7 +11,7 @@ use ft_store::{ListRow, Store, StoreFault};
 use sqlite::Alter;
 use std::alloc::{AllocError, Global};
 
-/// How many places lists have, up to 2^64 - 1.
+// How many places lists have, up to 2^64 - 1.
 fn count_places(lists: &[DocList]) -> u64
     ensures { result ≡ min (place_count (map plain_list lists.now)) (2 ^ 64 - 1) }
 {
@@ -46,7 +46,7 @@ impl<'s, S: Alter> TableLists<'s, S> {
         }
     }
 
-    /// The lists of rows that were read.
+    // The lists of rows that were read.
     fn answered(&mut self, alloc: Global, rows: Vec<ListRow>) -> Result<Vec<DocList>, AllocError>
         ensures lists { IfOk result (λ lists. AreListsOf rows.items (map plain_list lists.items)) }
         ensures counted { OnOk result (self.new
@@ -61,7 +61,7 @@ impl<'s, S: Alter> TableLists<'s, S> {
         Ok(lists)
     }
 
-    /// Notes that a read was refused.
+    // Notes that a read was refused.
     fn refused(&mut self, fault: StoreFault) -> ListFault
         ensures noted { self.new ≡ record self.old {
           has_failed = self.old.has_failed || is_failed
@@ -81,7 +81,7 @@ impl<'s, S: Alter> TableLists<'s, S> {
 
 impl<'s, S: Alter> Lists for TableLists<'s, S> {
     ghost use Rattle.std.specs.Prelude.{◌≡◌};
-    ghost use Rattle.ft_index.specs.Walked.{table_documents, AreReliable, Reads, FailsIf};
+    ghost use Rattle.ft_index.specs.Walked.{table_documents, AreReliable, ReadsStore, FailsIf};
 
     ghost documents = { λ l. table_documents S.Store l.tab l.store.now };
 
@@ -93,7 +93,7 @@ impl<'s, S: Alter> Lists for TableLists<'s, S> {
 
     ghost becomes = { λ old is_answered new. (new.store.ghost_name ≡ old.store.ghost_name)
         × (new.tab ≡ old.tab)
-        × Reads S.Store old.store.now old.given is_answered new.store.now new.given
+        × ReadsStore S.Store old.store.now old.given is_answered new.store.now new.given
         × FailsIf S.Store old.tab old.store.now old.has_failed is_answered new.store.now
         new.has_failed };
 

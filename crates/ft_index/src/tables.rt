@@ -4,7 +4,7 @@ ghost use Rattle.ft_rows.specs.Changes.{shown_change, CanApply};
 ghost use Rattle.ft_content.specs.Views.{shown_info, creation_of};
 ghost use Rattle.ft_content.specs.Deserved.{Contents};
 ghost use Rattle.ft_index.specs.Kept.{BlamesStore, BlamesChanges, table_info};
-ghost use Rattle.ft_index.specs.Planned.{PlansOver, Makes, table_change};
+ghost use Rattle.ft_index.specs.Planned.{PlansOver, PlansTable, table_change};
 ghost use Rattle.ft_index.specs.Changed.{with_tables, MakesRows, Does, LooksAsked, MakesAsked};
 ghost use Rattle.ft_documents.specs.Found.{with_info};
 ghost use Rattle.ft_index.specs.Refused.{BlamesDone, BlamesMade, NeverStore};
@@ -32,7 +32,7 @@ fn made_table(
     creation: &Creation,
 ) -> Result<Option<TableInfo>, Fault>
     ensures makes { (contents : Contents) → map shown_info tables.now ≡ map table_info contents
-        → Makes contents creation.now result }
+        → PlansTable contents creation.now result }
     ensures never { NeverStore result }
 {
     let names = made_names(alloc, creation.columns.as_slice())?;

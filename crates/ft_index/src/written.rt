@@ -9,7 +9,7 @@ ghost use Rattle.ft_index.specs.Written.{first_parts, AnswersWritten, PlansWritt
 ghost use Rattle.sqlite.specs.State.{HasCleanDisk};
 ghost use Rattle.ft_store.specs.Kept.{shows};
 ghost use Rattle.ft_content.specs.Content.{Content};
-ghost use Rattle.ft_content.specs.Deserved.{docids_in};
+ghost use Rattle.ft_content.specs.Deserved.{docids_named};
 ghost use Rattle.ft_index.specs.DocumentsRead.{HasRows, Looks, LooksTo};
 ghost use Rattle.ft_documents.specs.Gathered.{has_given};
 ghost use Rattle.ft_content.specs.Answer.{chosen};
@@ -196,8 +196,8 @@ pub(crate) fn insert_written<'t, S: Alter>(
     Ok(Written { table, rewrites })
 }
 
-/// Of each row, whether the table has a document with the docid that the row gives. The store,
-/// which is open if it is clean, is only read, whatever is answered.
+// Of each row, whether the table has a document with the docid that the row gives. The store,
+// which is open if it is clean, is only read, whatever is answered.
 fn stored_docids<S: Alter>(
     alloc: Global,
     store: &mut Store<S>,
@@ -209,7 +209,7 @@ fn stored_docids<S: Alter>(
         → IsTrue (shows S.Store store.old).is_open) → (content : Content)
         → HasRows S.Store tab store.old store.new content
         → stored.items ≡ map (λ row. has_given content.documents
-        (slice_get (docids_in (zip (map (λ n. n.now) names.now) (cells_of row))) 0)) rows.now) }
+        (slice_get (docids_named (zip (map (λ n. n.now) names.now) (cells_of row))) 0)) rows.now) }
     ensures faults { IfErr result (λ fault. (fault ≡ faults.Store) ⊎ (fault ≡ faults.Memory)) }
     ensures looks { (HasCleanDisk (shows S.Store store.old)
         → IsTrue (shows S.Store store.old).is_open) → Looks S.Store store.old store.new }

@@ -113,8 +113,8 @@ abbrev pub inputs_in : List Row → List (List ℕ)
 inputs_in rows = unwrap_or (all_of (codes "SQL") rows) []
 
 -- the settings but for the separator
-abbrev pub settings_in : List Row → Settings
-settings_in rows = record (with_modes (modes_in rows) first_settings) {
+abbrev pub settings_from : List Row → Settings
+settings_from rows = record (with_modes (modes_in rows) first_settings) {
   null = null_in rows;
   headers = headers_in rows;
   echo = is_given (codes "echo") rows;
@@ -137,14 +137,14 @@ is_conflict rows = has_two_modes rows || (is_given (codes "header") rows && is_g
 -- the separator is refused that the mode refuses: the mode is set before it, wherever both stand
 -- (own choice)
 abbrev pub is_bad_separator : List Row → Bool
-is_bad_separator rows = option_map_or (λ text. not (may_separate (settings_in rows) text)) (first_of (codes "separator") rows) false
+is_bad_separator rows = option_map_or (λ text. not (may_separate (settings_from rows) text)) (first_of (codes "separator") rows) false
 
 -- what was found means this
 abbrev pub meaning_of : List Row → LineAnswer
 meaning_of rows =
     if is_conflict rows then Conflict
     else if is_bad_separator rows then BadSeparator
-    else Means (record { settings = with_separator (first_of (codes "separator") rows) (settings_in rows); file = file_in rows; inputs = inputs_in rows })
+    else Means (record { settings = with_separator (first_of (codes "separator") rows) (settings_from rows); file = file_in rows; inputs = inputs_in rows })
 
 -- what words mean that the command takes
 abbrev pub line_of : List (List ℕ) → LineAnswer

@@ -294,7 +294,7 @@ fn set_headers(settings: &mut Settings, headers: Option<bool>)
 // The settings but for the separator.
 fn flag_settings(alloc: Global, matches: &ArgMatches<'_>) -> Result<Settings, AllocError>
     ensures { IfOk result (λ settings. settings
-        ≡ forms.settings_in (rows_of (found_of matches.now))) }
+        ≡ forms.settings_from (rows_of (found_of matches.now))) }
 {
     let mut settings = Settings::new(alloc);
     set_modes(&mut settings, matches);

@@ -18,9 +18,9 @@ use Rattle.sqlite.specs.Held.{Held}
 use Rattle.shell_text.specs.Print.{AppendsFront, Settings}
 use Rattle.ft_store.specs.Kept.{StoreState}
 use Rattle.ft_index.specs.Kept.{FullText, Holds, IsUp}
-use Rattle.ft_index.specs.Crashes.{IsSettled}
+use Rattle.ft_index.specs.Crashes.{SurvivesCrash}
 use Rattle.ft_index.proofs.Calls.{clean_before}
-use Rattle.ft_index.specs.Opened.{Opens}
+use Rattle.ft_index.specs.Opened.{OpensStore}
 use Rattle.shell_io.specs.Writing.{AppendsUpTo, Sends}
 use Rattle.shell_io.proofs.WriteLemmas.{up_to_part, up_to_whole}
 use Rattle.ft_program.specs.Inputs.{AreRead, Closes, EndsAs, InTurn, Outputs, RunsAndKeeps, RunsInTurn, RunsOne, RunsOver, Stage, WritesOwn, console, due, exit_status}
@@ -216,7 +216,7 @@ clean_from_first g h old new reads all ran clean = clean_before h old.full_text 
 
 -- the inputs are run over two databases, and then the program ends
 pub runs_over : {P S : Type 0} (g : Ghosts P) (h : Ghosts S) (AreClosed : Parts P S → Type 0) (settings : Settings) (plain : Held P) (store : StoreState S) (made : FullText S) (inputs : List (Option (List ℕ))) (ended : Result Status RunFault) (old new : Outputs) (parts : Parts P S) (last : Stage P S) (status : ℕ) →
-    Opens h store made → IsSettled h made → parts ≡ record { settings = settings; plain = plain; full_text = made } → RunsAndKeeps g h inputs ended (record { parts = parts; on = old }) last → AreClosed last.parts → new.out ≡ last.on.out → Closes ended last.on.err new.err status → (it : RunsOver g h settings plain store inputs old new status) × AreClosed it.last.parts
+    OpensStore h store made → SurvivesCrash h made → parts ≡ record { settings = settings; plain = plain; full_text = made } → RunsAndKeeps g h inputs ended (record { parts = parts; on = old }) last → AreClosed last.parts → new.out ≡ last.on.out → Closes ended last.on.err new.err status → (it : RunsOver g h settings plain store inputs old new status) × AreClosed it.last.parts
 runs_over {P} {S} g h AreClosed settings plain store made inputs ended old new parts last status opened settled is (cause, all, turns, ends, reads, read, ran, kept) closed out closes =
     let end = closes_as ended cause all last.on.err new.err status ends closes in (
       record {
@@ -236,7 +236,7 @@ runs_over {P} {S} g h AreClosed settings plain store made inputs ended old new p
             let first_clean : IsClean h made = subst (λ (p : Parts P S). IsClean h p.full_text) is (clean_from_first g h parts last.parts reads all ran clean) in
             let up : IsUp h made = record { clean = first_clean; is_open = opened.live first_clean } in
             subst (λ (p : Parts P S). PromiseKept g h first p reads all last.parts) is
-            (kept first (subst (λ (p : Parts P S). Holds h p.full_text first) (sym is) (opened.marks up first held)) (subst (λ (p : Parts P S). IsSettled h p.full_text) (sym is) settled) clean);
+            (kept first (subst (λ (p : Parts P S). Holds h p.full_text first) (sym is) (opened.marks up first held)) (subst (λ (p : Parts P S). SurvivesCrash h p.full_text) (sym is) settled) clean);
       },
       closed,
     )

@@ -8,8 +8,8 @@ use Rattle.sqlite.specs.Held.{Held}
 use Rattle.shell_text.specs.Print.{Settings}
 use Rattle.ft_store.specs.Kept.{StoreState, value_in}
 use Rattle.ft_index.specs.Kept.{FullText, Holds, StoreHolds}
-use Rattle.ft_index.specs.Crashes.{IsSettled}
-use Rattle.ft_index.specs.Opened.{Opens}
+use Rattle.ft_index.specs.Crashes.{SurvivesCrash}
+use Rattle.ft_index.specs.Opened.{OpensStore}
 use Rattle.ft_content.specs.Deserved.{Contents}
 use Rattle.std.specs.Fmt.{signed_decimal}
 use Rattle.shell_io.specs.declared.run.Outputs.{Outputs as RustOutputs}
@@ -92,7 +92,7 @@ RunsInTurn g h inputs ended old new = (cause : Option RunFault) × (all : Effect
 abbrev pub RunsAndKeeps : {P S : Type 0} → Ghosts P → Ghosts S → List (Option (List ℕ)) → Result Status RunFault → Stage P S → Stage P S → Type 0
 RunsAndKeeps g h inputs ended old new = (cause : Option RunFault) × (all : Effects) × InTurn g h inputs cause old new all × EndsAs ended cause all
     × (reads : List (List ℕ)) × AreRead inputs reads × AllRan g h old.parts reads all new.parts
-    × ((first : Contents) → Holds h old.parts.full_text first → IsSettled h old.parts.full_text → IsClean h new.parts.full_text
+    × ((first : Contents) → Holds h old.parts.full_text first → SurvivesCrash h old.parts.full_text → IsClean h new.parts.full_text
     → PromiseKept g h first old.parts reads all new.parts)
 
 -- the program's own line for a fault that ended a run
@@ -137,7 +137,7 @@ module _ {P S : Type 0} (g : Ghosts P) (h : Ghosts S) where
   pub record RunsOver (settings : Settings) (plain : Held P) (store : StoreState S) (inputs : List (Option (List ℕ))) (old new : Outputs)
       (status : ℕ) : Type 0 where
     pub made : FullText S
-    pub opened : Opens h store made
+    pub opened : OpensStore h store made
     pub cause : Option RunFault
     pub last : Stage P S
     pub all : Effects

@@ -9,7 +9,7 @@ use Rattle.std.proofs.lemmas.List.Sums.{sum_by-cons}
 use Rattle.ft_query.specs.declared.query.QueryFault.{QueryFault}
 use Rattle.ft_query.specs.declared.query.QueryFault.TheVariants.{Malformed, TooLarge}
 use Rattle.ft_query.specs.Lexemes.{Lexeme, open_paren, close_paren, and_word, or_word, not_word, near_word, filter_on, word, quoted, parts_of, lexemes_of}
-use Rattle.ft_query.specs.Reads.{is_unclosed, term_count, is_far, depth_after, nests_deep, query_from, query_unless, query_of}
+use Rattle.ft_query.specs.Reads.{is_unclosed_part, term_count, is_far, open_after, nests_deep, query_from, query_unless, query_of}
 use Rattle.ft_query.specs.Machine.{capped, asks_much, query_within}
 
 -- ---- one lexeme
@@ -39,7 +39,7 @@ far_capped (filter_on column) = refl
 far_capped (word t) = refl
 far_capped (quoted ts) = refl
 
-depth_capped : (l : Lexeme) (n : ℕ × ℕ) → depth_after (capped l) n ≡ depth_after l n
+depth_capped : (l : Lexeme) (n : ℕ × ℕ) → open_after (capped l) n ≡ open_after l n
 depth_capped open_paren n = refl
 depth_capped close_paren n = refl
 depth_capped and_word n = refl
@@ -82,7 +82,7 @@ depths_capped : (ls : List Lexeme) (n : ℕ × ℕ) → nests_deep n (map capped
 depths_capped [] n = refl
 depths_capped (l ∷ ls) n =
     ap (λ m. nat_lt (n.1 + 32) n.0 || nests_deep m (map capped ls)) (depth_capped l n)
-    ∙ ap (λ b. nat_lt (n.1 + 32) n.0 || b) (depths_capped ls (depth_after l n))
+    ∙ ap (λ b. nat_lt (n.1 + 32) n.0 || b) (depths_capped ls (open_after l n))
 
 kept : (ls : List Lexeme) → list_any is_far ls ≡ false → map capped ls ≡ ls
 kept [] near = refl
@@ -105,7 +105,7 @@ abbrev is_long : List ℕ → Bool
 is_long text = nat_lt 10000 (length text)
 
 abbrev is_broken : List ℕ → Bool
-is_broken text = list_any is_unclosed (parts_of text) || list_any (λ b. b == 0) text
+is_broken text = list_any is_unclosed_part (parts_of text) || list_any (λ b. b == 0) text
 
 answer_by : (columns : List (List ℕ)) (default : Option ℕ) (text : List ℕ) (long broken much : Bool) → is_long text ≡ long → is_broken text ≡ broken
     → asks_much (lexemes_of columns text) ≡ much
@@ -128,17 +128,17 @@ broken_is_malformed columns default text short broken =
 pub zero_is_malformed : (columns : List (List ℕ)) (default : Option ℕ) (text : List ℕ) → length text ≤ 10000 → list_any (λ b. b == 0) text ≡ true
     → query_of columns default text ≡ Err Malformed
 zero_is_malformed columns default text short zero =
-    broken_is_malformed columns default text short (or_right (list_any is_unclosed (parts_of text)) (list_any (λ b. b == 0) text) zero)
+    broken_is_malformed columns default text short (or_right (list_any is_unclosed_part (parts_of text)) (list_any (λ b. b == 0) text) zero)
 
-pub open_is_malformed : (columns : List (List ℕ)) (default : Option ℕ) (text : List ℕ) → length text ≤ 10000 → list_any is_unclosed (parts_of text) ≡ true
+pub open_is_malformed : (columns : List (List ℕ)) (default : Option ℕ) (text : List ℕ) → length text ≤ 10000 → list_any is_unclosed_part (parts_of text) ≡ true
     → query_of columns default text ≡ Err Malformed
 open_is_malformed columns default text short unclosed =
-    broken_is_malformed columns default text short (or_left (list_any is_unclosed (parts_of text)) (list_any (λ b. b == 0) text) unclosed)
+    broken_is_malformed columns default text short (or_left (list_any is_unclosed_part (parts_of text)) (list_any (λ b. b == 0) text) unclosed)
 
 -- the lexemes as the parser holds them read as the text does
 pub read_within : (columns : List (List ℕ)) (default : Option ℕ) (text : List ℕ) (found : List Lexeme) → length text ≤ 10000
     → list_any (λ b. b == 0) text ≡ false
-    → (list_any is_unclosed (parts_of text) ≡ false) × (found ≡ map capped (lexemes_of columns text))
+    → (list_any is_unclosed_part (parts_of text) ≡ false) × (found ≡ map capped (lexemes_of columns text))
     → query_within default found ≡ query_of columns default text
 read_within columns default text found short no_zero lexed = by_much (asks_much ls) refl
   where

@@ -15,8 +15,8 @@ use Rattle.ft_query.specs.declared.walk.visit.Wanted.TheVariants.{Docids, Offset
 use Rattle.ft_query.specs.Trees.{Tree, phrase, chain, both, either, without, tree_of}
 use Rattle.ft_query.specs.Work.{terms_in, node_count, width}
 use Rattle.ft_query.specs.Taken.{more_steps, TakesAtMost}
-use Rattle.ft_query.specs.Spines.{joined, joined_answer, joined_marks, whole}
-use Rattle.ft_query.specs.Visit.{is_accepted, marks_of, numbered, if_wanted, plain_lists, visit_cost}
+use Rattle.ft_query.specs.Spines.{joined_sides, joined_answer, joined_marks, whole}
+use Rattle.ft_query.specs.Visit.{is_accepted, marks_of, numbered_offsets, if_wanted, plain_lists, visit_cost}
 use Rattle.ft_query.specs.Marked.{own_lists, lists_after, HaveLists, Evaluates, Joins}
 use Rattle.ft_query.proofs.Marks.{numbered_more}
 use Rattle.ft_query.proofs.Spines.{joined_terms, part_terms, right_width, whole_last}
@@ -24,19 +24,19 @@ use Rattle.ft_query.proofs.Spines.{joined_terms, part_terms, right_width, whole_
 -- ---- a left side and a right one
 
 joined_accepts : (p : Tree) (b : By) (q : Tree) (ls : List (List Place))
-    → is_accepted (joined p b q) ls ≡ joined_answer b (is_accepted p (take (length (terms_in p)) ls)) (is_accepted q (drop (length (terms_in p)) ls))
+    → is_accepted (joined_sides p b q) ls ≡ joined_answer b (is_accepted p (take (length (terms_in p)) ls)) (is_accepted q (drop (length (terms_in p)) ls))
 joined_accepts p by.And q ls = refl
 joined_accepts p by.Or q ls = refl
 joined_accepts p by.Not q ls = refl
 
 joined_marked : (p : Tree) (b : By) (q : Tree) (ls : List (List Place))
-    → marks_of p (take (length (terms_in p)) ls) ++ joined_marks b (marks_of q (drop (length (terms_in p)) ls)) ≡ marks_of (joined p b q) ls
+    → marks_of p (take (length (terms_in p)) ls) ++ joined_marks b (marks_of q (drop (length (terms_in p)) ls)) ≡ marks_of (joined_sides p b q) ls
 joined_marked p by.And q ls = refl
 joined_marked p by.Or q ls = refl
 joined_marked p by.Not q ls = append-nil (marks_of p (take (length (terms_in p)) ls))
 
 joined_cost : (p : Tree) (b : By) (q : Tree) (ls : List (List Place))
-    → visit_cost (joined p b q) ls ≡ 1 + (visit_cost p (take (length (terms_in p)) ls) + visit_cost q (drop (length (terms_in p)) ls))
+    → visit_cost (joined_sides p b q) ls ≡ 1 + (visit_cost p (take (length (terms_in p)) ls) + visit_cost q (drop (length (terms_in p)) ls))
 joined_cost p by.And q ls = refl
 joined_cost p by.Or q ls = refl
 joined_cost p by.Not q ls = refl
@@ -51,8 +51,8 @@ lists_back front own n same = ap (drop n) (map-append (λ (l : Places). l.places
     ∙ drop_at (plain_lists front) (plain_lists own) n (length-map front (λ l. l.places.now) ∙ same)
 
 told : (wanted : Wanted) (old : List Offset) (n : ℕ) (ms more : List (List Place))
-    → old ++ numbered n (if_wanted wanted ms) ++ numbered (n + length (if_wanted wanted ms)) (if_wanted wanted more)
-    ≡ old ++ numbered n (if_wanted wanted (ms ++ more))
+    → old ++ numbered_offsets n (if_wanted wanted ms) ++ numbered_offsets (n + length (if_wanted wanted ms)) (if_wanted wanted more)
+    ≡ old ++ numbered_offsets n (if_wanted wanted (ms ++ more))
 told Docids old n ms more = append-nil (old ++ [])
 told Offsets old n ms more = numbered_more old n ms more
 
@@ -62,7 +62,7 @@ told_count Docids ms more = refl
 told_count Offsets ms more = sym (length-append ms more)
 
 joined_evaluates : (b : By) (p q : Tree) (front own : List Places) (left all : Bool) (old mid new : Found) → length front ≡ length (terms_in p)
-    → Evaluates (Ok left) old mid p front → Joins b left (Ok all) mid new q own → Evaluates (Ok all) old new (joined p b q) (front ++ own)
+    → Evaluates (Ok left) old mid p front → Joins b left (Ok all) mid new q own → Evaluates (Ok all) old new (joined_sides p b q) (front ++ own)
 joined_evaluates b p q front own left all old mid new same one two =
     let n = length (terms_in p) in
     let ls = plain_lists (front ++ own) in
@@ -72,7 +72,7 @@ joined_evaluates b p q front own left all old mid new same one two =
     let split = ap (λ l. marks_of p l ++ joined_marks b (marks_of q (drop n ls))) (sym is_front) ∙ marks in
     let ms = marks_of p (plain_lists front) in
     let more = joined_marks b (marks_of q (plain_lists own)) in
-    let are : ms ++ more ≡ marks_of (joined p b q) ls =
+    let are : ms ++ more ≡ marks_of (joined_sides p b q) ls =
     ap (λ l. ms ++ joined_marks b (marks_of q l)) (sym is_back) ∙ ap (λ l. marks_of p l ++ joined_marks b (marks_of q (drop n ls))) (sym is_front) ∙ marks in
     let sum = length-append front own in
     record {
@@ -85,11 +85,11 @@ joined_evaluates b p q front own left all old mid new same one two =
       wanted = two.wanted ∙ one.wanted;
       offsets =
           two.offsets
-          ∙ ap (λ os. os ++ numbered mid.next (if_wanted mid.wanted more)) one.offsets
-          ∙ ap (λ w. old.offsets.items ++ numbered old.next (if_wanted old.wanted ms) ++ numbered mid.next (if_wanted w more)) one.wanted
-          ∙ ap (λ k. old.offsets.items ++ numbered old.next (if_wanted old.wanted ms) ++ numbered k (if_wanted old.wanted more)) one.next
+          ∙ ap (λ os. os ++ numbered_offsets mid.next (if_wanted mid.wanted more)) one.offsets
+          ∙ ap (λ w. old.offsets.items ++ numbered_offsets old.next (if_wanted old.wanted ms) ++ numbered_offsets mid.next (if_wanted w more)) one.wanted
+          ∙ ap (λ k. old.offsets.items ++ numbered_offsets old.next (if_wanted old.wanted ms) ++ numbered_offsets k (if_wanted old.wanted more)) one.next
           ∙ told old.wanted old.offsets.items old.next ms more
-          ∙ ap (λ m. old.offsets.items ++ numbered old.next (if_wanted old.wanted m)) are;
+          ∙ ap (λ m. old.offsets.items ++ numbered_offsets old.next (if_wanted old.wanted m)) are;
       next =
           two.next
           ∙ ap (λ w. mid.next + length (if_wanted w more)) one.wanted
@@ -105,7 +105,7 @@ parted n own rest lists front back = ap (λ l. l ++ rest) front ∙ ap (λ l. ta
 -- ---- the steps
 
 cost_front : (p : Tree) (front own : List Places) → length front ≡ length (terms_in p) → (b : By) (q : Tree)
-    → visit_cost (joined p b q) (plain_lists (front ++ own)) ≡ 1 + (visit_cost p (plain_lists front) + visit_cost q (plain_lists own))
+    → visit_cost (joined_sides p b q) (plain_lists (front ++ own)) ≡ 1 + (visit_cost p (plain_lists front) + visit_cost q (plain_lists own))
 cost_front p front own same b q =
     joined_cost p b q (plain_lists (front ++ own))
     ∙ ap (λ l. 1 + (visit_cost p l + visit_cost q (drop (length (terms_in p)) (plain_lists (front ++ own))))) (lists_front front own
@@ -123,7 +123,7 @@ nodes_cost (either p q) ls =
 nodes_cost (without p q) ls =
     let one = nodes_cost p (take (length (terms_in p)) ls) in let other = nodes_cost q (drop (length (terms_in p)) ls) in omega (arith, one, other)
 
-joined_nodes : (p : Tree) (b : By) (q : Tree) → node_count (joined p b q) ≡ 1 + (node_count p + node_count q)
+joined_nodes : (p : Tree) (b : By) (q : Tree) → node_count (joined_sides p b q) ≡ 1 + (node_count p + node_count q)
 joined_nodes p by.And q = refl
 joined_nodes p by.Or q = refl
 joined_nodes p by.Not q = refl
@@ -163,7 +163,7 @@ part_cost (j ∷ js) p front rest same all =
     let inner = part_cost js p front near same first in
     let cost = cost_front w (front ++ near) far first j.by q in
     let parts : front ++ near ++ far ≡ front ++ rest = append_assoc front near far ∙ ap (λ l. front ++ l) (take-append-drop k rest) in
-    subst (λ l. visit_cost p (plain_lists front) ≤ visit_cost (joined w j.by q) (plain_lists l)) parts (omega (arith, inner, cost))
+    subst (λ l. visit_cost p (plain_lists front) ≤ visit_cost (joined_sides w j.by q) (plain_lists l)) parts (omega (arith, inner, cost))
 
 -- A part with its joints is the query, and its lists are the front. It is evaluated, and whether it
 -- accepts is told.
@@ -199,7 +199,7 @@ climbs_fit {query} {lists} {rest} js j {left} {old} {mid} {begun} {steps} at sam
     let p = at.part in
     let q = tree_of j.right.now in
     let is = sym (whole_last js j p) ∙ at.all in
-    let terms = part_terms js (joined p j.by q) in
+    let terms = part_terms js (joined_sides p j.by q) in
     let all_terms = ap (λ t. length (terms_in t)) is in
     let sum = ap length (joined_terms p j.by q) ∙ length-append (terms_in p) (terms_in q) in
     let two = ap length at.split in
@@ -223,9 +223,9 @@ climbs_on {query} {lists} {rest} {own} {behind} {js} j {left} {all} {old} {mid} 
     let two = length-append at.front own in
     let cost = cost_front p at.front own at.each j.by q in
     let same : visit_cost p (plain_lists at.front) + (1 + visit_cost q (plain_lists own))
-    ≡ visit_cost (joined p j.by q) (plain_lists (at.front ++ own)) = omega (arith, cost) in
+    ≡ visit_cost (joined_sides p j.by q) (plain_lists (at.front ++ own)) = omega (arith, cost) in
     record {
-      part = joined p j.by q;
+      part = joined_sides p j.by q;
       front = at.front ++ own;
       all = sym (whole_last js j p) ∙ at.all;
       each = omega (arith, sum, two, at.each, count);
@@ -247,11 +247,11 @@ climb_failed {query} {lists} {rest} own behind js j {left} {old} {mid} {begun} {
     let q = tree_of j.right.now in
     let sum = ap length (joined_terms p j.by q) ∙ length-append (terms_in p) (terms_in q) in
     let two = length-append at.front own in
-    let each : length (at.front ++ own) ≡ length (terms_in (joined p j.by q)) = omega (arith, sum, two, at.each, count) in
+    let each : length (at.front ++ own) ≡ length (terms_in (joined_sides p j.by q)) = omega (arith, sum, two, at.each, count) in
     let split = append_assoc at.front own behind ∙ ap (λ l. at.front ++ l) parts ∙ at.split in
     let is = sym (whole_last js j p) ∙ at.all in
     let cost = cost_front p at.front own at.each j.by q in
-    let more = part_cost js (joined p j.by q) (at.front ++ own) behind each (ap length split ∙ same ∙ ap (λ t. length (terms_in t)) (sym is)) in
+    let more = part_cost js (joined_sides p j.by q) (at.front ++ own) behind each (ap length split ∙ same ∙ ap (λ t. length (terms_in t)) (sym is)) in
     let all_cost = ap (λ t. visit_cost t (plain_lists (at.front ++ own ++ behind))) is ∙ ap (λ l. visit_cost query (plain_lists l)) split in
     let both_taken = takes_then _ _ begun steps after at.taken taken in
     record { at_least = both_taken.at_least; at_most = omega (arith, both_taken.at_most, cost, more, all_cost) }

@@ -25,7 +25,7 @@ use Rattle.ft_query.specs.Visit.{listed_places, if_wanted}
 use Rattle.ft_query.specs.Walk.{Walk, StandsBefore, steps_to_come, Went, hit_at}
 use Rattle.ft_query.specs.Search.{walk_at, Considers}
 use Rattle.ft_query.specs.declared.standing.Steps.{Steps}
-use Rattle.ft_query.specs.Taken.{more_steps, Takes, TakesAtMost}
+use Rattle.ft_query.specs.Taken.{more_steps, TakesSteps, TakesAtMost}
 use Rattle.ft_query.proofs.Nexts.{Next, Nothing, First, next_of, are_more, all_places, all_passed, all_counted, without_it, with_it}
 
 no_documents : AreDocuments []
@@ -151,7 +151,7 @@ pub went_on : (wanted : Wanted) (q : Query) (cursors passed_by : List Cursor) (s
     map lists_left passed_by ≡ map (passed docid) (map lists_left cursors) → length cursors ≡ length
     (terms_in (tree_of q)) → s.taken ≤ a.taken → a.taken ≤ s.taken + length cursors →
     TakesAtMost (12 * sum_by (λ c. length (places_at docid (lists_left c))) cursors + 3 * width (tree_of q)) a b →
-    more_steps (length cursors + node_count (tree_of q)) a ≤ b.taken → Takes (length cursors) b t →
+    more_steps (length cursors + node_count (tree_of q)) a ≤ b.taken → TakesSteps (length cursors) b t →
     Adds wanted (walk_at q cursors s.taken) (walk_at q passed_by t.taken) docid offsets documents
 went_on wanted q cursors passed_by s a b t docid offsets documents stands least given left number first_least first_most visit nodes last =
     let some = some_nodes (tree_of q) in

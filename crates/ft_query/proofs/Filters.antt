@@ -7,7 +7,7 @@ use Rattle.std.proofs.lemmas.Bool.{lt-ltb, le-ltb}
 use Rattle.std.proofs.lemmas.Bool.Decides.{nat_tests}
 use Rattle.std.proofs.lemmas.List.{length-map}
 use denote.Ref.{Bor}
-use Rattle.ft_query.specs.Lexemes.{is_colon, filter_of}
+use Rattle.ft_query.specs.Lexemes.{is_colon, column_filter_of}
 
 lt-suc : (a b : ℕ) → nat_lt a b ≡ nat_lt (1 + a) (suc b)
 lt-suc a b = grind (arith, nat_tests)
@@ -42,7 +42,7 @@ colon_parts chunk (Some x) parts = (any_place is_colon chunk ∙ lt-ltb (positio
 
 -- the filter of a chunk with a colon is the column of the name before it
 pub filter_named : (columns : List (String Global)) (chunk name : List ℕ) → list_any is_colon chunk ≡ true → name ≡ before_first is_colon chunk
-    → filter_of (map string_bytes columns) chunk ≡ position (λ c. str_eq_ignore_ascii_case (string_bytes c) name) columns
+    → column_filter_of (map string_bytes columns) chunk ≡ position (λ c. str_eq_ignore_ascii_case (string_bytes c) name) columns
 filter_named columns chunk name has same =
     rw has (ap (λ b. position (λ n. str_eq_ignore_ascii_case n b) (map string_bytes columns)) (sym same) ∙ position-map
     (λ n. str_eq_ignore_ascii_case n name) string_bytes columns)

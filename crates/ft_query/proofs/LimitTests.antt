@@ -6,14 +6,14 @@ use Rattle.std.proofs.lemmas.Bool.{lt-ltb, or_left}
 use Rattle.std.proofs.lemmas.List.Folds.{fold-map}
 use Rattle.ft_query.specs.declared.lexeme.Lexeme.{Lexeme as CodeLexeme}
 use Rattle.ft_query.specs.Lexemes.{Lexeme}
-use Rattle.ft_query.specs.Reads.{term_count, is_far, nests_deep, depth_after}
+use Rattle.ft_query.specs.Reads.{term_count, is_far, nests_deep, open_after}
 use Rattle.ft_query.specs.Machine.{plain_lexeme}
 
 -- where the parentheses nest too deep already, what is left changes nothing
 pub deep_already : (opens closes : ℕ) (ls : List Lexeme) → 32 < opens - closes → nests_deep (opens, closes) ls ≡ true
 deep_already opens closes [] deep = lt-ltb (closes + 32) opens (omega arith)
 deep_already opens closes (l ∷ ls) deep =
-    or_left (nat_lt (closes + 32) opens) (nests_deep (depth_after l (opens, closes)) ls) (lt-ltb (closes + 32) opens (omega arith))
+    or_left (nat_lt (closes + 32) opens) (nests_deep (open_after l (opens, closes)) ls) (lt-ltb (closes + 32) opens (omega arith))
 
 pub terms_counted : (ls : List CodeLexeme) → sum_by term_count (map plain_lexeme ls) ≡ sum_by (λ l. term_count (plain_lexeme l)) ls
 terms_counted ls = fold-map (λ n l. n + term_count l) plain_lexeme 0 ls

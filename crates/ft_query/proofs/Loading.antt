@@ -11,7 +11,7 @@ use Rattle.ft_query.specs.declared.walk.joint.Joint.{Joint}
 use Rattle.ft_query.specs.Documents.{Document, place_count}
 use Rattle.ft_query.specs.Trees.{PlainTerm, Tree, plain_term, tree_of}
 use Rattle.ft_query.specs.Work.{terms_in}
-use Rattle.ft_query.specs.Spines.{joined, whole}
+use Rattle.ft_query.specs.Spines.{joined_sides, whole}
 use Rattle.ft_query.specs.Cursors.{lists_kept, places_left, listed_for}
 use Rattle.ft_query.specs.Loaded.{plain_terms, AreCursorsOf}
 use Rattle.ft_query.proofs.Spines.{joined_terms, whole_last}
@@ -28,7 +28,7 @@ pub front_on : {query : Tree} {js ks : List Joint} {a b c : List PlainTerm} (j :
 front_on {query} {js} {ks} {a} {b} {c} j is at more =
     let q = tree_of j.right.now in
     record {
-      part = joined at.part j.by q;
+      part = joined_sides at.part j.by q;
       all = sym (whole_last js j at.part) ∙ subst (λ joints. whole joints at.part ≡ query) is at.all;
       added =
           more

@@ -8,7 +8,7 @@ use Rattle.ft_query.specs.declared.walk.Offset.{Offset}
 use Rattle.ft_query.specs.declared.query.Link.{Link}
 use Rattle.ft_query.specs.Trees.{PlainPhrase, PlainLink, chain, plain_link, plain_term}
 use Rattle.ft_query.specs.Work.{terms_in}
-use Rattle.ft_query.specs.Visit.{marks_from, head_of, linked, link_marks, near_those, marks_of, numbered, plain_lists}
+use Rattle.ft_query.specs.Visit.{marks_from, head_of, linked, link_marks, near_those, marks_of, numbered_offsets, plain_lists}
 use Rattle.ft_query.proofs.Passes.{numbered-append, marks_length}
 
 link_marks_length : (k : ℕ) (starts : List Place) (links : List PlainLink) (lists : List (List Place)) (all : List (List Place))
@@ -40,8 +40,8 @@ chain_marks_length p links lists same =
 
 -- what a query's left side adds before its right one
 pub numbered_more : (old : List Offset) (n : ℕ) (ms more : List (List Place))
-    → old ++ numbered n ms ++ numbered (n + length ms) more ≡ old ++ numbered n (ms ++ more)
-numbered_more old n ms more = append_assoc old (numbered n ms) (numbered (n + length ms) more) ∙ sym (ap (λ os. old ++ os) (numbered-append n ms more))
+    → old ++ numbered_offsets n ms ++ numbered_offsets (n + length ms) more ≡ old ++ numbered_offsets n (ms ++ more)
+numbered_more old n ms more = append_assoc old (numbered_offsets n ms) (numbered_offsets (n + length ms) more) ∙ sym (ap (λ os. old ++ os) (numbered-append n ms more))
 
 -- the terms of the first link of those that are left
 pub count_more : (links : List Link) (i : ℕ) (d : Link) → i < length links

@@ -7,17 +7,17 @@ use Rattle.std.proofs.lemmas.Bool.Decides.{nat_tests}
 use Rattle.std.proofs.lemmas.Grind.{common_steps}
 use Rattle.std.proofs.lemmas.List.Elements.{All-nil, All-cons, recursion_from_All}
 use Rattle.std.proofs.lemmas.List.Sums.{split_at_first, fails_before_first, passes_at_first}
-use Rattle.ft_query.specs.Lexemes.{Part, open_part, close_part, quoted_part, chunk_part, unclosed_part, is_space, is_quote, stops_chunk, ends_chunk, IsPart, opens, closes, in_quotes, not_closed, longest_run, AreParts, no_part, white_space, next_part, parts_within, parts_of}
-use Rattle.ft_query.specs.Machine.{Mark, quote, paren, space, plain, mark_of, in_chunk, in_quote, begun_after, parts_ended, parts_from, begun, ends_part}
+use Rattle.ft_query.specs.Lexemes.{Part, open_part, close_part, quoted_part, chunk_part, unclosed_part, is_query_space, is_quote, stops_chunk, ends_chunk, IsPart, opens, closes, in_quotes, not_closed, longest_run, AreParts, no_part, white_space, next_part, parts_within, parts_of}
+use Rattle.ft_query.specs.Machine.{ByteMark, quote, paren, space, plain, byte_mark, in_chunk, in_quote, begun_after, parts_ended, parts_from, begun_part, ends_begun}
 use Rattle.ft_query.proofs.Filters.{any_place}
 
 -- a byte has its mark by four tests
-abbrev pub mark_by : Bool → Bool → Bool → Bool → Mark
-mark_by is_quote is_open is_close is_space = cond is_quote quote (cond is_open (paren open_part) (cond is_close (paren close_part) (cond is_space space plain)))
+abbrev pub mark_by : Bool → Bool → Bool → Bool → ByteMark
+mark_by is_quote is_open is_close is_query_space = cond is_quote quote (cond is_open (paren open_part) (cond is_close (paren close_part) (cond is_query_space space plain)))
 
 -- ---- bytes that end nothing
 
-pub inside_ends : (q : Bool) (bytes : List ℕ) (m : Mark) → ends_part q m ≡ false → parts_ended (begun q bytes) m ≡ []
+pub inside_ends : (q : Bool) (bytes : List ℕ) (m : ByteMark) → ends_begun q m ≡ false → parts_ended (begun_part q bytes) m ≡ []
 inside_ends true bytes quote e = cc
 inside_ends true bytes (paren part) e = refl
 inside_ends true bytes space e = refl
@@ -27,8 +27,8 @@ inside_ends false bytes (paren part) e = cc
 inside_ends false bytes space e = cc
 inside_ends false bytes plain e = refl
 
-pub inside_grows : (q : Bool) (bytes : List ℕ) (m : Mark) (b : ℕ) → ends_part q m ≡ false
-    → begun_after (begun q bytes) m b ≡ begun q (bytes ++ b ∷ [])
+pub inside_grows : (q : Bool) (bytes : List ℕ) (m : ByteMark) (b : ℕ) → ends_begun q m ≡ false
+    → begun_after (begun_part q bytes) m b ≡ begun_part q (bytes ++ b ∷ [])
 inside_grows true bytes quote b e = cc
 inside_grows true bytes (paren part) b e = refl
 inside_grows true bytes space b e = refl
@@ -38,42 +38,42 @@ inside_grows false bytes (paren part) b e = cc
 inside_grows false bytes space b e = cc
 inside_grows false bytes plain b e = refl
 
-inside_on : (q : Bool) (bytes more rest : List ℕ) → AllByRecursion (λ b. ends_part q (mark_of b) ≡ false) more
-    → parts_from (begun q bytes) (more ++ rest) ≡ parts_from (begun q (bytes ++ more)) rest
-inside_on q bytes [] rest none = ap (λ bs. parts_from (begun q bs) rest) (sym (append-nil bytes))
+inside_on : (q : Bool) (bytes more rest : List ℕ) → AllByRecursion (λ b. ends_begun q (byte_mark b) ≡ false) more
+    → parts_from (begun_part q bytes) (more ++ rest) ≡ parts_from (begun_part q (bytes ++ more)) rest
+inside_on q bytes [] rest none = ap (λ bs. parts_from (begun_part q bs) rest) (sym (append-nil bytes))
 inside_on q bytes (b ∷ more) rest none =
-    ap (λ parts. parts ++ parts_from (begun_after (begun q bytes) (mark_of b) b) (more ++ rest)) (inside_ends q bytes (mark_of b) none.0)
-    ∙ ap (λ after. parts_from after (more ++ rest)) (inside_grows q bytes (mark_of b) b none.0)
+    ap (λ parts. parts ++ parts_from (begun_after (begun_part q bytes) (byte_mark b) b) (more ++ rest)) (inside_ends q bytes (byte_mark b) none.0)
+    ∙ ap (λ after. parts_from after (more ++ rest)) (inside_grows q bytes (byte_mark b) b none.0)
     ∙ inside_on q (bytes ++ b ∷ []) more rest none.1
-    ∙ ap (λ bs. parts_from (begun q bs) rest) (append_assoc bytes (b ∷ []) more)
+    ∙ ap (λ bs. parts_from (begun_part q bs) rest) (append_assoc bytes (b ∷ []) more)
 
 -- ---- which bytes end a chunk or a quoted part
 
-chunk_by : (q o c s : Bool) → ends_part false (mark_by q o c s) ≡ (q || (o || (c || s)))
+chunk_by : (q o c s : Bool) → ends_begun false (mark_by q o c s) ≡ (q || (o || (c || s)))
 chunk_by true o c s = refl
 chunk_by false true c s = refl
 chunk_by false false true s = refl
 chunk_by false false false true = refl
 chunk_by false false false false = refl
 
-quote_by : (q o c s : Bool) → ends_part true (mark_by q o c s) ≡ q
+quote_by : (q o c s : Bool) → ends_begun true (mark_by q o c s) ≡ q
 quote_by true o c s = refl
 quote_by false true c s = refl
 quote_by false false true s = refl
 quote_by false false false true = refl
 quote_by false false false false = refl
 
-ends_bytes : (b : ℕ) → ends_part false (mark_of b) ≡ stops_chunk b
-ends_bytes b = chunk_by (b == 34) (b == 40) (b == 41) (is_space b)
+ends_bytes : (b : ℕ) → ends_begun false (byte_mark b) ≡ stops_chunk b
+ends_bytes b = chunk_by (b == 34) (b == 40) (b == 41) (is_query_space b)
 
-ends_quote : (b : ℕ) → ends_part true (mark_of b) ≡ is_quote b
-ends_quote b = quote_by (b == 34) (b == 40) (b == 41) (is_space b)
+ends_quote : (b : ℕ) → ends_begun true (byte_mark b) ≡ is_quote b
+ends_quote b = quote_by (b == 34) (b == 40) (b == 41) (is_query_space b)
 
-in_run : (bytes : List ℕ) → AllByRecursion (λ b. stops_chunk b ≡ false) bytes → AllByRecursion (λ b. ends_part false (mark_of b) ≡ false) bytes
+in_run : (bytes : List ℕ) → AllByRecursion (λ b. stops_chunk b ≡ false) bytes → AllByRecursion (λ b. ends_begun false (byte_mark b) ≡ false) bytes
 in_run [] none = tt
 in_run (b ∷ bytes) none = (ends_bytes b ∙ none.0, in_run bytes none.1)
 
-between_quotes : (bytes : List ℕ) → AllByRecursion (λ b. is_quote b ≡ false) bytes → AllByRecursion (λ b. ends_part true (mark_of b) ≡ false) bytes
+between_quotes : (bytes : List ℕ) → AllByRecursion (λ b. is_quote b ≡ false) bytes → AllByRecursion (λ b. ends_begun true (byte_mark b) ≡ false) bytes
 between_quotes [] none = tt
 between_quotes (b ∷ bytes) none = (ends_quote b ∙ none.0, between_quotes bytes none.1)
 
@@ -82,7 +82,7 @@ between_quotes (b ∷ bytes) none = (ends_quote b ∙ none.0, between_quotes byt
 abbrev by_bytes : List ℕ → List Part
 by_bytes text = parts_from (in_chunk []) text
 
-mark_of_space : (b : ℕ) → is_space b ≡ true → mark_of b ≡ space
+mark_of_space : (b : ℕ) → is_query_space b ≡ true → byte_mark b ≡ space
 mark_of_space b is =
     let low : b < 33 = grind (arith, nat_tests) in
     let no_quote : (b == 34) ≡ false = ne_eqb b 34 (λ e. omega arith) in
@@ -90,11 +90,11 @@ mark_of_space b is =
     let no_close : (b == 41) ≡ false = ne_eqb b 41 (λ e. omega arith) in
     rw (no_quote, no_open, no_close, is) refl
 
-space_read : (b : ℕ) (text : List ℕ) → is_space b ≡ true → by_bytes (b ∷ text) ≡ by_bytes text
+space_read : (b : ℕ) (text : List ℕ) → is_query_space b ≡ true → by_bytes (b ∷ text) ≡ by_bytes text
 space_read b text is = ap (λ m. parts_ended (in_chunk []) m ++ parts_from (begun_after (in_chunk []) m b) text) (mark_of_space b is)
 
 -- what ends a chunk is read as if nothing was begun
-ended_by : (b c : ℕ) (more rest : List ℕ) (m : Mark) → ends_part false m ≡ true
+ended_by : (b c : ℕ) (more rest : List ℕ) (m : ByteMark) → ends_begun false m ≡ true
     → parts_ended (in_chunk (b ∷ more)) m ++ parts_from (begun_after (in_chunk (b ∷ more)) m c) rest
     ≡ chunk_part (b ∷ more) ∷ (parts_ended (in_chunk []) m ++ parts_from (begun_after (in_chunk []) m c) rest)
 ended_by b c more rest quote e = refl
@@ -105,7 +105,7 @@ ended_by b c more rest plain e = cc
 chunk_ended : (b : ℕ) (more behind : List ℕ) → ends_chunk behind ≡ true
     → parts_from (in_chunk (b ∷ more)) behind ≡ chunk_part (b ∷ more) ∷ by_bytes behind
 chunk_ended b more [] stop = refl
-chunk_ended b more (c ∷ behind) stop = ended_by b c more behind (mark_of c) (ends_bytes c ∙ stop)
+chunk_ended b more (c ∷ behind) stop = ended_by b c more behind (byte_mark c) (ends_bytes c ∙ stop)
 
 part_read : {part : Part} {bytes behind : List ℕ} → IsPart part bytes behind → by_bytes (bytes ++ behind) ≡ part ∷ by_bytes behind
 part_read opens = refl
@@ -185,7 +185,7 @@ as_byte : (b c : ℕ) (bytes : List ℕ) (parts : List Part) → (b == c) ≡ tr
 as_byte b c bytes parts e are = subst (λ d. AreParts (d ∷ bytes) parts) (sym (eqb-true b c e)) are
 
 by_first_byte : (n b : ℕ) (bytes : List ℕ) (s o c q more : Bool) → length bytes ≤ n → Reads n
-    → is_space b ≡ s → (b == 40) ≡ o → (b == 41) ≡ c → is_quote b ≡ q → list_any is_quote bytes ≡ more
+    → is_query_space b ≡ s → (b == 40) ≡ o → (b == 41) ≡ c → is_quote b ≡ q → list_any is_quote bytes ≡ more
     → AreParts (b ∷ bytes) (cond s (parts_within n bytes) (cond o (open_part ∷ parts_within n bytes) (cond c (close_part ∷ parts_within n bytes)
     (cond (not q) (chunk_part (b ∷ before_first stops_chunk bytes) ∷ parts_within n (drop (position_or_len stops_chunk bytes) bytes))
     (cond more (quoted_part (before_first is_quote bytes) ∷ parts_within n (after_first is_quote bytes)) (unclosed_part ∷ []))))))
@@ -201,7 +201,7 @@ are_within zero [] low = no_part
 are_within zero (b ∷ bytes) low = absurd (omega arith)
 are_within (suc n) [] low = no_part
 are_within (suc n) (b ∷ bytes) low =
-    by_first_byte n b bytes (is_space b) (b == 40) (b == 41) (is_quote b) (list_any is_quote bytes) (omega arith) (are_within n)
+    by_first_byte n b bytes (is_query_space b) (b == 40) (b == 41) (is_quote b) (list_any is_quote bytes) (omega arith) (are_within n)
     refl refl refl refl refl
 
 -- ---- the law
@@ -210,7 +210,7 @@ pub computed_parts : (text : List ℕ) → AreParts text (parts_of text)
 computed_parts text = are_within (length text) text (omega arith)
 
 -- the parts that are found byte by byte
-pub parts_by_bytes : (text : List ℕ) → parts_from (begun false []) text ≡ parts_of text
+pub parts_by_bytes : (text : List ℕ) → parts_from (begun_part false []) text ≡ parts_of text
 parts_by_bytes text = are_read (computed_parts text)
 
 pub one_reading : (text : List ℕ) (parts : List Part) → AreParts text parts → parts ≡ parts_of text

@@ -9,9 +9,9 @@ use Rattle.std.proofs.lemmas.List.Concat.{flat_map-append}
 use Rattle.std.proofs.lemmas.List.Folds.{list_any-append}
 use Rattle.std.proofs.lemmas.Str.{IsCharBoundary-start, IsCharBoundary-after_ascii}
 use Rattle.std.proofs.str.Laws.{order}
-use Rattle.ft_query.specs.Lexemes.{Lexeme, Part, open_part, close_part, is_space, parts_of, lexemes_of_part}
-use Rattle.ft_query.specs.Reads.{is_unclosed}
-use Rattle.ft_query.specs.Machine.{capped, plain, mark_of, chunk_parts, begun_after, parts_ended, parts_from, begun, ends_part}
+use Rattle.ft_query.specs.Lexemes.{Lexeme, Part, open_part, close_part, is_query_space, parts_of, lexemes_of_part}
+use Rattle.ft_query.specs.Reads.{is_unclosed_part}
+use Rattle.ft_query.specs.Machine.{capped, plain, byte_mark, chunk_parts, begun_after, parts_ended, parts_from, begun_part, ends_begun}
 use Rattle.ft_query.proofs.TokenSteps.{rest_at}
 use Rattle.ft_query.proofs.PartLaw.{mark_by, inside_ends, inside_grows, parts_by_bytes}
 
@@ -35,66 +35,66 @@ range_empty text place =
 
 -- what is begun after a byte that ends something is empty, and a quoted part only after a quote
 -- that ends a chunk
-after_by : (q : Bool) (bytes : List ℕ) (b : ℕ) (is_quote is_open is_close is_space : Bool)
-    → ends_part q (mark_by is_quote is_open is_close is_space) ≡ true
-    → begun_after (begun q bytes) (mark_by is_quote is_open is_close is_space) b ≡ begun (not q && is_quote) []
-after_by true bytes b true is_open is_close is_space e = refl
-after_by true bytes b false true is_close is_space e = cc
-after_by true bytes b false false true is_space e = cc
+after_by : (q : Bool) (bytes : List ℕ) (b : ℕ) (is_quote is_open is_close is_query_space : Bool)
+    → ends_begun q (mark_by is_quote is_open is_close is_query_space) ≡ true
+    → begun_after (begun_part q bytes) (mark_by is_quote is_open is_close is_query_space) b ≡ begun_part (not q && is_quote) []
+after_by true bytes b true is_open is_close is_query_space e = refl
+after_by true bytes b false true is_close is_query_space e = cc
+after_by true bytes b false false true is_query_space e = cc
 after_by true bytes b false false false true e = cc
 after_by true bytes b false false false false e = cc
-after_by false bytes b true is_open is_close is_space e = refl
-after_by false bytes b false true is_close is_space e = refl
-after_by false bytes b false false true is_space e = refl
+after_by false bytes b true is_open is_close is_query_space e = refl
+after_by false bytes b false true is_close is_query_space e = refl
+after_by false bytes b false false true is_query_space e = refl
 after_by false bytes b false false false true e = refl
 after_by false bytes b false false false false e = cc
 
-ends_after : (q : Bool) (bytes : List ℕ) (b : ℕ) → ends_part q (mark_of b) ≡ true
-    → begun_after (begun q bytes) (mark_of b) b ≡ begun (not q && b == 34) []
-ends_after q bytes b e = after_by q bytes b (b == 34) (b == 40) (b == 41) (is_space b) e
+ends_after : (q : Bool) (bytes : List ℕ) (b : ℕ) → ends_begun q (byte_mark b) ≡ true
+    → begun_after (begun_part q bytes) (byte_mark b) b ≡ begun_part (not q && b == 34) []
+ends_after q bytes b e = after_by q bytes b (b == 34) (b == 40) (b == 41) (is_query_space b) e
 
-chunk_closed : (bytes : List ℕ) → list_any is_unclosed (chunk_parts bytes) ≡ false
+chunk_closed : (bytes : List ℕ) → list_any is_unclosed_part (chunk_parts bytes) ≡ false
 chunk_closed [] = refl
 chunk_closed (b ∷ bytes) = refl
 
-chunk_then_closed : (bytes : List ℕ) (part : Part) → is_unclosed part ≡ false → list_any is_unclosed (chunk_parts bytes ++ part ∷ []) ≡ false
+chunk_then_closed : (bytes : List ℕ) (part : Part) → is_unclosed_part part ≡ false → list_any is_unclosed_part (chunk_parts bytes ++ part ∷ []) ≡ false
 chunk_then_closed [] part e = rw e refl
 chunk_then_closed (b ∷ bytes) part e = rw e refl
 
-closed_by : (q : Bool) (bytes : List ℕ) (is_quote is_open is_close is_space : Bool)
-    → list_any is_unclosed (parts_ended (begun q bytes) (mark_by is_quote is_open is_close is_space)) ≡ false
-closed_by true bytes true is_open is_close is_space = refl
-closed_by true bytes false true is_close is_space = refl
-closed_by true bytes false false true is_space = refl
+closed_by : (q : Bool) (bytes : List ℕ) (is_quote is_open is_close is_query_space : Bool)
+    → list_any is_unclosed_part (parts_ended (begun_part q bytes) (mark_by is_quote is_open is_close is_query_space)) ≡ false
+closed_by true bytes true is_open is_close is_query_space = refl
+closed_by true bytes false true is_close is_query_space = refl
+closed_by true bytes false false true is_query_space = refl
 closed_by true bytes false false false true = refl
 closed_by true bytes false false false false = refl
-closed_by false bytes true is_open is_close is_space = chunk_closed bytes
-closed_by false bytes false true is_close is_space = chunk_then_closed bytes open_part refl
-closed_by false bytes false false true is_space = chunk_then_closed bytes close_part refl
+closed_by false bytes true is_open is_close is_query_space = chunk_closed bytes
+closed_by false bytes false true is_close is_query_space = chunk_then_closed bytes open_part refl
+closed_by false bytes false false true is_query_space = chunk_then_closed bytes close_part refl
 closed_by false bytes false false false true = chunk_closed bytes
 closed_by false bytes false false false false = refl
 
 -- no part that a byte ends is an unclosed quote
-ended_closed : (q : Bool) (bytes : List ℕ) (b : ℕ) → list_any is_unclosed (parts_ended (begun q bytes) (mark_of b)) ≡ false
-ended_closed q bytes b = closed_by q bytes (b == 34) (b == 40) (b == 41) (is_space b)
+ended_closed : (q : Bool) (bytes : List ℕ) (b : ℕ) → list_any is_unclosed_part (parts_ended (begun_part q bytes) (byte_mark b)) ≡ false
+ended_closed q bytes b = closed_by q bytes (b == 34) (b == 40) (b == 41) (is_query_space b)
 
 -- a byte that ends something is ASCII
-late_plain : (b : ℕ) → 128 ≤ b → mark_of b ≡ plain
+late_plain : (b : ℕ) → 128 ≤ b → byte_mark b ≡ plain
 late_plain b late =
     let no_quote : (b == 34) ≡ false = ne_eqb b 34 (λ e. omega arith) in
     let no_open : (b == 40) ≡ false = ne_eqb b 40 (λ e. omega arith) in
     let no_close : (b == 41) ≡ false = ne_eqb b 41 (λ e. omega arith) in
-    let no_space : is_space b ≡ false =
+    let no_space : is_query_space b ≡ false =
     or_from (is_in_range 9 13 b) (b == 32) (and_right _ _ (lt-leb b 13 (omega arith))) (ne_eqb b 32 (λ e. omega arith)) in
     rw (no_quote, no_open, no_close, no_space) refl
 
-pub ends_ascii : (q : Bool) (b : ℕ) → ends_part q (mark_of b) ≡ true → b < 128
+pub ends_ascii : (q : Bool) (b : ℕ) → ends_begun q (byte_mark b) ≡ true → b < 128
 ends_ascii q b ends = ⊎_elim
     (λ (early : b < 128). early)
-    (λ (late : 128 ≤ b). absurd (plain_ends q (subst (λ m. ends_part q m ≡ true) (late_plain b late) ends)))
+    (λ (late : 128 ≤ b). absurd (plain_ends q (subst (λ m. ends_begun q m ≡ true) (late_plain b late) ends)))
     (order b 128)
   where
-    plain_ends : (q : Bool) → ends_part q plain ≡ true → ⊥
+    plain_ends : (q : Bool) → ends_begun q plain ≡ true → ⊥
     plain_ends true e = false≢true e
     plain_ends false e = false≢true e
 
@@ -103,27 +103,27 @@ ends_ascii q b ends = ⊎_elim
 -- the parts that end in what is left of the text from place on, where a quoted part or a chunk
 -- began at start
 abbrev pub parts_left : List ℕ → Bool → ℕ → ℕ → List Part
-parts_left text q start place = parts_from (begun q (slice_range text start place)) (drop place text)
+parts_left text q start place = parts_from (begun_part q (slice_range text start place)) (drop place text)
 
-left_inside : (text : List ℕ) (q : Bool) (start place : ℕ) → start ≤ place → place < length text → ends_part q (mark_of (get_or text place 0)) ≡ false
+left_inside : (text : List ℕ) (q : Bool) (start place : ℕ) → start ≤ place → place < length text → ends_begun q (byte_mark (get_or text place 0)) ≡ false
     → parts_left text q start place ≡ parts_left text q start (place + 1)
 left_inside text q start place before h e =
     let b = get_or text place 0 in
     let bytes = slice_range text start place in
-    ap (parts_from (begun q bytes)) (rest_at text place h)
-    ∙ ap (λ parts. parts ++ parts_from (begun_after (begun q bytes) (mark_of b) b) (drop (place + 1) text)) (inside_ends q bytes (mark_of b) e)
-    ∙ ap (λ after. parts_from after (drop (place + 1) text)) (inside_grows q bytes (mark_of b) b e ∙ ap (begun q) (sym (range_more text start place before h)))
+    ap (parts_from (begun_part q bytes)) (rest_at text place h)
+    ∙ ap (λ parts. parts ++ parts_from (begun_after (begun_part q bytes) (byte_mark b) b) (drop (place + 1) text)) (inside_ends q bytes (byte_mark b) e)
+    ∙ ap (λ after. parts_from after (drop (place + 1) text)) (inside_grows q bytes (byte_mark b) b e ∙ ap (begun_part q) (sym (range_more text start place before h)))
 
-left_ended : (text : List ℕ) (q : Bool) (start place : ℕ) → place < length text → ends_part q (mark_of (get_or text place 0)) ≡ true
+left_ended : (text : List ℕ) (q : Bool) (start place : ℕ) → place < length text → ends_begun q (byte_mark (get_or text place 0)) ≡ true
     → parts_left text q start place
-    ≡ parts_ended (begun q (slice_range text start place)) (mark_of (get_or text place 0)) ++ parts_left text (not q && get_or text place 0 == 34) (place + 1)
+    ≡ parts_ended (begun_part q (slice_range text start place)) (byte_mark (get_or text place 0)) ++ parts_left text (not q && get_or text place 0 == 34) (place + 1)
     (place + 1)
 left_ended text q start place h e =
     let b = get_or text place 0 in
     let bytes = slice_range text start place in
-    ap (parts_from (begun q bytes)) (rest_at text place h)
-    ∙ ap (λ after. parts_ended (begun q bytes) (mark_of b) ++ parts_from after (drop (place + 1) text))
-    (ends_after q bytes b e ∙ ap (begun (not q && b == 34)) (sym (range_empty text (place + 1))))
+    ap (parts_from (begun_part q bytes)) (rest_at text place h)
+    ∙ ap (λ after. parts_ended (begun_part q bytes) (byte_mark b) ++ parts_from after (drop (place + 1) text))
+    (ends_after q bytes b e ∙ ap (begun_part (not q && b == 34)) (sym (range_empty text (place + 1))))
 
 -- the lexemes of some parts, as the parser holds them
 abbrev pub held : List (List ℕ) → List Part → List Lexeme
@@ -140,35 +140,35 @@ pub record Lexed (columns : List (List ℕ)) (text : List ℕ) (found : List Lex
   pub before : start ≤ place
   pub cut : IsCharBoundary text start
   pub told : found ++ held columns (parts_left text q start place) ≡ held columns (parts_of text)
-  pub open_left : list_any is_unclosed (parts_left text q start place) ≡ list_any is_unclosed (parts_of text)
+  pub open_left : list_any is_unclosed_part (parts_left text q start place) ≡ list_any is_unclosed_part (parts_of text)
 
 pub lexed_none : (columns : List (List ℕ)) (text : List ℕ) → IsUtf8 text → Lexed columns text [] false 0 0
 lexed_none columns text utf8 = record {
   before = omega arith;
   cut = IsCharBoundary-start text utf8;
   told = ap (held columns) (parts_by_bytes text);
-  open_left = ap (list_any is_unclosed) (parts_by_bytes text);
+  open_left = ap (list_any is_unclosed_part) (parts_by_bytes text);
 }
 
 pub lexed_inside : {columns : List (List ℕ)} {text : List ℕ} {found : List Lexeme} {q : Bool} {start place : ℕ} → Lexed columns text found q start place
-    → place < length text → ends_part q (mark_of (get_or text place 0)) ≡ false → Lexed columns text found q start (place + 1)
+    → place < length text → ends_begun q (byte_mark (get_or text place 0)) ≡ false → Lexed columns text found q start (place + 1)
 lexed_inside {columns} {text} {found} {q} {start} {place} so_far h e =
     let same = left_inside text q start place so_far.before h e in
     record {
       before = omega (arith, so_far.before);
       cut = so_far.cut;
       told = ap (λ parts. found ++ held columns parts) (sym same) ∙ so_far.told;
-      open_left = ap (list_any is_unclosed) (sym same) ∙ so_far.open_left;
+      open_left = ap (list_any is_unclosed_part) (sym same) ∙ so_far.open_left;
     }
 
 pub lexed_ended : {columns : List (List ℕ)} {text : List ℕ} {found found' : List Lexeme} {q : Bool} {start place : ℕ}
     → Lexed columns text found q start place → IsUtf8 text
-    → place < length text → ends_part q (mark_of (get_or text place 0)) ≡ true
-    → found' ≡ found ++ held columns (parts_ended (begun q (slice_range text start place)) (mark_of (get_or text place 0)))
+    → place < length text → ends_begun q (byte_mark (get_or text place 0)) ≡ true
+    → found' ≡ found ++ held columns (parts_ended (begun_part q (slice_range text start place)) (byte_mark (get_or text place 0)))
     → Lexed columns text found' (not q && get_or text place 0 == 34) (place + 1) (place + 1)
 lexed_ended {columns} {text} {found} {found'} {q} {start} {place} so_far utf8 h e grown =
     let b = get_or text place 0 in
-    let ended = parts_ended (begun q (slice_range text start place)) (mark_of b) in
+    let ended = parts_ended (begun_part q (slice_range text start place)) (byte_mark b) in
     let rest = parts_left text (not q && b == 34) (place + 1) (place + 1) in
     let split = left_ended text q start place h e in
     record {
@@ -181,9 +181,9 @@ lexed_ended {columns} {text} {found} {found'} {q} {start} {place} so_far utf8 h 
           ∙ ap (λ parts. found ++ held columns parts) (sym split)
           ∙ so_far.told;
       open_left =
-          ap (λ before. before || list_any is_unclosed rest) (sym (ended_closed q (slice_range text start place) b))
-          ∙ sym (list_any-append is_unclosed ended rest)
-          ∙ ap (list_any is_unclosed) (sym split)
+          ap (λ before. before || list_any is_unclosed_part rest) (sym (ended_closed q (slice_range text start place) b))
+          ∙ sym (list_any-append is_unclosed_part ended rest)
+          ∙ ap (list_any is_unclosed_part) (sym split)
           ∙ so_far.open_left;
     }
 
@@ -191,25 +191,25 @@ lexed_ended {columns} {text} {found} {found'} {q} {start} {place} so_far utf8 h 
 
 pub step_inside : {columns : List (List ℕ)} {text bytes : List ℕ} {found found' : List Lexeme} {q q' : Bool} {start start' place : ℕ}
     → Lexed columns text found q start place
-    → bytes ≡ text → place < length bytes → ends_part q (mark_of (get_or bytes place 0)) ≡ false → found' ≡ found → q' ≡ q → start' ≡ start
+    → bytes ≡ text → place < length bytes → ends_begun q (byte_mark (get_or bytes place 0)) ≡ false → found' ≡ found → q' ≡ q → start' ≡ start
     → Lexed columns text found' q' start' (place + 1)
 step_inside {columns} {text} {bytes} {found} {found'} {q} {q'} {start} {start'} {place} so_far is_text h e same_found same_q same_start =
-    let after = lexed_inside so_far (subst (λ bs. place < length bs) is_text h) (ap (λ bs. ends_part q (mark_of (get_or bs place 0))) (sym is_text) ∙ e) in
+    let after = lexed_inside so_far (subst (λ bs. place < length bs) is_text h) (ap (λ bs. ends_begun q (byte_mark (get_or bs place 0))) (sym is_text) ∙ e) in
     subst (λ ls. Lexed columns text ls q' start' (place + 1)) (sym same_found)
     (subst (λ p. Lexed columns text found p start' (place + 1)) (sym same_q)
     (subst (λ n. Lexed columns text found q n (place + 1)) (sym same_start) after))
 
 pub step_ended : {columns : List (List ℕ)} {text bytes part : List ℕ} {found found' : List Lexeme} {q q' : Bool} {start start' place : ℕ}
     → Lexed columns text found q start place → IsUtf8 text
-    → bytes ≡ text → place < length bytes → ends_part q (mark_of (get_or bytes place 0)) ≡ true → part ≡ slice_range text start place
-    → found' ≡ found ++ held columns (parts_ended (begun q part) (mark_of (get_or bytes place 0)))
+    → bytes ≡ text → place < length bytes → ends_begun q (byte_mark (get_or bytes place 0)) ≡ true → part ≡ slice_range text start place
+    → found' ≡ found ++ held columns (parts_ended (begun_part q part) (byte_mark (get_or bytes place 0)))
     → q' ≡ (not q && get_or bytes place 0 == 34) → start' ≡ place + 1
     → Lexed columns text found' q' start' (place + 1)
 step_ended {columns} {text} {bytes} {part} {found} {found'} {q} {q'} {start} {start'} {place} so_far utf8 is_text h e cut grown is_q is_start =
-    let kind = ap (λ bs. ends_part q (mark_of (get_or bs place 0))) (sym is_text) ∙ e in
+    let kind = ap (λ bs. ends_begun q (byte_mark (get_or bs place 0))) (sym is_text) ∙ e in
     let grows =
-    grown ∙ ap (λ p. found ++ held columns (parts_ended (begun q p) (mark_of (get_or bytes place 0)))) cut
-    ∙ ap (λ bs. found ++ held columns (parts_ended (begun q (slice_range text start place)) (mark_of (get_or bs place 0)))) is_text in
+    grown ∙ ap (λ p. found ++ held columns (parts_ended (begun_part q p) (byte_mark (get_or bytes place 0)))) cut
+    ∙ ap (λ bs. found ++ held columns (parts_ended (begun_part q (slice_range text start place)) (byte_mark (get_or bs place 0)))) is_text in
     let after = lexed_ended so_far utf8 (subst (λ bs. place < length bs) is_text h) kind grows in
     subst (λ p. Lexed columns text found' p start' (place + 1)) (sym (is_q ∙ ap (λ bs. not q && get_or bs place 0 == 34) is_text))
     (subst (λ n. Lexed columns text found' (not q && get_or text place 0 == 34) n (place + 1)) (sym is_start) after)

@@ -12,7 +12,7 @@ use Rattle.ft_query.specs.declared.query.Link.{Link}
 use Rattle.ft_query.specs.declared.query.Phrase.{Phrase}
 use Rattle.ft_query.specs.declared.walk.Offset.{Offset}
 use Rattle.ft_query.specs.Trees.{PlainPhrase, PlainLink, plain_term, plain_phrase, plain_link, chain}
-use Rattle.ft_query.specs.Visit.{place_order, seek, among, skip_behind, begin_near, near_those, may_begin, followed, head_of, linked, link_marks, marks_from, marks_of, numbered, offset_at, plain_starts, total, plain_lists, linked_cost, link_cost, visit_cost}
+use Rattle.ft_query.specs.Visit.{place_order, seek, among, skip_behind, begin_near, near_those, may_begin, followed, head_of, linked, link_marks, marks_from, marks_of, numbered_offsets, offset_at, plain_starts, total, plain_lists, linked_cost, link_cost, visit_cost}
 use Rattle.ft_query.specs.declared.walk.places.Starts.{Starts}
 
 -- what is left of a list, with the one that was found
@@ -113,13 +113,13 @@ linked_push p links lists rest next first later =
     ∙ ap (λ l. reverse (drop 1 (linked p links lists)) ++ l ∷ []) first
     ∙ sym (ap reverse (linked_first p links lists) ∙ reverse-append (head_of (linked p links lists) ∷ []) (drop 1 (linked p links lists)))
 
-pub numbered-append : (n : ℕ) (ms more : List (List Place)) → numbered n (ms ++ more) ≡ numbered n ms ++ numbered (n + length ms) more
-numbered-append n [] more = ap (λ m. numbered m more) (sym (add-zero n))
+pub numbered-append : (n : ℕ) (ms more : List (List Place)) → numbered_offsets n (ms ++ more) ≡ numbered_offsets n ms ++ numbered_offsets (n + length ms) more
+numbered-append n [] more = ap (λ m. numbered_offsets m more) (sym (add-zero n))
 numbered-append n (m ∷ ms) more =
     let next : n + 1 + length ms ≡ n + length (m ∷ ms) = omega arith in
     ap (λ os. map (offset_at n) m ++ os) (numbered-append (n + 1) ms more)
-    ∙ ap (λ k. map (offset_at n) m ++ (numbered (n + 1) ms ++ numbered k more)) next
-    ∙ sym (append_assoc (map (offset_at n) m) (numbered (n + 1) ms) (numbered (n + length (m ∷ ms)) more))
+    ∙ ap (λ k. map (offset_at n) m ++ (numbered_offsets (n + 1) ms ++ numbered_offsets k more)) next
+    ∙ sym (append_assoc (map (offset_at n) m) (numbered_offsets (n + 1) ms) (numbered_offsets (n + length (m ∷ ms)) more))
 
 pub marks_length : (i : ℕ) (lists : List (List Place)) (starts : List Place) → length (marks_from i lists starts) ≡ length lists
 marks_length i [] starts = refl
@@ -127,13 +127,13 @@ marks_length i (l ∷ ls) starts = ap (λ n. suc n) (marks_length (i + 1) ls sta
 
 -- what the lists of a phrase's terms add before the terms after it
 pub numbered_marks : (old : List Offset) (n : ℕ) (lists : List Places) (starts : List Place) (more : List (List Place))
-    → old ++ numbered n (marks_from 0 (plain_lists lists) starts) ++ numbered (n + length lists) more
-    ≡ old ++ numbered n (marks_from 0 (plain_lists lists) starts ++ more)
+    → old ++ numbered_offsets n (marks_from 0 (plain_lists lists) starts) ++ numbered_offsets (n + length lists) more
+    ≡ old ++ numbered_offsets n (marks_from 0 (plain_lists lists) starts ++ more)
 numbered_marks old n lists starts more =
     let ms = marks_from 0 (plain_lists lists) starts in
     let many : length ms ≡ length lists = marks_length 0 (plain_lists lists) starts ∙ length-map lists (λ l. l.places.now) in
-    append_assoc old (numbered n ms) (numbered (n + length lists) more)
-    ∙ ap (λ k. old ++ (numbered n ms ++ numbered (n + k) more)) (sym many)
+    append_assoc old (numbered_offsets n ms) (numbered_offsets (n + length lists) more)
+    ∙ ap (λ k. old ++ (numbered_offsets n ms ++ numbered_offsets (n + k) more)) (sym many)
     ∙ sym (ap (λ os. old ++ os) (numbered-append n ms more))
 
 -- ---- the lists of a phrase's terms, and those after them

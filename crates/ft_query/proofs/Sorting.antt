@@ -16,7 +16,7 @@ use Rattle.ft_query.specs.declared.walk.Offset.{Offset}
 use Rattle.ft_query.specs.Documents.{Posting, IsBefore}
 use Rattle.ft_query.specs.Trees.{PlainTerm, PlainLink, Tree, phrase, chain, both, either, without}
 use Rattle.ft_query.specs.Occurs.{is_at, offsets_at, offsets_of, taken, taken_in, taken_links, places_of, heads, choices, occurrences}
-use Rattle.ft_query.specs.Visit.{offset_at, numbered, precedes}
+use Rattle.ft_query.specs.Visit.{offset_at, numbered_offsets, precedes}
 use Rattle.ft_query.proofs.TokenOnce.{pairs_head, pairs_tail}
 use Rattle.ft_query.proofs.OffsetOrder.{Rises, contains_cases, contains_head, contains_tail, only_offsets}
 use Rattle.ft_query.proofs.Choices.{contains_nothing, map_from, map_to, filter_from, flat_from, flat_to}
@@ -142,19 +142,19 @@ front_distinct n (x ∷ xs) rest rise above distinct =
     IsDistinct-cons same_key (offset_at n x) (map (offset_at n) xs ++ rest) (all_differ n x xs rest rise.0 above)
     (front_distinct n xs rest rise.1 above distinct)
 
-terms_above : (k n : ℕ) (ms : List (List Place)) → k < n → AllByRecursion (λ o. k < o.term) (numbered n ms)
+terms_above : (k n : ℕ) (ms : List (List Place)) → k < n → AllByRecursion (λ o. k < o.term) (numbered_offsets n ms)
 terms_above k n [] h = tt
 terms_above k n (m ∷ ms) h = after m (terms_above k (n + 1) ms (omega arith))
   where
-    after : (xs : List Place) → AllByRecursion (λ o. k < o.term) (numbered (n + 1) ms)
-        → AllByRecursion (λ o. k < o.term) (map (offset_at n) xs ++ numbered (n + 1) ms)
+    after : (xs : List Place) → AllByRecursion (λ o. k < o.term) (numbered_offsets (n + 1) ms)
+        → AllByRecursion (λ o. k < o.term) (map (offset_at n) xs ++ numbered_offsets (n + 1) ms)
     after [] rest = rest
     after (x ∷ xs) rest = (h, after xs rest)
 
-marks_distinct : (n : ℕ) (ms : List (List Place)) → AllByRecursion StartsRise ms → IsDistinct same_key (numbered n ms)
+marks_distinct : (n : ℕ) (ms : List (List Place)) → AllByRecursion StartsRise ms → IsDistinct same_key (numbered_offsets n ms)
 unfolding IsDistinct
 marks_distinct n [] all = tt
-marks_distinct n (m ∷ ms) all = front_distinct n m (numbered (n + 1) ms) all.0 (terms_above n (n + 1) ms (omega arith)) (marks_distinct (n + 1) ms all.1)
+marks_distinct n (m ∷ ms) all = front_distinct n m (numbered_offsets (n + 1) ms) all.0 (terms_above n (n + 1) ms (omega arith)) (marks_distinct (n + 1) ms all.1)
 
 -- ---- the marks are those of the document's places
 
@@ -163,18 +163,18 @@ abbrev Marked : ℕ → List (List Place) → Offset → Type 0
 Marked n [] o = ⊥
 Marked n (m ∷ ms) o = ((at : Place) × Contains m at × (offset_at n at ≡ o)) ⊎ Marked (n + 1) ms o
 
-numbered_marked : (n : ℕ) (ms : List (List Place)) (o : Offset) → Contains (numbered n ms) o → Marked n ms o
+numbered_marked : (n : ℕ) (ms : List (List Place)) (o : Offset) → Contains (numbered_offsets n ms) o → Marked n ms o
 numbered_marked n [] o c = contains_nothing o c
 numbered_marked n (m ∷ ms) o c = ⊎_elim
     (λ (here : Contains (map (offset_at n) m) o). inl (map_from (offset_at n) m o here))
-    (λ (later : Contains (numbered (n + 1) ms) o). inr (numbered_marked (n + 1) ms o later))
-    (Contains-append_cases (map (offset_at n) m) (numbered (n + 1) ms) o c)
+    (λ (later : Contains (numbered_offsets (n + 1) ms) o). inr (numbered_marked (n + 1) ms o later))
+    (Contains-append_cases (map (offset_at n) m) (numbered_offsets (n + 1) ms) o c)
 
-marked_numbered : (n : ℕ) (ms : List (List Place)) (o : Offset) → Marked n ms o → Contains (numbered n ms) o
+marked_numbered : (n : ℕ) (ms : List (List Place)) (o : Offset) → Marked n ms o → Contains (numbered_offsets n ms) o
 marked_numbered n [] o is = absurd is
 marked_numbered n (m ∷ ms) o (inl is) =
-    Contains-append_left (map (offset_at n) m) (numbered (n + 1) ms) o (subst (Contains (map (offset_at n) m)) is.2 (map_to (offset_at n) m is.0 is.1))
-marked_numbered n (m ∷ ms) o (inr is) = Contains-append_right (map (offset_at n) m) (numbered (n + 1) ms) o (marked_numbered (n + 1) ms o is)
+    Contains-append_left (map (offset_at n) m) (numbered_offsets (n + 1) ms) o (subst (Contains (map (offset_at n) m)) is.2 (map_to (offset_at n) m is.0 is.1))
+marked_numbered n (m ∷ ms) o (inr is) = Contains-append_right (map (offset_at n) m) (numbered_offsets (n + 1) ms) o (marked_numbered (n + 1) ms o is)
 
 abbrev from_term : ℕ → List (List Place) → Place → List Offset
 from_term n terms at =
@@ -288,7 +288,7 @@ drawn_rises : (postings : List Posting) → AllPairs IsBefore postings → (m : 
 drawn_rises postings ordered m drawn = subst StartsRise (sym drawn.1) (starts_filter drawn.0 (places_of postings) (starts_rise postings ordered))
 
 -- the marks of what a query's terms take, sorted, are its offsets
-pub sorted_are : (postings : List Posting) (tree : Tree) (marks out : List Offset) → AllPairs IsBefore postings → marks ≡ numbered 0 (taken postings tree)
+pub sorted_are : (postings : List Posting) (tree : Tree) (marks out : List Offset) → AllPairs IsBefore postings → marks ≡ numbered_offsets 0 (taken postings tree)
     → IsPermutation marks out → IsSortedBy precedes out → out ≡ offsets_of postings tree
 sorted_are postings tree marks out ordered is permutation sorted =
     let ms = taken postings tree in

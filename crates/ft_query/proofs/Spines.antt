@@ -6,19 +6,19 @@ use Rattle.ft_query.specs.declared.walk.joint.By.TheVariants as by
 use Rattle.ft_query.specs.declared.walk.joint.Joint.{Joint}
 use Rattle.ft_query.specs.Trees.{Tree, phrase, chain, both, either, without, tree_of}
 use Rattle.ft_query.specs.Work.{terms_in, node_count, width}
-use Rattle.ft_query.specs.Spines.{joined, whole, AddsSpine}
+use Rattle.ft_query.specs.Spines.{joined_sides, whole, AddsSpine}
 
 -- the last joint is joined first
-pub whole_last : (js : List Joint) (j : Joint) (p : Tree) → whole (js ++ j ∷ []) p ≡ whole js (joined p j.by (tree_of j.right.now))
+pub whole_last : (js : List Joint) (j : Joint) (p : Tree) → whole (js ++ j ∷ []) p ≡ whole js (joined_sides p j.by (tree_of j.right.now))
 whole_last [] j p = refl
-whole_last (i ∷ js) j p = ap (λ t. joined t i.by (tree_of i.right.now)) (whole_last js j p)
+whole_last (i ∷ js) j p = ap (λ t. joined_sides t i.by (tree_of i.right.now)) (whole_last js j p)
 
-pub joined_terms : (p : Tree) (b : By) (q : Tree) → terms_in (joined p b q) ≡ terms_in p ++ terms_in q
+pub joined_terms : (p : Tree) (b : By) (q : Tree) → terms_in (joined_sides p b q) ≡ terms_in p ++ terms_in q
 joined_terms p by.And q = refl
 joined_terms p by.Or q = refl
 joined_terms p by.Not q = refl
 
-pub joined_width : (p : Tree) (b : By) (q : Tree) → width (joined p b q) ≡ width p + width q
+pub joined_width : (p : Tree) (b : By) (q : Tree) → width (joined_sides p b q) ≡ width p + width q
 joined_width p by.And q = refl
 joined_width p by.Or q = refl
 joined_width p by.Not q = refl
@@ -34,7 +34,7 @@ pub spine_begun : (js : List Joint) (p : Tree) → AddsSpine js js p p
 spine_begun js p = record { own = []; added = sym (append-nil js); all = refl }
 
 -- a left side's joint more
-pub spine_on : (old now new : List Joint) (j : Joint) (left : Tree) {query : Tree} → AddsSpine old now (joined left j.by (tree_of j.right.now)) query
+pub spine_on : (old now new : List Joint) (j : Joint) (left : Tree) {query : Tree} → AddsSpine old now (joined_sides left j.by (tree_of j.right.now)) query
     → new ≡ now ++ j ∷ [] → AddsSpine old new left query
 spine_on old now new j left {query} at more = record {
   own = at.own ++ j ∷ [];
@@ -71,7 +71,7 @@ part_width (j ∷ js) p =
 pub right_width : (js : List Joint) (j : Joint) (p query : Tree) → whole (js ++ j ∷ []) p ≡ query → width (tree_of j.right.now) < width query
 right_width js j p query all =
     let q = tree_of j.right.now in
-    let wide = part_width js (joined p j.by q) in
+    let wide = part_width js (joined_sides p j.by q) in
     let is = ap width (sym (whole_last js j p) ∙ all) in
     let both_wide = joined_width p j.by q in
     let some = some_width p in

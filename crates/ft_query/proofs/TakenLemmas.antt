@@ -1,9 +1,9 @@
 -- Steps one after the other.
 use Rattle.std.proofs.Common.{◌≡◌, ℕ, ◌+◌, ◌-◌, ◌≤◌, arith}
 use Rattle.ft_query.specs.declared.standing.Steps.{Steps}
-use Rattle.ft_query.specs.Taken.{Takes, more_steps}
+use Rattle.ft_query.specs.Taken.{TakesSteps, more_steps}
 
-pub takes_then : (m n : ℕ) (a b c : Steps) → Takes m a b → Takes n b c → Takes (m + n) a c
+pub takes_then : (m n : ℕ) (a b c : Steps) → TakesSteps m a b → TakesSteps n b c → TakesSteps (m + n) a c
 takes_then m n a b c one two =
     let x = one.taken in
     let y = two.taken in

@@ -8,7 +8,7 @@ use Rattle.std.proofs.lemmas.List.Elements.{All-head, All-tail}
 use Rattle.ft_query.specs.declared.text.Token.{Token}
 use Rattle.ft_query.specs.Tokens.{PlainToken, AreTokens, plain_token}
 use Rattle.ft_query.specs.Trees.{PlainTerm}
-use Rattle.ft_query.specs.Lexemes.{word, filter_on, follows_caret, terms_of, is_colon, words_after, is_number}
+use Rattle.ft_query.specs.Lexemes.{word, filter_on, follows_caret, terms_of, is_colon, words_after, is_digit_run}
 use Rattle.ft_query.specs.Machine.{capped}
 
 -- the term that a token of the part is
@@ -30,7 +30,7 @@ all_within part (t ∷ ts) h = (
 pub within_part : (part : List ℕ) (ts : List Token) → AreTokens part (map plain_token ts) → AreWithin part ts
 within_part part ts are = all_within part ts are.within
 
-pub digits_are_number : (ds : List ℕ) → 0 < length ds → is_number ds ≡ list_all is_ascii_digit ds
+pub digits_are_number : (ds : List ℕ) → 0 < length ds → is_digit_run ds ≡ list_all is_ascii_digit ds
 digits_are_number [] some = absurd (omega arith)
 digits_are_number (d ∷ ds) some = refl
 

@@ -11,7 +11,7 @@ use Rattle.ft_query.specs.Documents.{Posting, IsBefore}
 use Rattle.ft_query.specs.Trees.{Tree}
 use Rattle.ft_query.specs.Work.{terms_in}
 use Rattle.ft_query.specs.Occurs.{accepts, offsets_of}
-use Rattle.ft_query.specs.Visit.{listed_places, is_accepted, marks_of, numbered, precedes, if_wanted}
+use Rattle.ft_query.specs.Visit.{listed_places, is_accepted, marks_of, numbered_offsets, precedes, if_wanted}
 use Rattle.ft_query.proofs.QueryPasses.{accepted_is, marked_is}
 use Rattle.ft_query.proofs.Sorting.{sorted_are}
 
@@ -30,7 +30,7 @@ rejected_is wanted postings tree lists b ordered is accepted rejected =
 -- the offsets are in order, or there are none
 sorted_is : (wanted : Wanted) (postings : List Posting) (tree : Tree) (lists : List (List Place)) (marks out : List Offset) → AllPairs IsBefore postings
     → lists ≡ map (listed_places postings) (terms_in tree)
-    → marks ≡ numbered 0 (if_wanted wanted (marks_of tree lists)) → IsPermutation marks out → IsSortedBy precedes out
+    → marks ≡ numbered_offsets 0 (if_wanted wanted (marks_of tree lists)) → IsPermutation marks out → IsSortedBy precedes out
     → out ≡ if_wanted wanted (offsets_of postings tree)
 sorted_is Docids postings tree lists marks out ordered is marked permutation sorted = nothing out (length_permutation marks out permutation ∙ ap length marked)
   where
@@ -38,12 +38,12 @@ sorted_is Docids postings tree lists marks out ordered is marked permutation sor
     nothing [] none = refl
     nothing (x ∷ xs) none = absurd (omega arith)
 sorted_is Offsets postings tree lists marks out ordered is marked permutation sorted =
-    let taken_are = marked ∙ ap (λ ls. numbered 0 (marks_of tree ls)) is ∙ ap (numbered 0) (marked_is postings tree ordered) in
+    let taken_are = marked ∙ ap (λ ls. numbered_offsets 0 (marks_of tree ls)) is ∙ ap (numbered_offsets 0) (marked_is postings tree ordered) in
     sorted_are postings tree marks out ordered taken_are permutation sorted
 
 pub found_is : (wanted : Wanted) (postings : List Posting) (tree : Tree) (lists : List (List Place)) (b : Bool) (marks out : List Offset)
     → AllPairs IsBefore postings → lists ≡ map (listed_places postings) (terms_in tree) → b ≡ is_accepted tree lists → b ≡ true
-    → marks ≡ numbered 0 (if_wanted wanted (marks_of tree lists)) → IsPermutation marks out → IsSortedBy precedes out
+    → marks ≡ numbered_offsets 0 (if_wanted wanted (marks_of tree lists)) → IsPermutation marks out → IsSortedBy precedes out
     → Some out ≡ answer_of wanted postings tree
 found_is wanted postings tree lists b marks out ordered is accepted passed marked permutation sorted =
     ap (λ os. Some os) (sorted_is wanted postings tree lists marks out ordered is marked permutation sorted)

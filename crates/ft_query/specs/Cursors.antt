@@ -20,9 +20,9 @@ abbrev pub places_left : List Cursor → ℕ
 places_left cursors = sum_by (λ c. place_count (lists_kept c)) cursors
 
 -- the next docid, if there is one
-abbrev pub next_docid : List PlaceList → Option ℤ
-next_docid [] = None
-next_docid (l ∷ ls) = Some l.docid
+abbrev pub docid_ahead : List PlaceList → Option ℤ
+docid_ahead [] = None
+docid_ahead (l ∷ ls) = Some l.docid
 
 -- this document is the next one
 abbrev pub is_next : ℤ → List PlaceList → Bool
@@ -55,7 +55,7 @@ lesser_of (Some docid) (Some next) = if int_lt next docid then Some next else So
 
 -- the lesser of this docid and the next one
 abbrev pub least_of : Option ℤ → List PlaceList → Option ℤ
-least_of docid ls = lesser_of docid (next_docid ls)
+least_of docid ls = lesser_of docid (docid_ahead ls)
 
 -- the least docid that is next in some list, or this one
 abbrev pub least_from : Option ℤ → List (List PlaceList) → Option ℤ

@@ -7,12 +7,12 @@ use Rattle.ft_query.specs.declared.walk.cursor.Cursor.{Cursor}
 use Rattle.ft_query.specs.declared.query.QueryTerm.{QueryTerm}
 use Rattle.ft_query.specs.Documents.{Document}
 use Rattle.ft_query.specs.Trees.{PlainTerm, plain_term}
-use Rattle.ft_query.specs.Lists.{is_failed, Reaches, Answers}
+use Rattle.ft_query.specs.Lists.{is_failed, Reaches, AllAnswer}
 use Rattle.ft_query.specs.Cursors.{lists_kept, places_left, listed_for}
 
 -- What calls make of the lists: clean ones were clean and mean the documents that they meant, a
 -- failure is answered, and else each became what a call makes of it.
-pub record Asks {L X : Type 0} (g : Ghosts L) (old new : L) (result : Result X ListFault) : Type 0 where
+pub record AsksLists {L X : Type 0} (g : Ghosts L) (old new : L) (result : Result X ListFault) : Type 0 where
   pub clean : g.is_clean new → g.is_clean old × (g.documents new ≡ g.documents old)
   pub failed : g.has_failed new ≡ (g.has_failed old || is_failed result)
   pub becomes : Reaches g.becomes old (is_ok result) new
@@ -30,5 +30,5 @@ AreCursorsOf documents terms cursors = map lists_kept cursors ≡ map (λ t. lis
 pub record Loads {L Z : Type 0} (g : Ghosts L) (terms : List PlainTerm) (old new : L) (cursors : Vec Cursor Z) : Type 0 where
   pub lists : g.is_clean new → map lists_kept cursors.items ≡ map (listed_for (g.documents new)) terms
   pub number : vec_len cursors ≡ length terms
-  pub asked : Answers g.becomes (length terms) old new
+  pub asked : AllAnswer g.becomes (length terms) old new
   pub given : g.is_clean new → g.given_so_far old < 2 ^ 64 → g.given_so_far new ≡ min (g.given_so_far old + places_left cursors.items) (2 ^ 64 - 1)

@@ -14,7 +14,7 @@ use Rattle.ft_query.specs.declared.machine.Last.TheVariants as last
 use Rattle.ft_query.specs.declared.machine.State.{State as CodeState}
 use Rattle.ft_query.specs.Trees.{Tree, plain_term, plain_phrase, plain_link, tree_of}
 use Rattle.ft_query.specs.Lexemes.{Lexeme, open_paren, close_paren, and_word, or_word, not_word, near_word, filter_on, word, quoted, Part}
-use Rattle.ft_query.specs.Lexemes.{open_part, close_part, quoted_part, chunk_part, unclosed_part, is_space, is_quote}
+use Rattle.ft_query.specs.Lexemes.{open_part, close_part, quoted_part, chunk_part, unclosed_part, is_query_space, is_quote}
 use Rattle.ft_query.specs.Reads.{term_count, is_far, nests_deep, query_unless}
 use Rattle.ft_query.specs.Pass.{Waiting, Last, State, operator, filtered, chained, near_to, near_filtered, whole}
 
@@ -46,18 +46,18 @@ query_within default ls = query_unless (if asks_much ls then Some TooLarge else 
 -- ---- parts, byte by byte
 
 -- what a byte is, outside of quoted parts
-pub data Mark : Type 0 where
-  quote : Mark
-  paren : Part → Mark
-  space : Mark
-  plain : Mark
+pub data ByteMark : Type 0 where
+  quote : ByteMark
+  paren : Part → ByteMark
+  space : ByteMark
+  plain : ByteMark
 
-abbrev pub mark_of : ℕ → Mark
-mark_of b =
+abbrev pub byte_mark : ℕ → ByteMark
+byte_mark b =
     if is_quote b then quote
     else (if b == byte "(" then paren open_part
     else (if b == byte ")" then paren close_part
-    else (if is_space b then space
+    else (if is_query_space b then space
     else plain)))
 
 -- what has come of a chunk, which may be nothing, or of a quoted part
@@ -70,7 +70,7 @@ chunk_parts [] = []
 chunk_parts (b ∷ bs) = chunk_part (b ∷ bs) ∷ []
 
 -- what is begun after one more byte
-abbrev pub begun_after : Begun → Mark → ℕ → Begun
+abbrev pub begun_after : Begun → ByteMark → ℕ → Begun
 begun_after (in_chunk bs) quote b = in_quote []
 begun_after (in_chunk bs) (paren part) b = in_chunk []
 begun_after (in_chunk bs) space b = in_chunk []
@@ -81,7 +81,7 @@ begun_after (in_quote bs) space b = in_quote (bs ++ b ∷ [])
 begun_after (in_quote bs) plain b = in_quote (bs ++ b ∷ [])
 
 -- the parts that a byte ends
-abbrev pub parts_ended : Begun → Mark → List Part
+abbrev pub parts_ended : Begun → ByteMark → List Part
 parts_ended (in_chunk bs) quote = chunk_parts bs
 parts_ended (in_chunk bs) (paren part) = chunk_parts bs ++ part ∷ []
 parts_ended (in_chunk bs) space = chunk_parts bs
@@ -97,20 +97,20 @@ parts_at_end (in_quote bs) = unclosed_part ∷ []
 
 -- the parts that end in what is left of the text, with the one that is begun
 abbrev pub parts_from : Begun → List ℕ → List Part
-parts_from begun [] = parts_at_end begun
-parts_from begun (b ∷ bs) = parts_ended begun (mark_of b) ++ parts_from (begun_after begun (mark_of b) b) bs
+parts_from begun_part [] = parts_at_end begun_part
+parts_from begun_part (b ∷ bs) = parts_ended begun_part (byte_mark b) ++ parts_from (begun_after begun_part (byte_mark b) b) bs
 
 -- the quoted part or chunk that is begun
-abbrev pub begun : Bool → List ℕ → Begun
-begun true bytes = in_quote bytes
-begun false bytes = in_chunk bytes
+abbrev pub begun_part : Bool → List ℕ → Begun
+begun_part true bytes = in_quote bytes
+begun_part false bytes = in_chunk bytes
 
 -- a byte with this mark ends it
-abbrev pub ends_part : Bool → Mark → Bool
-ends_part true quote = true
-ends_part true _ = false
-ends_part false plain = false
-ends_part false _ = true
+abbrev pub ends_begun : Bool → ByteMark → Bool
+ends_begun true quote = true
+ends_begun true _ = false
+ends_begun false plain = false
+ends_begun false _ = true
 
 -- ---- the states of the pass
 

@@ -11,7 +11,7 @@ use Rattle.ft_query.specs.Trees.{PlainTerm, Tree, chain, plain_phrase, plain_lin
 use Rattle.ft_query.specs.declared.walk.joint.By.{By}
 use Rattle.ft_query.specs.Work.{terms_in}
 use Rattle.ft_query.specs.Spines.{joined_answer, joined_marks}
-use Rattle.ft_query.specs.Visit.{is_accepted, marks_of, numbered, if_wanted, plain_lists, plain_starts, head_of}
+use Rattle.ft_query.specs.Visit.{is_accepted, marks_of, numbered_offsets, if_wanted, plain_lists, plain_starts, head_of}
 
 -- a chain as a query of its own
 abbrev pub chain_tree : Chain → Tree
@@ -40,7 +40,7 @@ pub record HaveLists (found : Found) (terms : List PlainTerm) (lists : List Plac
 -- stays.
 pub record Marks {X : Type 0} (result : Result X AllocError) (old new : Found) (marks : List (List Place)) (count : ℕ) : Type 0 where
   pub wanted : new.wanted ≡ old.wanted
-  pub offsets : OnOk result (new.offsets.items ≡ old.offsets.items ++ numbered old.next marks)
+  pub offsets : OnOk result (new.offsets.items ≡ old.offsets.items ++ numbered_offsets old.next marks)
   pub next : OnOk result (new.next ≡ old.next + count)
 
 -- A query or a part of one is evaluated: whether it accepts is answered, and its marks are added if
@@ -48,7 +48,7 @@ pub record Marks {X : Type 0} (result : Result X AllocError) (old new : Found) (
 pub record Evaluates (result : Result Bool AllocError) (old new : Found) (tree : Tree) (lists : List Places) : Type 0 where
   pub accepted : IfOk result (λ b. b ≡ is_accepted tree (plain_lists lists))
   pub wanted : new.wanted ≡ old.wanted
-  pub offsets : OnOk result (new.offsets.items ≡ old.offsets.items ++ numbered old.next (if_wanted old.wanted (marks_of tree (plain_lists lists))))
+  pub offsets : OnOk result (new.offsets.items ≡ old.offsets.items ++ numbered_offsets old.next (if_wanted old.wanted (marks_of tree (plain_lists lists))))
   pub next : OnOk result (new.next ≡ old.next + length (if_wanted old.wanted (marks_of tree (plain_lists lists))))
   pub room : OnOk result (new.next ≤ old.next + length lists)
 
@@ -58,7 +58,7 @@ pub record Evaluates (result : Result Bool AllocError) (old new : Found) (tree :
 pub record Joins (by : By) (accepted : Bool) (result : Result Bool AllocError) (old new : Found) (tree : Tree) (lists : List Places) : Type 0 where
   pub both : IfOk result (λ b. b ≡ joined_answer by accepted (is_accepted tree (plain_lists lists)))
   pub wanted : new.wanted ≡ old.wanted
-  pub offsets : OnOk result (new.offsets.items ≡ old.offsets.items ++ numbered old.next
+  pub offsets : OnOk result (new.offsets.items ≡ old.offsets.items ++ numbered_offsets old.next
       (if_wanted old.wanted (joined_marks by (marks_of tree (plain_lists lists)))))
   pub next : OnOk result (new.next ≡ old.next + length (if_wanted old.wanted (joined_marks by (marks_of tree (plain_lists lists)))))
   pub room : OnOk result (new.next ≤ old.next + length lists)

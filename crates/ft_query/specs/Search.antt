@@ -28,10 +28,10 @@ hits_in Passed offsets = []
 hits_in (Found hit) offsets = record { docid = hit.docid; offsets = offsets } ∷ []
 
 -- the hit has of these offsets those that are wanted
-abbrev pub Tells : Wanted → Considered → List Offset → Type 0
-Tells wanted NoDocument offsets = Unit {0}
-Tells wanted Passed offsets = Unit {0}
-Tells wanted (Found hit) offsets = hit.offsets.items ≡ if_wanted wanted offsets
+abbrev pub TellsOffsets : Wanted → Considered → List Offset → Type 0
+TellsOffsets wanted NoDocument offsets = Unit {0}
+TellsOffsets wanted Passed offsets = Unit {0}
+TellsOffsets wanted (Found hit) offsets = hit.offsets.items ≡ if_wanted wanted offsets
 
 abbrev pub IsDocument : Considered → Type 0
 IsDocument NoDocument = ⊥
@@ -42,7 +42,7 @@ IsDocument (Found hit) = Unit {0}
 pub record Considers (wanted : Wanted) (old new : Walk) (considered : Considered) (documents : List Document) : Type 0 where
   pub offsets : List Offset
   pub went : Went old new (hits_in considered offsets) documents
-  pub told : Tells wanted considered offsets
+  pub told : TellsOffsets wanted considered offsets
   pub ended : considered ≡ NoDocument → went.rest ≡ []
 
 -- The walk went on to the next hit, which has those of its offsets that are wanted.

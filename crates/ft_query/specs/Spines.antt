@@ -12,15 +12,15 @@ leaf_tree (leaf.Phrase p) = phrase (plain_phrase p.now)
 leaf_tree (leaf.Near c) = chain (plain_phrase c.now.first) (map plain_link c.now.links.items)
 
 -- a left side and a right one
-abbrev pub joined : Tree → By → Tree → Tree
-joined p by.And q = both p q
-joined p by.Or q = either p q
-joined p by.Not q = without p q
+abbrev pub joined_sides : Tree → By → Tree → Tree
+joined_sides p by.And q = both p q
+joined_sides p by.Or q = either p q
+joined_sides p by.Not q = without p q
 
 -- a part of a query with all that is joined to it, the last joint first
 abbrev pub whole : List Joint → Tree → Tree
 whole [] p = p
-whole (j ∷ js) p = joined (whole js p) j.by (tree_of j.right.now)
+whole (j ∷ js) p = joined_sides (whole js p) j.by (tree_of j.right.now)
 
 -- These joints come behind those that are there, and a part with them is the query.
 pub record AddsSpine (old new : List Joint) (part query : Tree) : Type 0 where

@@ -8,7 +8,7 @@ abbrev pub more_steps : ℕ → Steps → ℕ
 more_steps n steps = min (steps.taken + n) (2 ^ 64 - 1)
 
 -- just so many
-pub record Takes (count : ℕ) (old new : Steps) : Type 0 where
+pub record TakesSteps (count : ℕ) (old new : Steps) : Type 0 where
   pub taken : new.taken ≡ more_steps count old
   pub at_least : old.taken ≤ new.taken
   pub at_most : new.taken ≤ old.taken + count
@@ -30,7 +30,7 @@ pub record LooksForAll {X F : Type 0} (most : ℕ) (result : Result X F) (old ne
   pub all : OnOk result (more_steps most old ≤ new.taken)
 
 -- one where there is a next docid, and none where there is none and so no answer
-pub record LooksAt (lists : List PlaceList) (answer : Option ℤ) (old new : Steps) : Type 0 where
+pub record LooksForNext (lists : List PlaceList) (answer : Option ℤ) (old new : Steps) : Type 0 where
   pub taken : new.taken ≡ (if is_filled lists then more_steps 1 old else old.taken)
   pub at_least : old.taken ≤ new.taken
   pub at_most : new.taken ≤ old.taken + 1

@@ -137,9 +137,9 @@ abbrev pub offset_at : ℕ → Place → Offset
 offset_at n at = record { column = at.column; term = n; place = at.start; size = at.size }
 
 -- the offsets of marks, term by term, whose terms have the numbers from n on
-abbrev pub numbered : ℕ → List (List Place) → List Offset
-numbered n [] = []
-numbered n (m ∷ ms) = map (offset_at n) m ++ numbered (n + 1) ms
+abbrev pub numbered_offsets : ℕ → List (List Place) → List Offset
+numbered_offsets n [] = []
+numbered_offsets n (m ∷ ms) = map (offset_at n) m ++ numbered_offsets (n + 1) ms
 
 -- the occurrences of each of some phrases
 abbrev pub plain_starts : List Starts → List (List Place)

@@ -4,7 +4,7 @@ ghost use Rattle.std.specs.List.{before_first, after_first, list_any, list_all, 
 ghost use Rattle.std.specs.Char.{is_ascii_digit};
 ghost use Rattle.std.specs.Str.{byte, str_eq_ignore_ascii_case};
 ghost use Rattle.ft_query.specs.Trees.{plain_term};
-ghost use Rattle.ft_query.specs.Lexemes.{filter_on, word, terms_of, follows_caret, is_colon, filter_of, words_after, number_of, is_number, lexemes_of_chunk};
+ghost use Rattle.ft_query.specs.Lexemes.{filter_on, word, terms_of, follows_caret, is_colon, column_filter_of, words_after, digits_number, is_digit_run, lexemes_of_chunk};
 ghost use Rattle.ft_query.specs.Machine.{plain_lexeme, capped};
 
 use crate::limits::MOST_BETWEEN;
@@ -57,7 +57,7 @@ pub fn terms_of(alloc: Global, part: &str) -> Result<Vec<QueryTerm>, AllocError>
 
 // The number that these digits write; one past the limit of NEAR stands as the least such number.
 fn number_of(digits: &[u8]) -> usize
-    ensures { result ≡ min (number_of digits.now) 1000001 }
+    ensures { result ≡ min (digits_number digits.now) 1000001 }
 {
     let mut number = 0usize;
     for digit in digits {
@@ -75,15 +75,15 @@ fn are_digits(bytes: &[u8]) -> bool
 
 #[tactic(auto, using(crate::proofs::Terms::digits_are_number))]
 fn is_number(digits: &[u8]) -> bool
-    ensures { result ≡ is_number digits.now }
+    ensures { result ≡ is_digit_run digits.now }
 {
     !digits.is_empty() && are_digits(digits)
 }
 
 // The number of a chunk that is `NEAR/` and digits.
 fn near_number(chunk: &str) -> Option<usize>
-    ensures { result ≡ (if starts_with nat_eq chunk.now (codes "NEAR/") && is_number
-        (drop 5 chunk.now) then Some (min (number_of (drop 5 chunk.now)) 1000001) else None) }
+    ensures { result ≡ (if starts_with nat_eq chunk.now (codes "NEAR/") && is_digit_run
+        (drop 5 chunk.now) then Some (min (digits_number (drop 5 chunk.now)) 1000001) else None) }
 {
     let digits = chunk.strip_prefix("NEAR/")?.as_bytes();
     if is_number(digits) {
@@ -96,7 +96,8 @@ fn near_number(chunk: &str) -> Option<usize>
 // The operator that a chunk is.
 fn operator_of(chunk: &str) -> Option<Lexeme>
     ensures { MatchOption result ((columns : List (List ℕ))
-        → lexemes_of_chunk columns chunk.now ≡ words_after (filter_of columns chunk.now) chunk.now)
+        → lexemes_of_chunk columns chunk.now
+        ≡ words_after (column_filter_of columns chunk.now) chunk.now)
         (λ l. (columns : List (List ℕ))
         → map capped (lexemes_of_chunk columns chunk.now) ≡ plain_lexeme l ∷ []) }
 {
@@ -138,8 +139,8 @@ fn column_named(columns: &[String], name: &str) -> Option<usize>
 
 // The column of a chunk's filter, and what follows the filter.
 fn filter_of<'a>(columns: &[String], chunk: &'a str) -> Option<(usize, &'a str)>
-    ensures { MatchOption result (filter_of (map string_bytes columns.now) chunk.now ≡ None)
-        (λ f. (filter_of (map string_bytes columns.now) chunk.now ≡ Some f.0)
+    ensures { MatchOption result (column_filter_of (map string_bytes columns.now) chunk.now ≡ None)
+        (λ f. (column_filter_of (map string_bytes columns.now) chunk.now ≡ Some f.0)
         × (f.1.now ≡ after_first is_colon chunk.now)) }
 {
     let (name, rest) = split_colon(chunk)?;

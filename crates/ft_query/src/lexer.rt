@@ -2,15 +2,15 @@
 ghost use Rattle.std.specs.Prelude.{◌≡◌, ◌++◌, ◌==◌, ◌&&◌, not, true, false, map, flat_map, string_bytes, MatchOption, IfOk, OnOk};
 ghost use Rattle.std.specs.List.{list_any};
 ghost use Rattle.ft_query.specs.Lexemes.{parts_of, lexemes_of_part, lexemes_of};
-ghost use Rattle.ft_query.specs.Reads.{is_unclosed};
-ghost use Rattle.ft_query.specs.Machine.{plain_lexeme, capped, mark_of, parts_ended, begun, ends_part};
+ghost use Rattle.ft_query.specs.Reads.{is_unclosed_part};
+ghost use Rattle.ft_query.specs.Machine.{plain_lexeme, capped, byte_mark, parts_ended, begun_part, ends_begun};
 
 use crate::lexeme::{Lexeme, push_chunk, terms_of};
 use std::alloc::{AllocError, Global};
 
 // The byte ends the quoted part or the chunk that is begun.
 fn ends_part(in_quote: bool, byte: u8) -> bool
-    ensures { result ≡ ends_part in_quote (mark_of byte) }
+    ensures { result ≡ ends_begun in_quote (byte_mark byte) }
 {
     if in_quote {
         byte == b'"'
@@ -35,11 +35,11 @@ fn push_part(
     in_quote: bool,
     byte: u8,
 ) -> Result<(), AllocError>
-    requires { ends_part in_quote (mark_of byte) ≡ true }
+    requires { ends_begun in_quote (byte_mark byte) ≡ true }
     ensures { OnOk result (map plain_lexeme found.new.items
         ≡ map plain_lexeme found.old.items ++ map capped
         (flat_map (lexemes_of_part (map string_bytes columns.now))
-        (parts_ended (begun in_quote part.now) (mark_of byte)))) }
+        (parts_ended (begun_part in_quote part.now) (byte_mark byte)))) }
 {
     if in_quote {
         found.push(Lexeme::Quoted(terms_of(alloc, part)?))?;
@@ -61,8 +61,8 @@ pub fn lexemes_of(
     text: &str,
 ) -> Result<Option<Vec<Lexeme>>, AllocError>
     ensures { IfOk result (λ found. MatchOption found
-        (list_any is_unclosed (parts_of text.now) ≡ true)
-        (λ ls. (list_any is_unclosed (parts_of text.now) ≡ false)
+        (list_any is_unclosed_part (parts_of text.now) ≡ true)
+        (λ ls. (list_any is_unclosed_part (parts_of text.now) ≡ false)
         × (map plain_lexeme ls.items ≡ map capped
         (lexemes_of (map string_bytes columns.now) text.now)))) }
 {

@@ -1,7 +1,7 @@
 //! One pass over the lexemes, with a stack of what waits for a right side.
 ghost use Rattle.std.specs.Prelude.{◌≡◌, [], ◌∷◌, ◌++◌, map, option_map, IfOk};
 ghost use Rattle.ft_query.specs.Trees.{plain_phrase, plain_link, tree_of, tree_of_chain, both, either, without};
-ghost use Rattle.ft_query.specs.Pass.{chained, operator, nothing_waits, last_state, join, or_whole, not_state, and_state, or_state, begin, close, after_operand, phrase_of, step, finish, tree_from};
+ghost use Rattle.ft_query.specs.Pass.{chained, operator, nothing_waits, last_state, join, or_whole, not_state, and_state, or_state, begin, close, after_operand, phrase_of, pass_step, finish, tree_from};
 ghost use Rattle.ft_query.specs.Machine.{plain_lexeme, plain_waiting, plain_outer, plain_last, plain_state};
 
 use crate::lexeme::Lexeme;
@@ -86,7 +86,7 @@ fn step(
     lexeme: Lexeme,
 ) -> Result<Option<State>, AllocError>
     ensures { IfOk result (λ next. option_map plain_state next
-        ≡ step default (plain_waiting state.waiting) (plain_outer state.outer.items)
+        ≡ pass_step default (plain_waiting state.waiting) (plain_outer state.outer.items)
         (plain_last state.last) (plain_lexeme lexeme)) }
 {
     let State {

@@ -5,9 +5,9 @@ ghost use Rattle.std.specs.Prelude.{◌≡◌, ◌≤◌, length, map, vec_len, 
 ghost use Rattle.ft_query.specs.Trees.{tree_of};
 ghost use Rattle.ft_query.specs.Work.{terms_in};
 ghost use Rattle.ft_query.specs.Cursors.{lists_kept};
-ghost use Rattle.ft_query.specs.Loaded.{Asks, Loads};
+ghost use Rattle.ft_query.specs.Loaded.{AsksLists, Loads};
 ghost use Rattle.ft_query.specs.Search.{stands_at, FindsNext};
-ghost use Rattle.ft_query.specs.Taken.{Takes};
+ghost use Rattle.ft_query.specs.Taken.{TakesSteps};
 
 use crate::lists::{ListFault, Lists};
 use crate::query::Query;
@@ -32,14 +32,14 @@ pub(crate) struct Standing {
 impl Steps {
     /// One step more.
     pub(crate) fn take(&mut self)
-        ensures { Takes 1 self.old self.new }
+        ensures { TakesSteps 1 self.old self.new }
     {
         self.taken = self.taken.saturating_add(1);
     }
 
     /// So many steps more.
     pub(crate) fn take_all(&mut self, count: usize)
-        ensures { Takes count self.old self.new }
+        ensures { TakesSteps count self.old self.new }
     {
         self.taken = self.taken.saturating_add(count as u64);
     }
@@ -56,7 +56,7 @@ impl Standing {
         ensures loads { IfOk result (λ s.
             Loads L.Lists (terms_in (tree_of query.now)) lists.old lists.new s.cursors) }
         ensures none { IfOk result (λ s. s.taken ≡ 0) }
-        ensures asks { Asks L.Lists lists.old lists.new result }
+        ensures asks { AsksLists L.Lists lists.old lists.new result }
     {
         let cursors = load(alloc, query, lists)?;
         Ok(Standing { cursors, taken: 0 })

@@ -8,14 +8,14 @@ use Rattle.std.proofs.lemmas.Bool.Decides.{Decides-eqb, nat_tests}
 use Rattle.std.proofs.lemmas.List.{drop_more}
 use Rattle.std.proofs.lemmas.List.Concat.{flat_map-append}
 use Rattle.ft_values.specs.declared.rows.Spot.{Spot as StoredSpot}
-use Rattle.ft_rows.specs.Packed.{Spot, CanPack, are_spots, leb128, numbers_after, origin, packed, unpacked, stored_spot, plain_spot, packed_spots, spots_in}
+use Rattle.ft_rows.specs.Packed.{Spot, CanPack, are_spots, leb128, numbers_after, origin, packed, unpacked, stored_spot, packed_spot, packed_spots, spots_in}
 use Rattle.ft_rows.specs.declared.terms.Posting.{Posting}
 use Rattle.ft_rows.specs.Terms.{spot_of}
-use Rattle.ft_rows.specs.Unpacking.{behind, Follows}
+use Rattle.ft_rows.specs.Unpacking.{after_front, Follows}
 use Rattle.ft_rows.proofs.PackedLemmas.{same_some, last_byte, packed_is_read, only_packed_is_read}
 use Rattle.ft_rows.proofs.ReadLemmas.{leb128-low}
 
-plain_again : (ss : List Spot) → map plain_spot (map stored_spot ss) ≡ ss
+plain_again : (ss : List Spot) → map packed_spot (map stored_spot ss) ≡ ss
 plain_again [] = refl
 plain_again (s ∷ ss) = ap (λ xs. s ∷ xs) (plain_again ss)
 
@@ -27,7 +27,7 @@ stands : (bytes : List ℕ) (spots : List StoredSpot) (o : Option (List Spot)) �
 stands bytes spots None is small h = absurd (let no = h in cc)
 stands bytes spots (Some ss) is small h =
     let same : map stored_spot ss ≡ spots = same_some _ _ h in
-    let plain : map plain_spot spots ≡ ss = ap (map plain_spot) (sym same) ∙ plain_again ss in
+    let plain : map packed_spot spots ≡ ss = ap (map packed_spot) (sym same) ∙ plain_again ss in
     let only = only_packed_is_read bytes ss small is in
     record {
       can = record { plain = sym same ∙ ap (map stored_spot) (sym plain); rise = ap are_spots plain ∙ only.0 };
@@ -40,89 +40,89 @@ stand_for bytes spots small h = stands bytes spots (unpacked bytes) refl small h
 
 -- the packed list of places stands for them
 pub packed_stands : (spots : List StoredSpot) → CanPack spots → spots_in (packed_spots spots) ≡ Some spots
-packed_stands spots can = ap (option_map (map stored_spot)) (packed_is_read (map plain_spot spots) can.rise) ∙ ap Some (sym can.plain)
+packed_stands spots can = ap (option_map (map stored_spot)) (packed_is_read (map packed_spot spots) can.rise) ∙ ap Some (sym can.plain)
 
 pub none_can : (bytes : List ℕ) (spots : List StoredSpot) (can : Bool) → ((i : ℕ) → slice_index bytes i < 256) → can ≡ false → (CanPack spots → IsTrue can) → IsTrue false ↔ (spots_in bytes ≡ Some spots)
 none_can bytes spots can small is cannot = (λ h. absurd (true≢false (sym h)), λ h. absurd (true≢false (sym (cannot (stand_for bytes spots small h).can) ∙ is)))
 
 -- ---- what comes after the first bytes
 
-behind-append : (xs ys bs : List ℕ) → behind (xs ++ ys) bs ≡ option_and_then (behind ys) (behind xs bs)
+behind-append : (xs ys bs : List ℕ) → after_front (xs ++ ys) bs ≡ option_and_then (after_front ys) (after_front xs bs)
 behind-append [] ys bs = refl
 behind-append (x ∷ xs) ys [] = refl
-behind-append (x ∷ xs) ys (b ∷ bs) = elim (b == x) as (λ t. cond t (behind (xs ++ ys) bs) None ≡ option_and_then (behind ys) (cond t (behind xs bs) None)) [
+behind-append (x ∷ xs) ys (b ∷ bs) = elim (b == x) as (λ t. cond t (after_front (xs ++ ys) bs) None ≡ option_and_then (after_front ys) (cond t (after_front xs bs) None)) [
   | true ↦ behind-append xs ys bs
   | false ↦ refl
 ]
 
-pub first_none : (xs ys bs : List ℕ) → behind xs bs ≡ None → behind (xs ++ ys) bs ≡ None
-first_none xs ys bs h = behind-append xs ys bs ∙ ap (option_and_then (behind ys)) h
+pub first_none : (xs ys bs : List ℕ) → after_front xs bs ≡ None → after_front (xs ++ ys) bs ≡ None
+first_none xs ys bs h = behind-append xs ys bs ∙ ap (option_and_then (after_front ys)) h
 
-pub first_some : (xs ys bs cs : List ℕ) → behind xs bs ≡ Some cs → behind (xs ++ ys) bs ≡ behind ys cs
-first_some xs ys bs cs h = behind-append xs ys bs ∙ ap (option_and_then (behind ys)) h
+pub first_some : (xs ys bs cs : List ℕ) → after_front xs bs ≡ Some cs → after_front (xs ++ ys) bs ≡ after_front ys cs
+first_some xs ys bs cs h = behind-append xs ys bs ∙ ap (option_and_then (after_front ys)) h
 
 itself : (b : ℕ) → (b == b) ≡ true
 itself b = (Decides-eqb b b).1 refl
 
-all_behind : (xs : List ℕ) → behind xs xs ≡ Some []
+all_behind : (xs : List ℕ) → after_front xs xs ≡ Some []
 all_behind [] = refl
-all_behind (x ∷ xs) = ap (λ t. cond t (behind xs xs) None) (itself x) ∙ all_behind xs
+all_behind (x ∷ xs) = ap (λ t. cond t (after_front xs xs) None) (itself x) ∙ all_behind xs
 
-none_behind : (xs bs : List ℕ) → behind xs bs ≡ Some [] → xs ≡ bs
+none_behind : (xs bs : List ℕ) → after_front xs bs ≡ Some [] → xs ≡ bs
 none_behind [] [] h = refl
 none_behind [] (b ∷ bs) h = absurd (let no = h in cc)
 none_behind (x ∷ xs) [] h = absurd (let no = h in cc)
 none_behind (x ∷ xs) (b ∷ bs) h = go (b == x) refl h (none_behind xs bs)
   where
-    go : (t : Bool) → (b == x) ≡ t → cond t (behind xs bs) None ≡ Some [] → (behind xs bs ≡ Some [] → xs ≡ bs) → x ∷ xs ≡ b ∷ bs
+    go : (t : Bool) → (b == x) ≡ t → cond t (after_front xs bs) None ≡ Some [] → (after_front xs bs ≡ Some [] → xs ≡ bs) → x ∷ xs ≡ b ∷ bs
     go true e h more = (let same = (Decides-eqb b x).0 e in let rest = more h in λ i. sym same i ∷ rest i)
     go false e h more = absurd (let none = h in cc)
 
-pub by_same : (o : Option (Bor (List ℕ))) (bs cs xs ys : List ℕ) → behind xs bs ≡ behind ys cs → Follows o bs xs → Follows o cs ys
+pub by_same : (o : Option (Bor (List ℕ))) (bs cs xs ys : List ℕ) → after_front xs bs ≡ after_front ys cs → Follows o bs xs → Follows o cs ys
 by_same None bs cs xs ys e h = sym e ∙ h
 by_same (Some rest) bs cs xs ys e h = sym e ∙ h
 
 -- the low seven bits of a number from 128 on, or a smaller number
-pub low_behind : (n : ℕ) (bs cs : List ℕ) → 128 ≤ n → n < 2 ^ 64 → behind ((n % 128 + 128) ∷ []) bs ≡ Some cs → behind (leb128 n) bs ≡ behind (leb128 (n / 128)) cs
-low_behind n bs cs low small h = ap (λ xs. behind xs bs) (leb128-low n low small) ∙ first_some ((n % 128 + 128) ∷ []) (leb128 (n / 128)) bs cs h
+pub low_behind : (n : ℕ) (bs cs : List ℕ) → 128 ≤ n → n < 2 ^ 64 → after_front ((n % 128 + 128) ∷ []) bs ≡ Some cs → after_front (leb128 n) bs ≡ after_front (leb128 (n / 128)) cs
+low_behind n bs cs low small h = ap (λ xs. after_front xs bs) (leb128-low n low small) ∙ first_some ((n % 128 + 128) ∷ []) (leb128 (n / 128)) bs cs h
 
-pub low_none : (n : ℕ) (bs : List ℕ) → 128 ≤ n → n < 2 ^ 64 → behind ((n % 128 + 128) ∷ []) bs ≡ None → behind (leb128 n) bs ≡ None
-low_none n bs low small h = ap (λ xs. behind xs bs) (leb128-low n low small) ∙ first_none ((n % 128 + 128) ∷ []) (leb128 (n / 128)) bs h
+pub low_none : (n : ℕ) (bs : List ℕ) → 128 ≤ n → n < 2 ^ 64 → after_front ((n % 128 + 128) ∷ []) bs ≡ None → after_front (leb128 n) bs ≡ None
+low_none n bs low small h = ap (λ xs. after_front xs bs) (leb128-low n low small) ∙ first_none ((n % 128 + 128) ∷ []) (leb128 (n / 128)) bs h
 
-pub last_behind : (n : ℕ) (bs : List ℕ) → n < 128 → behind (n ∷ []) bs ≡ behind (leb128 n) bs
-last_behind n bs small = ap (λ xs. behind xs bs) (sym (last_byte n (grind (arith, nat_tests))))
+pub last_behind : (n : ℕ) (bs : List ℕ) → n < 128 → after_front (n ∷ []) bs ≡ after_front (leb128 n) bs
+last_behind n bs small = ap (λ xs. after_front xs bs) (sym (last_byte n (grind (arith, nat_tests))))
 
 -- ---- places one after another
 
 abbrev pub bytes_after : Spot → List StoredSpot → List ℕ
-bytes_after last spots = flat_map leb128 (numbers_after last (map plain_spot spots))
+bytes_after last spots = flat_map leb128 (numbers_after last (map packed_spot spots))
 
-one_spot : (last : Spot) (s : StoredSpot) (ss : List StoredSpot) → bytes_after last (s ∷ ss) ≡ bytes_after last (s ∷ []) ++ bytes_after (plain_spot s) ss
-one_spot last s ss = flat_map-append leb128 (numbers_after last (plain_spot s ∷ [])) (numbers_after (plain_spot s) (map plain_spot ss))
+one_spot : (last : Spot) (s : StoredSpot) (ss : List StoredSpot) → bytes_after last (s ∷ ss) ≡ bytes_after last (s ∷ []) ++ bytes_after (packed_spot s) ss
+one_spot last s ss = flat_map-append leb128 (numbers_after last (packed_spot s ∷ [])) (numbers_after (packed_spot s) (map packed_spot ss))
 
-pub spot_none : (last : Spot) (s : StoredSpot) (ss : List StoredSpot) (bs : List ℕ) → behind (bytes_after last (s ∷ [])) bs ≡ None → behind (bytes_after last (s ∷ ss)) bs ≡ None
-spot_none last s ss bs h = ap (λ xs. behind xs bs) (one_spot last s ss) ∙ first_none (bytes_after last (s ∷ [])) (bytes_after (plain_spot s) ss) bs h
+pub spot_none : (last : Spot) (s : StoredSpot) (ss : List StoredSpot) (bs : List ℕ) → after_front (bytes_after last (s ∷ [])) bs ≡ None → after_front (bytes_after last (s ∷ ss)) bs ≡ None
+spot_none last s ss bs h = ap (λ xs. after_front xs bs) (one_spot last s ss) ∙ first_none (bytes_after last (s ∷ [])) (bytes_after (packed_spot s) ss) bs h
 
-pub spot_some : (last : Spot) (s : StoredSpot) (ss : List StoredSpot) (bs cs : List ℕ) → behind (bytes_after last (s ∷ [])) bs ≡ Some cs → behind (bytes_after last (s ∷ ss)) bs ≡ behind (bytes_after (plain_spot s) ss) cs
-spot_some last s ss bs cs h = ap (λ xs. behind xs bs) (one_spot last s ss) ∙ first_some (bytes_after last (s ∷ [])) (bytes_after (plain_spot s) ss) bs cs h
+pub spot_some : (last : Spot) (s : StoredSpot) (ss : List StoredSpot) (bs cs : List ℕ) → after_front (bytes_after last (s ∷ [])) bs ≡ Some cs → after_front (bytes_after last (s ∷ ss)) bs ≡ after_front (bytes_after (packed_spot s) ss) cs
+spot_some last s ss bs cs h = ap (λ xs. after_front xs bs) (one_spot last s ss) ∙ first_some (bytes_after last (s ∷ [])) (bytes_after (packed_spot s) ss) bs cs h
 
-pub begins : (spots : List StoredSpot) (bs : List ℕ) → behind (packed_spots spots) bs ≡ behind (bytes_after origin spots) bs
+pub begins : (spots : List StoredSpot) (bs : List ℕ) → after_front (packed_spots spots) bs ≡ after_front (bytes_after origin spots) bs
 unfolding packed
 begins spots bs = refl
 
 -- ---- the answer
 
-pub not_behind : (bytes : List ℕ) (spots : List StoredSpot) → ((i : ℕ) → slice_index bytes i < 256) → behind (packed_spots spots) bytes ≡ None → IsTrue false ↔ (spots_in bytes ≡ Some spots)
+pub not_behind : (bytes : List ℕ) (spots : List StoredSpot) → ((i : ℕ) → slice_index bytes i < 256) → after_front (packed_spots spots) bytes ≡ None → IsTrue false ↔ (spots_in bytes ≡ Some spots)
 not_behind bytes spots small none = (
   λ h. absurd (true≢false (sym h)),
-  λ h. absurd (let here : behind (packed_spots spots) bytes ≡ Some [] = ap (behind (packed_spots spots)) (sym (stand_for bytes spots small h).packed) ∙ all_behind (packed_spots spots) in
+  λ h. absurd (let here : after_front (packed_spots spots) bytes ≡ Some [] = ap (after_front (packed_spots spots)) (sym (stand_for bytes spots small h).packed) ∙ all_behind (packed_spots spots) in
       let no = sym none ∙ here in cc),
 )
 
-pub answer : (bytes left : List ℕ) (spots : List StoredSpot) (b : Bool) → ((i : ℕ) → slice_index bytes i < 256) → behind (packed_spots spots) bytes ≡ Some left → (IsTrue b → (left ≡ []) × CanPack spots) → (left ≡ [] → CanPack spots → IsTrue b) → IsTrue b ↔ (spots_in bytes ≡ Some spots)
+pub answer : (bytes left : List ℕ) (spots : List StoredSpot) (b : Bool) → ((i : ℕ) → slice_index bytes i < 256) → after_front (packed_spots spots) bytes ≡ Some left → (IsTrue b → (left ≡ []) × CanPack spots) → (left ≡ [] → CanPack spots → IsTrue b) → IsTrue b ↔ (spots_in bytes ≡ Some spots)
 answer bytes left spots b small is gives back = (
   λ h. let both = gives h in ap spots_in (sym (none_behind (packed_spots spots) bytes (is ∙ ap Some both.0))) ∙ packed_stands spots both.1,
-  λ h. let stand = stand_for bytes spots small h in back (same_some left [] (sym is ∙ ap (behind (packed_spots spots)) (sym stand.packed) ∙ all_behind (packed_spots spots))) stand.can,
+  λ h. let stand = stand_for bytes spots small h in back (same_some left [] (sym is ∙ ap (after_front (packed_spots spots)) (sym stand.packed) ∙ all_behind (packed_spots spots))) stand.can,
 )
 
 -- ---- the places of postings

@@ -1,5 +1,5 @@
 -- Postings one after another, as lists.
-use Rattle.std.proofs.Common.{◌≡◌, ℕ, ℤ, ◌+◌, Bool, true, false, cond, Some, List, [], ◌∷◌, ◌++◌, map, refl, sym, ap, subst, ◌∙◌, suc, arith, take, drop}
+use Rattle.std.proofs.Common.{◌≡◌, ℕ, ℤ, ◌+◌, Bool, true, false, cond, Some, List, [], ◌∷◌, map, refl, sym, ap, subst, ◌∙◌, suc, arith, take, drop}
 use Rattle.std.specs.Prelude.{slice_get}
 use Rattle.std.specs.List.{prefix_len}
 use Rattle.std.specs.Ordering.{int_eq}
@@ -7,7 +7,7 @@ use Rattle.std.proofs.lemmas.Bool.Decides.{Decides-int_eq}
 use Rattle.std.proofs.lemmas.List.Sums.{prefix_len-le-length}
 use Rattle.ft_values.specs.declared.rows.Spot.{Spot}
 use Rattle.ft_rows.specs.declared.terms.Posting.{Posting}
-use Rattle.ft_rows.specs.Terms.{spot_of, joined, lists_of_postings, AreFirstList}
+use Rattle.ft_rows.specs.Terms.{spot_of, joined_posting, lists_of_postings, AreFirstList}
 
 pub itself : (n : ℤ) → int_eq n n ≡ true
 itself n = (Decides-int_eq n n).1 refl
@@ -31,29 +31,29 @@ abbrev pub run_with : Posting → List Posting → ℕ
 run_with first ps = prefix_len (λ p. int_eq p.docid first.docid) ps
 
 -- the list before others of another document
-apart : (p q : Posting) (ls : List (ℤ × List Spot)) → int_eq p.docid q.docid ≡ false → joined p (joined q ls) ≡ (p.docid, p.spot ∷ []) ∷ joined q ls
+apart : (p q : Posting) (ls : List (ℤ × List Spot)) → int_eq p.docid q.docid ≡ false → joined_posting p (joined_posting q ls) ≡ (p.docid, p.spot ∷ []) ∷ joined_posting q ls
 apart p q [] h = ap (λ b. cond b ((p.docid, p.spot ∷ q.spot ∷ []) ∷ []) ((p.docid, p.spot ∷ []) ∷ (q.docid, q.spot ∷ []) ∷ [])) h
 apart p q (l ∷ ls) h = elim (int_eq q.docid l.0) as (λ b.
-    joined p (cond b ((q.docid, q.spot ∷ l.1) ∷ ls) ((q.docid, q.spot ∷ []) ∷ l ∷ ls))
+    joined_posting p (cond b ((q.docid, q.spot ∷ l.1) ∷ ls) ((q.docid, q.spot ∷ []) ∷ l ∷ ls))
     ≡ (p.docid, p.spot ∷ []) ∷ cond b ((q.docid, q.spot ∷ l.1) ∷ ls) ((q.docid, q.spot ∷ []) ∷ l ∷ ls)) [
       | true ↦ ap (λ b. cond b ((p.docid, p.spot ∷ q.spot ∷ l.1) ∷ ls) ((p.docid, p.spot ∷ []) ∷ (q.docid, q.spot ∷ l.1) ∷ ls)) h
       | false ↦ ap (λ b. cond b ((p.docid, p.spot ∷ q.spot ∷ []) ∷ l ∷ ls) ((p.docid, p.spot ∷ []) ∷ (q.docid, q.spot ∷ []) ∷ l ∷ ls)) h
     ]
 
 -- a posting before one of its document, or of another
-step : (p q : Posting) (qs : List Posting) (b : Bool) → int_eq q.docid p.docid ≡ b → joined q (lists_of_postings qs) ≡ (q.docid, q.spot ∷ map spot_of (take (run_with q qs) qs)) ∷ lists_of_postings (drop (run_with q qs) qs) →
-    joined p (lists_of_postings (q ∷ qs)) ≡ (p.docid, p.spot ∷ map spot_of (take (cond b (1 + run_with p qs) 0) (q ∷ qs))) ∷ lists_of_postings (drop (cond b (1 + run_with p qs) 0) (q ∷ qs))
+step : (p q : Posting) (qs : List Posting) (b : Bool) → int_eq q.docid p.docid ≡ b → joined_posting q (lists_of_postings qs) ≡ (q.docid, q.spot ∷ map spot_of (take (run_with q qs) qs)) ∷ lists_of_postings (drop (run_with q qs) qs) →
+    joined_posting p (lists_of_postings (q ∷ qs)) ≡ (p.docid, p.spot ∷ map spot_of (take (cond b (1 + run_with p qs) 0) (q ∷ qs))) ∷ lists_of_postings (drop (cond b (1 + run_with p qs) 0) (q ∷ qs))
 step p q qs true e rest =
     let same = docids_same q.docid p.docid e in
     let more : suc (run_with p qs) ≡ 1 + run_with p qs = omega arith in
-    ap (joined p) (rest ∙ ap (λ d. (d, q.spot ∷ map spot_of (take (prefix_len (λ (r : Posting). int_eq r.docid d) qs) qs)) ∷ lists_of_postings (drop (prefix_len (λ (r : Posting). int_eq r.docid d) qs) qs)) same)
+    ap (joined_posting p) (rest ∙ ap (λ d. (d, q.spot ∷ map spot_of (take (prefix_len (λ (r : Posting). int_eq r.docid d) qs) qs)) ∷ lists_of_postings (drop (prefix_len (λ (r : Posting). int_eq r.docid d) qs) qs)) same)
     ∙ ap (λ b. cond b ((p.docid, p.spot ∷ q.spot ∷ map spot_of (take (run_with p qs) qs)) ∷ lists_of_postings (drop (run_with p qs) qs)) ((p.docid, p.spot ∷ []) ∷ (p.docid, q.spot ∷ map spot_of (take (run_with p qs) qs)) ∷ lists_of_postings (drop (run_with p qs) qs)))
     (itself p.docid)
     ∙ ap (λ n. (p.docid, p.spot ∷ map spot_of (take n (q ∷ qs))) ∷ lists_of_postings (drop n (q ∷ qs))) more
 step p q qs false e rest = apart p q (lists_of_postings qs) (turned_round p.docid q.docid ∙ e)
 
 -- a posting before those of its document, and the rest
-runs : (p : Posting) (ps : List Posting) → joined p (lists_of_postings ps) ≡ (p.docid, p.spot ∷ map spot_of (take (run_with p ps) ps)) ∷ lists_of_postings (drop (run_with p ps) ps)
+runs : (p : Posting) (ps : List Posting) → joined_posting p (lists_of_postings ps) ≡ (p.docid, p.spot ∷ map spot_of (take (run_with p ps) ps)) ∷ lists_of_postings (drop (run_with p ps) ps)
 runs p [] = refl
 runs p (q ∷ qs) = step p q qs (int_eq q.docid p.docid) refl (runs q qs)
 
@@ -69,55 +69,3 @@ first_run [] p n is count = absurd (let no = is in cc)
 first_run (q ∷ qs) p n is count =
     let same : q ≡ p = (let e = is in cc) in
     subst (AreFirstList (q ∷ qs)) (ap (λ (r : Posting). run_with r (q ∷ qs)) same ∙ sym count) (are_first q qs (int_eq q.docid q.docid) refl)
-
--- ---- one posting more
-
--- a posting after lists: it joins the last, if that is of its document
-abbrev pub with_posting : Posting → List (ℤ × List Spot) → List (ℤ × List Spot)
-with_posting q [] = (q.docid, q.spot ∷ []) ∷ []
-with_posting q (l ∷ []) = cond (int_eq q.docid l.0) ((l.0, l.1 ++ q.spot ∷ []) ∷ []) (l ∷ (q.docid, q.spot ∷ []) ∷ [])
-with_posting q (l ∷ m ∷ ls) = l ∷ with_posting q (m ∷ ls)
-
-joined_behind : (p q : Posting) (ls : List (ℤ × List Spot)) → joined p (with_posting q ls) ≡ with_posting q (joined p ls)
-joined_behind p q [] =
-    let one : List (ℤ × List Spot) = (p.docid, p.spot ∷ q.spot ∷ []) ∷ [] in
-    let two : List (ℤ × List Spot) = (p.docid, p.spot ∷ []) ∷ (q.docid, q.spot ∷ []) ∷ [] in
-    ap (λ b. cond b one two) (turned_round p.docid q.docid)
-joined_behind p q (l ∷ []) = go (int_eq q.docid l.0) (int_eq p.docid l.0) (int_eq q.docid p.docid) refl refl refl
-  where
-    more : List (ℤ × List Spot)
-    more = (l.0, l.1 ++ q.spot ∷ []) ∷ []
-
-    apart_from : List (ℤ × List Spot)
-    apart_from = l ∷ (q.docid, q.spot ∷ []) ∷ []
-
-    front : List (ℤ × List Spot)
-    front = (p.docid, p.spot ∷ l.1) ∷ []
-
-    before : List (ℤ × List Spot)
-    before = (p.docid, p.spot ∷ []) ∷ l ∷ []
-
-    go : (b c d : Bool) → int_eq q.docid l.0 ≡ b → int_eq p.docid l.0 ≡ c → int_eq q.docid p.docid ≡ d → joined p (cond b more apart_from) ≡ with_posting q (cond c front before)
-    go true true d h j k =
-        let own : int_eq q.docid p.docid ≡ true = ap (int_eq q.docid) (docids_same p.docid l.0 j) ∙ h in
-        ap (λ b. cond b ((p.docid, p.spot ∷ (l.1 ++ q.spot ∷ [])) ∷ []) ((p.docid, p.spot ∷ []) ∷ (l.0, l.1 ++ q.spot ∷ []) ∷ [])) j
-        ∙ ap (λ b. cond b ((p.docid, p.spot ∷ (l.1 ++ q.spot ∷ [])) ∷ []) ((p.docid, p.spot ∷ l.1) ∷ (q.docid, q.spot ∷ []) ∷ [])) (sym own)
-    go true false d h j k =
-        ap (λ b. cond b ((p.docid, p.spot ∷ (l.1 ++ q.spot ∷ [])) ∷ []) ((p.docid, p.spot ∷ []) ∷ (l.0, l.1 ++ q.spot ∷ []) ∷ [])) j
-        ∙ ap (λ b. (p.docid, p.spot ∷ []) ∷ cond b ((l.0, l.1 ++ q.spot ∷ []) ∷ []) (l ∷ (q.docid, q.spot ∷ []) ∷ [])) (sym h)
-    go false true d h j k =
-        let other : int_eq q.docid p.docid ≡ false = ap (int_eq q.docid) (docids_same p.docid l.0 j) ∙ h in
-        ap (λ b. cond b ((p.docid, p.spot ∷ l.1) ∷ (q.docid, q.spot ∷ []) ∷ []) ((p.docid, p.spot ∷ []) ∷ l ∷ (q.docid, q.spot ∷ []) ∷ [])) j
-        ∙ ap (λ b. cond b ((p.docid, p.spot ∷ (l.1 ++ q.spot ∷ [])) ∷ []) ((p.docid, p.spot ∷ l.1) ∷ (q.docid, q.spot ∷ []) ∷ [])) (sym other)
-    go false false d h j k =
-        ap (λ b. cond b ((p.docid, p.spot ∷ l.1) ∷ (q.docid, q.spot ∷ []) ∷ []) ((p.docid, p.spot ∷ []) ∷ l ∷ (q.docid, q.spot ∷ []) ∷ [])) j
-        ∙ ap (λ b. (p.docid, p.spot ∷ []) ∷ cond b ((l.0, l.1 ++ q.spot ∷ []) ∷ []) (l ∷ (q.docid, q.spot ∷ []) ∷ [])) (sym h)
-joined_behind p q (l ∷ m ∷ ls) = go (int_eq p.docid l.0)
-  where
-    go : (b : Bool) → cond b ((p.docid, p.spot ∷ l.1) ∷ with_posting q (m ∷ ls)) ((p.docid, p.spot ∷ []) ∷ l ∷ with_posting q (m ∷ ls)) ≡ with_posting q (cond b ((p.docid, p.spot ∷ l.1) ∷ m ∷ ls) ((p.docid, p.spot ∷ []) ∷ l ∷ m ∷ ls))
-    go true = refl
-    go false = refl
-
-pub one_posting_more : (ps : List Posting) (q : Posting) → lists_of_postings (ps ++ q ∷ []) ≡ with_posting q (lists_of_postings ps)
-one_posting_more [] q = refl
-one_posting_more (p ∷ ps) q = ap (joined p) (one_posting_more ps q) ∙ joined_behind p q (lists_of_postings ps)

@@ -6,7 +6,7 @@ use Rattle.std.proofs.lemmas.List.{map-append}
 use Rattle.std.proofs.lemmas.Option.{option_and_then_some, cond_some}
 use Rattle.std.proofs.lemmas.Bool.{eqb-true, eqb-false, and_parts}
 use Rattle.std.proofs.lemmas.Bool.Decides.{nat_tests}
-use Rattle.ft_rows.specs.Packed.{Spot, leb128_within, leb128, going_on, numbers_in, is_spot, is_after, origin, spots_after, rise_after, are_spots, unpacked, plain_spot, stored_spot, spots_in}
+use Rattle.ft_rows.specs.Packed.{Spot, leb128_within, leb128, going_on, numbers_in, is_spot, is_after, origin, spots_after, rise_after, are_spots, unpacked, packed_spot, stored_spot, spots_in}
 use Rattle.ft_values.specs.declared.rows.Spot.{Spot as StoredSpot}
 use Rattle.ft_rows.specs.Unpacking.{spot_from, passes, checked, read_after, BeginsWith, BeginsWithSpot, HasNoNumber}
 use Rattle.ft_rows.proofs.PackedLemmas.{reach, more_fuel, last_byte, is_spot-fits, same_some}
@@ -177,7 +177,7 @@ no_place {c} {p} {l} {z} {bytes} {rest} first last h is = first_spot first last 
 pub a_place : {c p l z : ℕ} {bytes left rest : List ℕ} → (first : Bool) (last : Spot) (spot : StoredSpot) → Begins bytes (c ∷ p ∷ l ∷ []) left → BeginsWith left z rest
     → (passes first last (spot_from last c p l z) ≡ true) × (spot ≡ stored_spot (spot_from last c p l z)) → BeginsWithSpot first last bytes spot rest
 a_place {c} {p} {l} {z} {bytes} {left} {rest} first last spot h k found =
-    let same : plain_spot spot ≡ spot_from last c p l z = ap plain_spot found.1 in
+    let same : packed_spot spot ≡ spot_from last c p l z = ap packed_spot found.1 in
     record {
       places = first_spot first last c p l z bytes rest true (one_more h k) found.0 ∙ (λ i. option_and_then (λ ss. Some (sym same i ∷ ss)) (read_after false (sym same i) rest));
       stored = found.1 ∙ ap stored_spot (sym same);
@@ -240,13 +240,13 @@ joined xs ys s (Some ss) e = ap Some (sym (append_assoc xs (s ∷ []) ss) ∙ ap
 
 -- one place more
 pub one_passed : (first : Bool) (last : Spot) (bytes rest : List ℕ) (xs : List StoredSpot) (spot : StoredSpot) (all : Option (List Spot)) → BeginsWithSpot first last bytes spot rest
-    → all ≡ option_and_then (λ ss. Some (map plain_spot xs ++ ss)) (read_after first last bytes) → all ≡ option_and_then (λ ss. Some (map plain_spot (xs ++ spot ∷ []) ++ ss)) (read_after false (plain_spot spot) rest)
+    → all ≡ option_and_then (λ ss. Some (map packed_spot xs ++ ss)) (read_after first last bytes) → all ≡ option_and_then (λ ss. Some (map packed_spot (xs ++ spot ∷ []) ++ ss)) (read_after false (packed_spot spot) rest)
 one_passed first last bytes rest xs spot all begins h =
-    h ∙ ap (option_and_then (λ ss. Some (map plain_spot xs ++ ss))) begins.places
-    ∙ joined (map plain_spot xs) (map plain_spot (xs ++ spot ∷ [])) (plain_spot spot) (read_after false (plain_spot spot) rest) (map-append plain_spot xs (spot ∷ []))
+    h ∙ ap (option_and_then (λ ss. Some (map packed_spot xs ++ ss))) begins.places
+    ∙ joined (map packed_spot xs) (map packed_spot (xs ++ spot ∷ [])) (packed_spot spot) (read_after false (packed_spot spot) rest) (map-append packed_spot xs (spot ∷ []))
 
-pub stored_more : (xs : List StoredSpot) (spot : StoredSpot) → spot ≡ stored_spot (plain_spot spot) → xs ≡ map stored_spot (map plain_spot xs) → xs ++ spot ∷ [] ≡ map stored_spot (map plain_spot (xs ++ spot ∷ []))
-stored_more xs spot is h = (λ i. h i ++ is i ∷ []) ∙ sym (map-append stored_spot (map plain_spot xs) (plain_spot spot ∷ [])) ∙ ap (map stored_spot) (sym (map-append plain_spot xs (spot ∷ [])))
+pub stored_more : (xs : List StoredSpot) (spot : StoredSpot) → spot ≡ stored_spot (packed_spot spot) → xs ≡ map stored_spot (map packed_spot xs) → xs ++ spot ∷ [] ≡ map stored_spot (map packed_spot (xs ++ spot ∷ []))
+stored_more xs spot is h = (λ i. h i ++ is i ∷ []) ∙ sym (map-append stored_spot (map packed_spot xs) (packed_spot spot ∷ [])) ∙ ap (map stored_spot) (sym (map-append packed_spot xs (spot ∷ [])))
 
 pub unpacked-no_length : (bytes : List ℕ) → (length bytes == 0) ≡ true → unpacked bytes ≡ None
 unpacked-no_length [] h = unpacked-empty [] refl

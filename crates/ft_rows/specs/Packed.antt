@@ -77,8 +77,8 @@ abbrev pub natural : ℤ → ℕ
 natural (pos n) = n
 natural (negsuc n) = 0
 
-abbrev pub plain_spot : StoredSpot → Spot
-plain_spot s = record { column = natural s.column; pos = natural s.pos; place = natural s.place; size = natural s.size }
+abbrev pub packed_spot : StoredSpot → Spot
+packed_spot s = record { column = natural s.column; pos = natural s.pos; place = natural s.place; size = natural s.size }
 
 -- no number of the place is negative
 abbrev pub is_nonnegative : ℤ → Bool
@@ -90,12 +90,12 @@ is_natural s = is_nonnegative s.column && is_nonnegative s.pos && is_nonnegative
 
 -- Places that a posting may have: those of a list that may be packed, so no number is negative.
 pub record CanPack (spots : List StoredSpot) : Type 0 where
-  pub plain : spots ≡ map stored_spot (map plain_spot spots)
-  pub rise : IsTrue (are_spots (map plain_spot spots))
+  pub plain : spots ≡ map stored_spot (map packed_spot spots)
+  pub rise : IsTrue (are_spots (map packed_spot spots))
 
 -- what stands for places, and the places that bytes stand for, None for damaged bytes
 abbrev pub packed_spots : List StoredSpot → List ℕ
-packed_spots spots = packed (map plain_spot spots)
+packed_spots spots = packed (map packed_spot spots)
 
 abbrev pub spots_in : List ℕ → Option (List StoredSpot)
 spots_in bytes = option_map (map stored_spot) (unpacked bytes)

@@ -39,8 +39,8 @@ abbrev pub bare_list : ListKey × List Spot → ℤ × List Spot
 bare_list l = (l.0.2, l.1)
 
 -- the lists under the keys of a table and a term
-abbrev pub lists_of_term : ℤ → List ℕ → StoreValue → List (ListKey × List Spot)
-lists_of_term tab term store = where_key list_key_cmp (λ k. int_eq tab k.0 && is_eq (name_cmp term k.1)) store.lists
+abbrev pub lists_under_term : ℤ → List ℕ → StoreValue → List (ListKey × List Spot)
+lists_under_term tab term store = where_key list_key_cmp (λ k. int_eq tab k.0 && is_eq (name_cmp term k.1)) store.lists
 
 -- the lists under the keys of a table and the terms that begin so
 abbrev pub lists_of_prefix : ℤ → List ℕ → StoreValue → List (ListKey × List Spot)
@@ -51,21 +51,21 @@ abbrev pub spot_count : List (ℤ × List Spot) → ℕ
 spot_count lists = sum_by (λ l. length l.1) lists
 
 -- an entry: a term, a docid and a place
-abbrev pub Entry : Type 0
-Entry = List ℕ × ℤ × Spot
+abbrev pub StoredEntry : Type 0
+StoredEntry = List ℕ × ℤ × Spot
 
-abbrev pub shown_entry : EntryRow → Entry
+abbrev pub shown_entry : EntryRow → StoredEntry
 shown_entry e = (string_bytes e.term, e.docid, e.spot)
 
 -- one entry for each place of a list of this term, in its order
-abbrev pub entries_with : List ℕ → ℤ × List Spot → List Entry
+abbrev pub entries_with : List ℕ → ℤ × List Spot → List StoredEntry
 entries_with term l = map (λ s. (term, l.0, s)) l.1
 
-abbrev pub list_entries : ListKey × List Spot → List Entry
-list_entries l = entries_with l.0.1 (bare_list l)
+abbrev pub entries_of_list : ListKey × List Spot → List StoredEntry
+entries_of_list l = entries_with l.0.1 (bare_list l)
 
-abbrev pub entries_of : List (ListKey × List Spot) → List Entry
-entries_of = flat_map list_entries
+abbrev pub entries_of : List (ListKey × List Spot) → List StoredEntry
+entries_of = flat_map entries_of_list
 
 -- no list is damaged
 abbrev pub AreWhole : {K : Type 0} → List (K × List Spot) → Type 0
@@ -75,8 +75,8 @@ abbrev pub SomeDamaged : {K : Type 0} → List (K × List Spot) → Type 0
 SomeDamaged lists = ¬ AreWhole lists
 
 -- rows of these lists, of which none is damaged
-abbrev pub AreRead : List (ListKey × List Spot) → List ListRow → Type 0
-AreRead lists rows = (map shown_list rows ≡ map bare_list lists) × AreWhole lists
+abbrev pub AreListRows : List (ListKey × List Spot) → List ListRow → Type 0
+AreListRows lists rows = (map shown_list rows ≡ map bare_list lists) × AreWhole lists
 
 -- A table as it is listed: its number and its name, its columns by their rising numbers, and the
 -- numbers of those that aren't indexed.

@@ -11,14 +11,14 @@ abbrev pub spot_of : Posting → Spot
 spot_of p = p.spot
 
 -- a posting before lists: it joins the first, if that is of its document
-abbrev pub joined : Posting → List (ℤ × List Spot) → List (ℤ × List Spot)
-joined p [] = (p.docid, p.spot ∷ []) ∷ []
-joined p (l ∷ ls) = if int_eq p.docid l.0 then (p.docid, p.spot ∷ l.1) ∷ ls else (p.docid, p.spot ∷ []) ∷ l ∷ ls
+abbrev pub joined_posting : Posting → List (ℤ × List Spot) → List (ℤ × List Spot)
+joined_posting p [] = (p.docid, p.spot ∷ []) ∷ []
+joined_posting p (l ∷ ls) = if int_eq p.docid l.0 then (p.docid, p.spot ∷ l.1) ∷ ls else (p.docid, p.spot ∷ []) ∷ l ∷ ls
 
 -- postings of one document that stand beside each other are a list
 abbrev pub lists_of_postings : List Posting → List (ℤ × List Spot)
 lists_of_postings [] = []
-lists_of_postings (p ∷ ps) = joined p (lists_of_postings ps)
+lists_of_postings (p ∷ ps) = joined_posting p (lists_of_postings ps)
 
 -- so many postings are the first list
 abbrev pub AreFirstList : List Posting → ℕ → Type 0

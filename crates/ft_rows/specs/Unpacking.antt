@@ -3,7 +3,7 @@ use Rattle.std.specs.Prelude.{◌≡◌, ℕ, suc, MatchOption, ◌+◌, ◌<◌
 use Rattle.std.specs.Borrow.{Bor}
 use Rattle.std.specs.Option.{option_and_then}
 use Rattle.ft_values.specs.declared.rows.Spot.{Spot as StoredSpot}
-use Rattle.ft_rows.specs.Packed.{Spot, numbers_in, is_spot, is_after, plain_spot, stored_spot}
+use Rattle.ft_rows.specs.Packed.{Spot, numbers_in, is_spot, is_after, packed_spot, stored_spot}
 
 abbrev pub spot_from : Spot → ℕ → ℕ → ℕ → ℕ → Spot
 spot_from last c p l z = record {
@@ -45,16 +45,16 @@ HasNoUpper bytes = (n : ℕ) (ns : List ℕ) → numbers_in bytes ≡ Some (suc 
 
 -- the places of bytes are one that a posting may have and those of the rest
 pub record BeginsWithSpot (first : Bool) (last : Spot) (bytes : List ℕ) (spot : StoredSpot) (rest : List ℕ) : Type 0 where
-  pub places : read_after first last bytes ≡ option_and_then (λ ss. Some (plain_spot spot ∷ ss)) (read_after false (plain_spot spot) rest)
-  pub stored : spot ≡ stored_spot (plain_spot spot)
+  pub places : read_after first last bytes ≡ option_and_then (λ ss. Some (packed_spot spot ∷ ss)) (read_after false (packed_spot spot) rest)
+  pub stored : spot ≡ stored_spot (packed_spot spot)
   pub shorter : length rest < length bytes
 
 -- what comes after the first bytes, None where others are first
-abbrev pub behind : List ℕ → List ℕ → Option (List ℕ)
-behind [] bs = Some bs
-behind (x ∷ xs) [] = None
-behind (x ∷ xs) (b ∷ bs) = if b == x then behind xs bs else None
+abbrev pub after_front : List ℕ → List ℕ → Option (List ℕ)
+after_front [] bs = Some bs
+after_front (x ∷ xs) [] = None
+after_front (x ∷ xs) (b ∷ bs) = if b == x then after_front xs bs else None
 
 -- bytes that are found are what comes after the first ones
 abbrev pub Follows : Option (Bor (List ℕ)) → List ℕ → List ℕ → Type 0
-Follows found bytes first = MatchOption found (behind first bytes ≡ None) (λ rest. behind first bytes ≡ Some rest.now)
+Follows found bytes first = MatchOption found (after_front first bytes ≡ None) (λ rest. after_front first bytes ≡ Some rest.now)

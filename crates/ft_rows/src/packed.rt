@@ -1,7 +1,7 @@
 //! The packed list: where one term stands in one document, as bytes.
 ghost use Rattle.std.specs.Prelude.{◌≡◌, ◌↔◌, ℕ, [], ◌∷◌, ◌++◌, ◌+◌, ◌<◌, ◌&&◌, ◌||◌, ◌==◌, map, length, nat_lt, true, false, if◌then◌else◌, Some, None, IfOk, IfSome, IfNone, OnOk, MatchOption, IsTrue};
 ghost use Rattle.std.specs.List.{flat_map};
-ghost use Rattle.ft_rows.specs.Packed.{CanPack, is_natural, PackedIsRead, PackedIsExact, OnlyPackedIsRead, packed_spots, spots_in, stored_spot, plain_spot, leb128, natural, numbers_after, is_spot, is_after};
+ghost use Rattle.ft_rows.specs.Packed.{CanPack, is_natural, PackedIsRead, PackedIsExact, OnlyPackedIsRead, packed_spots, spots_in, stored_spot, packed_spot, leb128, natural, numbers_after, is_spot, is_after};
 ghost use Rattle.ft_rows.specs.Terms.{spot_of};
 ghost use Rattle.ft_rows.specs.Unpacking.{spot_from, passes, read_after, Follows, BeginsWith, BeginsWithSpot, HasNoNumber, HasNoUpper};
 
@@ -29,7 +29,7 @@ fn natural(number: i64) -> u64
     if number < 0 { 0 } else { number as u64 }
 }
 
-/// Where a number counts from: the last one in the same column, else 0.
+// Where a number counts from: the last one in the same column, else 0.
 fn kept(same: bool, number: i64) -> u64
     ensures { result ≡ (if same then natural number else 0) }
 {
@@ -50,10 +50,10 @@ fn push_number(bytes: &mut Vec<u8>, number: u64) -> Result<(), AllocError>
     Ok(())
 }
 
-/// The four numbers of a place after the last one.
+// The four numbers of a place after the last one.
 fn push_spot(bytes: &mut Vec<u8>, last: &Spot, spot: &Spot) -> Result<(), AllocError>
     ensures { OnOk result (bytes.new.items ≡ bytes.old.items ++ flat_map leb128
-        (numbers_after (plain_spot last.now) (plain_spot spot.now ∷ []))) }
+        (numbers_after (packed_spot last.now) (packed_spot spot.now ∷ []))) }
 {
     let column = natural(spot.column);
     let same = column == natural(last.column);
@@ -90,10 +90,10 @@ fn is_natural(spot: &Spot) -> bool
     spot.column >= 0 && spot.pos >= 0 && spot.place >= 0 && spot.size >= 0
 }
 
-/// Whether a posting may have a place, the first or one after the last.
+// Whether a posting may have a place, the first or one after the last.
 fn may_follow(is_first: bool, last: &Spot, spot: &Spot) -> bool
-    ensures { result ≡ (is_natural spot.now && passes is_first (plain_spot last.now)
-        (plain_spot spot.now)) }
+    ensures { result ≡ (is_natural spot.now && passes is_first (packed_spot last.now)
+        (packed_spot spot.now)) }
 {
     is_natural(spot)
         && passes(
@@ -123,7 +123,7 @@ pub fn can_pack(spots: &[Spot]) -> bool
 
 // ---- comparing
 
-/// What comes after a byte, where it is the first.
+// What comes after a byte, where it is the first.
 fn behind_byte(bytes: &[u8], byte: u8) -> Option<&[u8]>
     ensures { Follows result bytes.now (byte ∷ []) }
 {
@@ -133,7 +133,7 @@ fn behind_byte(bytes: &[u8], byte: u8) -> Option<&[u8]>
     }
 }
 
-/// What comes after a number, where it is the first.
+// What comes after a number, where it is the first.
 fn behind_number(bytes: &[u8], number: u64) -> Option<&[u8]>
     ensures { Follows result bytes.now (leb128 number) }
 {
@@ -146,10 +146,10 @@ fn behind_number(bytes: &[u8], number: u64) -> Option<&[u8]>
     behind_byte(left, rest as u8)
 }
 
-/// What comes after the four numbers of a place after the last one, where they are the first.
+// What comes after the four numbers of a place after the last one, where they are the first.
 fn behind_spot<'a>(bytes: &'a [u8], last: &Spot, spot: &Spot) -> Option<&'a [u8]>
     ensures { Follows result bytes.now (flat_map leb128
-        (numbers_after (plain_spot last.now) (plain_spot spot.now ∷ []))) }
+        (numbers_after (packed_spot last.now) (packed_spot spot.now ∷ []))) }
 {
     let column = natural(spot.column);
     let same = column == natural(last.column);
@@ -183,7 +183,7 @@ pub fn is_list_of(bytes: &[u8], postings: &[Posting]) -> bool
 
 // ---- unpacking
 
-/// The first byte, and what comes behind it.
+// The first byte, and what comes behind it.
 fn first_byte(bytes: &[u8]) -> Option<(u32, &[u8])>
     ensures { MatchOption result (bytes.now ≡ []) (λ byte. (bytes.now ≡ byte.0 ∷ byte.1.now)
         × (byte.0 < 256)) }
@@ -192,8 +192,8 @@ fn first_byte(bytes: &[u8]) -> Option<(u32, &[u8])>
     Some((u32::from(*first), rest))
 }
 
-/// What a number has above its lowest seven bits, in at most two bytes. None where it is 0 or needs
-/// more: no number of a list does.
+// What a number has above its lowest seven bits, in at most two bytes. None where it is 0 or needs
+// more: no number of a list does.
 fn upper_part(bytes: &[u8]) -> Option<(u32, &[u8])>
     ensures found { IfSome result (λ part. (0 < part.0) × (part.0 < 16384)
         × BeginsWith bytes.now part.0 part.1.now) }
@@ -213,7 +213,7 @@ fn upper_part(bytes: &[u8]) -> Option<(u32, &[u8])>
     Some((low - 128 + 128 * high, rest))
 }
 
-/// The first number of bytes, and what comes behind it. None where no list has it.
+// The first number of bytes, and what comes behind it. None where no list has it.
 fn first_number(bytes: &[u8]) -> Option<(u32, &[u8])>
     ensures found { IfSome result (λ number. BeginsWith bytes.now number.0 number.1.now) }
     ensures none { IfNone result (HasNoNumber bytes.now) }
@@ -234,7 +234,7 @@ fn is_spot(column: u64, pos: u64, place: u64, size: u64) -> bool
 
 fn is_after(last: &Spot, column: u64, pos: u64, place: u64) -> bool
     ensures { (size : ℕ)
-        → result ≡ is_after (plain_spot last.now)
+        → result ≡ is_after (packed_spot last.now)
         (record { column = column; pos = pos; place = place; size = size }) }
 {
     natural(last.column) < column
@@ -244,7 +244,7 @@ fn is_after(last: &Spot, column: u64, pos: u64, place: u64) -> bool
 }
 
 fn passes(is_first: bool, last: &Spot, column: u64, pos: u64, place: u64, size: u64) -> bool
-    ensures { result ≡ passes is_first (plain_spot last.now)
+    ensures { result ≡ passes is_first (packed_spot last.now)
         (record { column = column; pos = pos; place = place; size = size }) }
 {
     is_spot(column, pos, place, size) && (is_first || is_after(last, column, pos, place))
@@ -263,13 +263,13 @@ fn stored(column: u64, pos: u64, place: u64, size: u64) -> Spot
     }
 }
 
-/// The place that four numbers say after the last one, if a posting may have it.
+// The place that four numbers say after the last one, if a posting may have it.
 fn spot_at(last: &Spot, is_first: bool, c: u32, p: u32, l: u32, z: u32) -> Option<Spot>
-    ensures found { IfSome result (λ spot. (passes is_first (plain_spot last.now)
-        (spot_from (plain_spot last.now) c p l z) ≡ true)
-        × (spot ≡ stored_spot (spot_from (plain_spot last.now) c p l z))) }
-    ensures none { IfNone result (passes is_first (plain_spot last.now)
-        (spot_from (plain_spot last.now) c p l z) ≡ false) }
+    ensures found { IfSome result (λ spot. (passes is_first (packed_spot last.now)
+        (spot_from (packed_spot last.now) c p l z) ≡ true)
+        × (spot ≡ stored_spot (spot_from (packed_spot last.now) c p l z))) }
+    ensures none { IfNone result (passes is_first (packed_spot last.now)
+        (spot_from (packed_spot last.now) c p l z) ≡ false) }
 {
     let same = c == 0;
     let column = natural(last.column) + u64::from(c);
@@ -282,13 +282,13 @@ fn spot_at(last: &Spot, is_first: bool, c: u32, p: u32, l: u32, z: u32) -> Optio
     Some(stored(column, pos, place, size))
 }
 
-/// The place that bytes begin with, after the last one, and what comes behind it; if a posting may
-/// have it.
+// The place that bytes begin with, after the last one, and what comes behind it; if a posting may
+// have it.
 fn first_spot<'a>(bytes: &'a [u8], last: &Spot, is_first: bool) -> Option<(Spot, &'a [u8])>
-    ensures found { IfSome result (λ spot. BeginsWithSpot is_first (plain_spot last.now) bytes.now
+    ensures found { IfSome result (λ spot. BeginsWithSpot is_first (packed_spot last.now) bytes.now
         spot.0 spot.1.now) }
     ensures none { IfNone result (IsTrue (nat_lt 0 (length bytes.now))
-        → read_after is_first (plain_spot last.now) bytes.now ≡ None) }
+        → read_after is_first (packed_spot last.now) bytes.now ≡ None) }
 {
     let (column, rest) = first_number(bytes)?;
     let (pos, rest) = first_number(rest)?;

@@ -31,7 +31,7 @@ pub fn first_list(postings: &[Posting]) -> usize
     }
 }
 
-/// How many of the first postings are in the document of this one.
+// How many of the first postings are in the document of this one.
 fn count_with(first: &Posting, postings: &[Posting]) -> usize
     ensures { result ≡ prefix_len (λ p. int_eq p.docid first.now.docid) postings.now }
 {

@@ -11,7 +11,7 @@ use Rattle.shell_text.specs.Words.{is_unclosed}
 use Rattle.ft_index.specs.Kept.{FullText, OnlyLooks}
 use Rattle.ft_index.specs.Crashes.{LeavesRead}
 use Rattle.ft_index.specs.Called.{Call, Looked, Noted, DoesCall, Runs}
-use Rattle.ft_statements.specs.Words.{tokens_of}
+use Rattle.ft_statements.specs.Words.{sql_tokens}
 use Rattle.ft_statements.specs.Plain.{asks, made_name}
 use Rattle.ft_shell.specs.Shell.{Shell}
 use Rattle.shell_io.specs.Outcomes.{Answer, blames, lacks_memory}
@@ -23,7 +23,7 @@ use Rattle.ft_shell.specs.DotParts.{after_stop}
 use Rattle.ft_shell.specs.FullTextTurns.{MaybeNotes, NoteTurn}
 use Rattle.plain_sql.specs.Imports.{delimiter_of, row_cells}
 use Rattle.shell_io.specs.Records.{warnings}
-use Rattle.ft_shell.specs.ImportTurns.{BytesTurn, DelimitedTurn, FileTurn, IntoNamed, IntoNew, PlainImport, TextImport, columns_in, executed, no_memory, no_header, too_wide, declined, there, new_table, untried, read, no_text, fetched, unfetched}
+use Rattle.ft_shell.specs.ImportTurns.{BytesTurn, DelimitedTurn, FileTurn, IntoNamed, IntoNew, PlainImport, TextImport, width_in, executed, no_memory, no_header, too_wide, declined, there, new_table, untried, read, no_text, fetched, unfetched}
 use Rattle.shell_io.specs.Records.{kept, records_in}
 use Rattle.shell_io.specs.Sources.{fetch_words}
 use Rattle.ft_shell.specs.TablesTurns.{TablesTurn}
@@ -32,10 +32,10 @@ use Rattle.ft_shell.specs.TablesTurns as tables
 use Rattle.ft_shell.specs.PlainTurns.{CommandTurn, PlainTurn, done, refused}
 use Rattle.plain_sql.specs.PlainStatements.{QueryTurn}
 use Rattle.ft_statements.specs.Statements.{Class, Plain, FullText as FullTextClass, class_of}
-use Rattle.ft_shell.specs.StatementTurns.{ClassTurn, Declines, StatementTurn, table_names}
+use Rattle.ft_shell.specs.StatementTurns.{ClassTurn, Declines, StatementTurn, known_names}
 use Rattle.ft_shell.specs.TurnCalls.{bytes_in, class_in, closed_in, command_in, delimited_in, dot_in, file_in, named_in, new_in, note_in, plain_in, statement_in, table_in, tables_in, text_in}
 use Rattle.ft_shell.proofs.Spelled.{MayNote, MayRead, NoCall, CallsOf, CallsOfClass, CallsOfDot, CallsOfImport, HasRecords, OneCommand}
-use Rattle.shell_io.specs.Sources.{Files, Gives}
+use Rattle.shell_io.specs.Sources.{Files, GivesFile}
 use Rattle.ft_shell.specs.Turns.{Body, Turn, Turns, calls_in}
 
 -- ---- calls
@@ -71,14 +71,14 @@ command_calls : {P S : Type 0} (g : Ghosts P) (h : Ghosts S) (settings : Setting
 command_calls g h settings text made old new before after told (done count is notes) = notes_calls h made before after told notes
 command_calls g h settings text made old new before after told (refused e is same tells) = notes_none h made before after same
 
-plain_calls : {P S : Type 0} (g : Ghosts P) (h : Ghosts S) (settings : Settings) (text : List ℕ) (old new : Held P) (before after : FullText S) (told : Answer) → (it : PlainTurn g h settings text old new before after told) → Called h (MayNote (made_name (tokens_of text))) (plain_in g h settings text old new before after told (asks (tokens_of text)) it) before after
-plain_calls g h settings text old new before after told it = go (asks (tokens_of text)) it
+plain_calls : {P S : Type 0} (g : Ghosts P) (h : Ghosts S) (settings : Settings) (text : List ℕ) (old new : Held P) (before after : FullText S) (told : Answer) → (it : PlainTurn g h settings text old new before after told) → Called h (MayNote (made_name (sql_tokens text))) (plain_in g h settings text old new before after told (asks (sql_tokens text)) it) before after
+plain_calls g h settings text old new before after told it = go (asks (sql_tokens text)) it
   where
-    go : (is_query : Bool) (it : MatchBool is_query (QueryTurn g settings text old new told × (after ≡ before)) (CommandTurn g h text (made_name (tokens_of text)) old new before after told)) → Called h (MayNote (made_name (tokens_of text))) (plain_in g h settings text old new before after told is_query it) before after
-    go true it = notes_none h (made_name (tokens_of text)) before after it.1
-    go false it = command_calls g h settings text (made_name (tokens_of text)) old new before after told it
+    go : (is_query : Bool) (it : MatchBool is_query (QueryTurn g settings text old new told × (after ≡ before)) (CommandTurn g h text (made_name (sql_tokens text)) old new before after told)) → Called h (MayNote (made_name (sql_tokens text))) (plain_in g h settings text old new before after told is_query it) before after
+    go true it = notes_none h (made_name (sql_tokens text)) before after it.1
+    go false it = command_calls g h settings text (made_name (sql_tokens text)) old new before after told it
 
-class_calls : {P S : Type 0} (g : Ghosts P) (h : Ghosts S) (settings : Settings) (text : List ℕ) (old new : Held P) (before after : FullText S) (told : Answer) (class : Option Class) (it : ClassTurn g h settings text old new before after told class) → Called h (λ calls. CallsOfClass settings told calls (made_name (tokens_of text)) class) (class_in g h settings text old new before after told class it) before after
+class_calls : {P S : Type 0} (g : Ghosts P) (h : Ghosts S) (settings : Settings) (text : List ℕ) (old new : Held P) (before after : FullText S) (told : Answer) (class : Option Class) (it : ClassTurn g h settings text old new before after told class) → Called h (λ calls. CallsOfClass settings told calls (made_name (sql_tokens text)) class) (class_in g h settings text old new before after told class it) before after
 class_calls g h settings text old new before after told None it = calls_nothing h before after it.1
 class_calls g h settings text old new before after told (Some Plain) it = plain_calls g h settings text old new before after told it
 class_calls g h settings text old new before after told (Some (FullTextClass command)) it = (inl (it.1.answer, refl, it.1.tells), (after, it.1.does, refl))
@@ -89,18 +89,18 @@ class_none h settings made before after told (Some Plain) same is = notes_none h
 class_none h settings made before after told (Some (FullTextClass command)) same is = (inr (refl, codes "out of memory", is), same)
 
 statement_calls : {P S : Type 0} (g : Ghosts P) (h : Ghosts S) (settings : Settings) (text : List ℕ) (old new : Held P) (before after : FullText S) (told : Answer) → (it : StatementTurn g h settings text old new before after told) →
-    Called h (λ calls. MatchBool (is_unclosed text) (calls ≡ []) (CallsOfClass settings told calls (made_name (tokens_of text)) (class_of (table_names before) (tokens_of text)))) (statement_in g h settings text old new before after told it) before after
+    Called h (λ calls. MatchBool (is_unclosed text) (calls ≡ []) (CallsOfClass settings told calls (made_name (sql_tokens text)) (class_of (known_names before) (sql_tokens text)))) (statement_in g h settings text old new before after told it) before after
 statement_calls g h settings text old new before after told (inr nothing) = go (is_unclosed text)
   where
-    go : (is_open : Bool) → Called h (λ calls. MatchBool is_open (calls ≡ []) (CallsOfClass settings told calls (made_name (tokens_of text)) (class_of (table_names before) (tokens_of text)))) [] before after
+    go : (is_open : Bool) → Called h (λ calls. MatchBool is_open (calls ≡ []) (CallsOfClass settings told calls (made_name (sql_tokens text)) (class_of (known_names before) (sql_tokens text)))) [] before after
     go true = calls_nothing h before after nothing.1
-    go false = class_none h settings (made_name (tokens_of text)) before after told (class_of (table_names before) (tokens_of text)) nothing.1 nothing.2
+    go false = class_none h settings (made_name (sql_tokens text)) before after told (class_of (known_names before) (sql_tokens text)) nothing.1 nothing.2
 statement_calls g h settings text old new before after told (inl it) = go (is_unclosed text) it
   where
-    go : (is_open : Bool) (it : MatchBool is_open (Declines g h settings text old new before after told (codes "incomplete input")) (ClassTurn g h settings text old new before after told (class_of (table_names before) (tokens_of text)))) →
-        Called h (λ calls. MatchBool is_open (calls ≡ []) (CallsOfClass settings told calls (made_name (tokens_of text)) (class_of (table_names before) (tokens_of text)))) (closed_in g h settings text old new before after told is_open it) before after
+    go : (is_open : Bool) (it : MatchBool is_open (Declines g h settings text old new before after told (codes "incomplete input")) (ClassTurn g h settings text old new before after told (class_of (known_names before) (sql_tokens text)))) →
+        Called h (λ calls. MatchBool is_open (calls ≡ []) (CallsOfClass settings told calls (made_name (sql_tokens text)) (class_of (known_names before) (sql_tokens text)))) (closed_in g h settings text old new before after told is_open it) before after
     go true it = calls_nothing h before after it.1
-    go false it = class_calls g h settings text old new before after told (class_of (table_names before) (tokens_of text)) it
+    go false it = class_calls g h settings text old new before after told (class_of (known_names before) (sql_tokens text)) it
 
 looks_call : {S : Type 0} (h : Ghosts S) (old new : FullText S) (is_done : Bool) → OnlyLooks h old new → LeavesRead h old is_done new → Called h MayRead (Looked is_done ∷ []) old new
 looks_call h old new is_done looks leaves = (inr (is_done, refl), (new, (looks, leaves), refl))
@@ -153,18 +153,18 @@ module _ {P S : Type 0} (g : Ghosts P) (h : Ghosts S) (settings : Settings) (wha
       go calls (inr none, made) = (inr none, made)
   named_calls found has None it = plain_import_calls g h what (kept what.skip found) old new before after told it
 
-  bytes_calls : (delimiter : ℕ) (bytes : List ℕ) → delimiter_of what.csv settings ≡ Some delimiter → Gives holds what.file bytes → (it : BytesTurn g h what old new before after told delimiter bytes) → ImportCalls (columns_in before.tables what.table) (bytes_in g h what old new before after told delimiter bytes it)
-  bytes_calls delimiter bytes parts gives (read found are (inl it)) = named_calls found (record { delimiter = delimiter; parts = parts; bytes = bytes; gives = gives; are = are }) (columns_in before.tables what.table) it
-  bytes_calls delimiter bytes parts gives (read found are (inr nothing)) = import_none (codes "out of memory") (columns_in before.tables what.table) nothing.1 nothing.2
-  bytes_calls delimiter bytes parts gives (no_text is nothing) = import_none (codes "file is not UTF-8") (columns_in before.tables what.table) nothing.1 nothing.2
-  bytes_calls delimiter bytes parts gives (no_memory nothing) = import_none (codes "out of memory") (columns_in before.tables what.table) nothing.1 nothing.2
+  bytes_calls : (delimiter : ℕ) (bytes : List ℕ) → delimiter_of what.csv settings ≡ Some delimiter → GivesFile holds what.file bytes → (it : BytesTurn g h what old new before after told delimiter bytes) → ImportCalls (width_in before.tables what.table) (bytes_in g h what old new before after told delimiter bytes it)
+  bytes_calls delimiter bytes parts gives (read found are (inl it)) = named_calls found (record { delimiter = delimiter; parts = parts; bytes = bytes; gives = gives; are = are }) (width_in before.tables what.table) it
+  bytes_calls delimiter bytes parts gives (read found are (inr nothing)) = import_none (codes "out of memory") (width_in before.tables what.table) nothing.1 nothing.2
+  bytes_calls delimiter bytes parts gives (no_text is nothing) = import_none (codes "file is not UTF-8") (width_in before.tables what.table) nothing.1 nothing.2
+  bytes_calls delimiter bytes parts gives (no_memory nothing) = import_none (codes "out of memory") (width_in before.tables what.table) nothing.1 nothing.2
 
-  file_calls : (delimiter : ℕ) → delimiter_of what.csv settings ≡ Some delimiter → (it : FileTurn g h what old new before after told holds delimiter) → ImportCalls (columns_in before.tables what.table) (file_in g h what old new before after told holds delimiter it)
+  file_calls : (delimiter : ℕ) → delimiter_of what.csv settings ≡ Some delimiter → (it : FileTurn g h what old new before after told holds delimiter) → ImportCalls (width_in before.tables what.table) (file_in g h what old new before after told holds delimiter it)
   file_calls delimiter parts (fetched bytes gives it) = bytes_calls delimiter bytes parts gives it
-  file_calls delimiter parts (unfetched fault allowed nothing) = import_none (fetch_words fault) (columns_in before.tables what.table) nothing.1 nothing.2
+  file_calls delimiter parts (unfetched fault allowed nothing) = import_none (fetch_words fault) (width_in before.tables what.table) nothing.1 nothing.2
 
-  delimited_calls : (delimiter : Option ℕ) → delimiter_of what.csv settings ≡ delimiter → (it : DelimitedTurn g h what old new before after told holds delimiter) → ImportCalls (columns_in before.tables what.table) (delimited_in g h what old new before after told holds delimiter it)
-  delimited_calls None parts nothing = import_none (codes "bad separator") (columns_in before.tables what.table) nothing.1 nothing.2
+  delimited_calls : (delimiter : Option ℕ) → delimiter_of what.csv settings ≡ delimiter → (it : DelimitedTurn g h what old new before after told holds delimiter) → ImportCalls (width_in before.tables what.table) (delimited_in g h what old new before after told holds delimiter it)
+  delimited_calls None parts nothing = import_none (codes "bad separator") (width_in before.tables what.table) nothing.1 nothing.2
   delimited_calls (Some delimiter) parts it = file_calls delimiter parts it
 
 -- ---- dot-commands, and whole turns
@@ -197,7 +197,7 @@ dot_none h old new told Tables same is = (inl refl, ap (λ (s : Shell _ _). s.fu
 dot_none h old new told Quit same is = same_shell h old new same
 dot_none h old new told (Usage text) same is = same_shell h old new same
 dot_none h old new told Unknown same is = same_shell h old new same
-dot_none h old new told (Importing what) same is = go (columns_in old.full_text.tables what.table)
+dot_none h old new told (Importing what) same is = go (width_in old.full_text.tables what.table)
   where
     go : (there : Option ℕ) → Called h (λ calls. CallsOfImport old.settings told calls old.holds what there) [] old.full_text new.full_text
     go None = notes_none h (Some what.table) old.full_text new.full_text (ap (λ (s : Shell _ _). s.full_text) same)

@@ -6,18 +6,18 @@ use Rattle.sqlite.specs.Held.{Held}
 use Rattle.shell_text.specs.Print.{Settings}
 use Rattle.ft_index.specs.Kept.{FullText}
 use Rattle.ft_statements.specs.Plain.{asks, made_name}
-use Rattle.ft_statements.specs.Words.{tokens_of}
+use Rattle.ft_statements.specs.Words.{sql_tokens}
 use Rattle.plain_sql.specs.PlainStatements.{QueryTurn}
 use Rattle.shell_io.specs.Outcomes.{Answer}
 use Rattle.ft_shell.specs.PlainTurns.{CommandTurn, PlainTurn}
 
 pub asks_turn : {P S : Type 0} (g : Ghosts P) (h : Ghosts S) (settings : Settings) (text : List ℕ) (old new : Held P) (before : FullText S) (told : Answer) →
-    asks (tokens_of text) ≡ true → QueryTurn g settings text old new told → PlainTurn g h settings text old new before before told
+    asks (sql_tokens text) ≡ true → QueryTurn g settings text old new told → PlainTurn g h settings text old new before before told
 asks_turn g h settings text old new before told is query =
-    subst (λ b. MatchBool b (QueryTurn g settings text old new told × (before ≡ before)) (CommandTurn g h text (made_name (tokens_of text)) old new before before told)) (sym is) (query, refl)
+    subst (λ b. MatchBool b (QueryTurn g settings text old new told × (before ≡ before)) (CommandTurn g h text (made_name (sql_tokens text)) old new before before told)) (sym is) (query, refl)
 
 pub runs_turn : {P S : Type 0} (g : Ghosts P) (h : Ghosts S) (settings : Settings) (text : List ℕ) (old new : Held P) (before after : FullText S) (told : Answer) (made : Option (List ℕ)) →
-    asks (tokens_of text) ≡ false → made ≡ made_name (tokens_of text) → CommandTurn g h text made old new before after told → PlainTurn g h settings text old new before after told
+    asks (sql_tokens text) ≡ false → made ≡ made_name (sql_tokens text) → CommandTurn g h text made old new before after told → PlainTurn g h settings text old new before after told
 runs_turn g h settings text old new before after told made is same command =
-    subst (λ b. MatchBool b (QueryTurn g settings text old new told × (after ≡ before)) (CommandTurn g h text (made_name (tokens_of text)) old new before after told)) (sym is)
+    subst (λ b. MatchBool b (QueryTurn g settings text old new told × (after ≡ before)) (CommandTurn g h text (made_name (sql_tokens text)) old new before after told)) (sym is)
     (subst (λ m. CommandTurn g h text m old new before after told) same command)

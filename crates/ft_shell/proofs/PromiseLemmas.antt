@@ -14,7 +14,7 @@ use Rattle.ft_content.specs.Deserved.{Contents, deserved}
 use Rattle.ft_content.specs.Step.{after, reply_to, step, step_by}
 use Rattle.ft_index.specs.Kept.{FullText, is_outside}
 use Rattle.ft_index.specs.Called.{Call, CallsKept, Executed, Looked, Noted, Runs, KeptByCalls, NoneGetsUnsound, accepted, left_by, AreAnswered}
-use Rattle.ft_statements.specs.Words.{tokens_of}
+use Rattle.ft_statements.specs.Words.{sql_tokens}
 use Rattle.ft_statements.specs.Statements.{Class, Plain, FullText as FullTextClass, class_of}
 use Rattle.ft_statements.specs.Dots.{DotCommand, Import, Nothing, SetMode, SetHeaders, SetSeparator, SetNull, SetEcho, SetBail, Print, Importing, Tables, Quit, Usage, Unknown, dot_command_of}
 use Rattle.ft_statements.specs.Replies.{reply_text}
@@ -22,10 +22,10 @@ use Rattle.shell_io.specs.declared.run.Status.{Status}
 use Rattle.shell_io.specs.declared.run.RunFault.{RunFault}
 use Rattle.ft_shell.specs.Shell.{Parts, Shell}
 use Rattle.plain_sql.specs.Imports.{row_cells}
-use Rattle.ft_shell.specs.ImportTurns.{columns_in}
+use Rattle.ft_shell.specs.ImportTurns.{width_in}
 use Rattle.shell_io.specs.Records.{kept, records_in}
 use Rattle.ft_shell.specs.FullTextTurns.{answer_of_reply}
-use Rattle.ft_shell.specs.StatementTurns.{table_names}
+use Rattle.ft_shell.specs.StatementTurns.{known_names}
 use Rattle.shell_io.specs.Outcomes.{Answer, Outcome, Tells, says, echoed, lacks_memory, outcome_of}
 use Rattle.ft_shell.specs.Effects.{Effects, idle, and_then, outcome_in}
 use Rattle.ft_shell.specs.DotParts.{after_stop}
@@ -33,8 +33,8 @@ use Rattle.ft_shell.proofs.Spelled.{MayNote, MayRead, CallsOf, CallsOfClass, Cal
 use Rattle.ft_shell.specs.Turns.{Begins, Turn, Turns}
 use Rattle.ft_shell.specs.Ran.{Ends}
 use Rattle.ft_shell.specs.Runs.{Console, IsFront, IsWhole}
-use Rattle.ft_index.specs.Crashes.{IsSettled}
-use Rattle.ft_shell.specs.Promise.{IsClean, Ran, AllRan, none_ran, last_ran, first_ran, Reached, Lists, KeptByRuns, RanAndKept, parts_of, read_by}
+use Rattle.ft_index.specs.Crashes.{SurvivesCrash}
+use Rattle.ft_shell.specs.Promise.{IsClean, Ran, AllRan, none_ran, last_ran, first_ran, Reached, Lists, KeptByRuns, RanAndKept, shell_parts, read_by}
 use Rattle.ft_shell.proofs.CallsLemmas.{runs_join, turn_spelled, turns_made}
 use Rattle.ft_shell.proofs.TurnsLemmas.{assoc_then, idle_then, turns_one, turns_then}
 use Rattle.ft_shell.specs.Broken.{Broken, not_begun, not_echoed, not_told}
@@ -113,7 +113,7 @@ few_import settings told calls holds what (Some n) (inl it) = inr (Insert what.t
 few_import settings told calls holds what (Some n) (inr it) = inl (none_of calls it.0)
 
 few_dot : {P S : Type 0} (old : Shell P S) (told : Answer) (calls : List Call) (command : DotCommand) → CallsOfDot old told calls command → Few calls
-few_dot old told calls (Importing what) it = few_import old.settings told calls old.holds what (columns_in old.full_text.tables what.table) it
+few_dot old told calls (Importing what) it = few_import old.settings told calls old.holds what (width_in old.full_text.tables what.table) it
 few_dot old told calls Nothing it = inl (none_of calls it)
 few_dot old told calls (SetMode mode) it = inl (none_of calls it)
 few_dot old told calls (SetHeaders shown) it = inl (none_of calls it)
@@ -131,9 +131,9 @@ few : {P S : Type 0} (member : Member) (old : Shell P S) (told : Answer) (calls 
 few (units.Fault line fault) old told calls it = inl (none_of calls it)
 few (Sql line text) old told calls it = go (is_unclosed text) it
   where
-    go : (is_open : Bool) → MatchBool is_open (calls ≡ []) (CallsOfClass old.settings told calls (made_name (tokens_of text)) (class_of (table_names old.full_text) (tokens_of text))) → Few calls
+    go : (is_open : Bool) → MatchBool is_open (calls ≡ []) (CallsOfClass old.settings told calls (made_name (sql_tokens text)) (class_of (known_names old.full_text) (sql_tokens text))) → Few calls
     go true it = inl (none_of calls it)
-    go false it = few_class old.settings told calls (made_name (tokens_of text)) (class_of (table_names old.full_text) (tokens_of text)) it
+    go false it = few_class old.settings told calls (made_name (sql_tokens text)) (class_of (known_names old.full_text) (sql_tokens text)) it
 few (Dot line text) old told calls it = few_dot old told calls (dot_command_of (dot_words_of (after_stop text))) it
 
 not_noted : (before more : List Call) (command : Command) (answer : Result Reply Fault) → NoCommand (before ++ Executed command answer ∷ more) → ⊥
@@ -301,10 +301,10 @@ pub all_made : {P S : Type 0} (g : Ghosts P) (h : Ghosts S) (old new : Parts P S
 all_made g h old new reads all (none_ran parts) = refl
 all_made g h old new reads all (last_ran ended from to own ran) = ran_made g h ended from to own ran
 all_made g h old new reads all (first_ran ended from to own others rest last ran later) =
-    runs_join h from.shell.full_text to.shell.full_text last.full_text own.calls rest.calls (ran_made g h ended from to own ran) (all_made g h (parts_of to.shell) last others rest later)
+    runs_join h from.shell.full_text to.shell.full_text last.full_text own.calls rest.calls (ran_made g h ended from to own ran) (all_made g h (shell_parts to.shell) last others rest later)
 
 -- in a run, after none
-at_run : {P S : Type 0} (g : Ghosts P) (h : Ghosts S) (ended : Result Status RunFault) (from to : Console P S) (all : Effects) (ran : Ran g h ended from to all) (others : List (List ℕ)) → (before more : List Call) (command : Command) (answer : Result Reply Fault) → all.calls ≡ before ++ Executed command answer ∷ more → At g h (Reached g h (parts_of from.shell) (read_by g h ended from to all ran ∷ others)) all before command answer more to.shell.full_text
+at_run : {P S : Type 0} (g : Ghosts P) (h : Ghosts S) (ended : Result Status RunFault) (from to : Console P S) (all : Effects) (ran : Ran g h ended from to all) (others : List (List ℕ)) → (before more : List Call) (command : Command) (answer : Result Reply Fault) → all.calls ≡ before ++ Executed command answer ∷ more → At g h (Reached g h (shell_parts from.shell) (read_by g h ended from to all ran ∷ others)) all before command answer more to.shell.full_text
 at_run g h ended from to all ran others before more command answer is =
     let turns = ran_turns g h ended from to all ran in
     let it = at_turn g h turns.members from.shell to.shell all turns.turns before more command answer is in
@@ -319,7 +319,7 @@ at_run g h ended from to all ran others before more command answer is =
         before = [];
         whole = idle;
         start = from.shell;
-        ran = none_ran (parts_of from.shell);
+        ran = none_ran (shell_parts from.shell);
         read = read_by g h ended from to all ran;
         more = others;
         inputs = refl;
@@ -342,10 +342,10 @@ at_run g h ended from to all ran others before more command answer is =
 at_all : {P S : Type 0} (g : Ghosts P) (h : Ghosts S) (old new : Parts P S) (reads : List (List ℕ)) (all : Effects) → AllRan g h old reads all new → (before more : List Call) (command : Command) (answer : Result Reply Fault) → all.calls ≡ before ++ Executed command answer ∷ more → At g h (Reached g h old reads) all before command answer more new.full_text
 at_all g h old new reads all (none_ran parts) before more command answer is = absurd (no_more before more (Executed command answer) is)
 at_all g h old new reads all (last_ran ended from to own ran) before more command answer is = at_run g h ended from to own ran [] before more command answer is
-at_all {P} {S} g h old new reads all (first_ran ended from to own inputs rest last ran others) before more command answer is = cut (λ b left. at_all g h (parts_of to.shell) last inputs rest others b more command answer left) (split_at own.calls rest.calls before more (Executed command answer) is)
+at_all {P} {S} g h old new reads all (first_ran ended from to own inputs rest last ran others) before more command answer is = cut (λ b left. at_all g h (shell_parts to.shell) last inputs rest others b more command answer left) (split_at own.calls rest.calls before more (Executed command answer) is)
   where
-    cut : ((b : List Call) → rest.calls ≡ b ++ Executed command answer ∷ more → At g h (Reached g h (parts_of to.shell) inputs) rest b command answer more last.full_text) → ((m : List Call) × (own.calls ≡ before ++ Executed command answer ∷ m) × (more ≡ m ++ rest.calls)) ⊎ ((b : List Call) × (before ≡ own.calls ++ b) × (rest.calls ≡ b ++ Executed command answer ∷ more)) →
-        At g h (Reached g h (parts_of from.shell) (read_by g h ended from to own ran ∷ inputs)) (and_then own rest) before command answer more last.full_text
+    cut : ((b : List Call) → rest.calls ≡ b ++ Executed command answer ∷ more → At g h (Reached g h (shell_parts to.shell) inputs) rest b command answer more last.full_text) → ((m : List Call) × (own.calls ≡ before ++ Executed command answer ∷ m) × (more ≡ m ++ rest.calls)) ⊎ ((b : List Call) × (before ≡ own.calls ++ b) × (rest.calls ≡ b ++ Executed command answer ∷ more)) →
+        At g h (Reached g h (shell_parts from.shell) (read_by g h ended from to own ran ∷ inputs)) (and_then own rest) before command answer more last.full_text
     cut next (inl (m, mine, left)) =
         let it = at_run g h ended from to own ran inputs before m command answer mine in
         record {
@@ -360,7 +360,7 @@ at_all {P} {S} g h old new reads all (first_ran ended from to own inputs rest la
           turn = it.turn;
           only = it.only;
           behind = ap (λ k. k ++ rest.calls) it.behind ∙ sym left;
-          ends = subst (λ k. Runs h it.now.full_text k last.full_text) (sym left) (runs_join h it.now.full_text to.shell.full_text last.full_text m rest.calls it.ends (all_made g h (parts_of to.shell) last inputs rest others));
+          ends = subst (λ k. Runs h it.now.full_text k last.full_text) (sym left) (runs_join h it.now.full_text to.shell.full_text last.full_text m rest.calls it.ends (all_made g h (shell_parts to.shell) last inputs rest others));
           out = behind it.earlier.out it.own.out it.later.out rest.out it.out;
           err = behind it.earlier.err it.own.err it.later.err rest.err it.err;
         }
@@ -381,7 +381,7 @@ at_all {P} {S} g h old new reads all (first_ran ended from to own inputs rest la
             before = read_by g h ended from to own ran ∷ r.before;
             whole = and_then own r.whole;
             start = r.start;
-            ran = first_ran ended from to own r.before r.whole (parts_of r.start) ran r.ran;
+            ran = first_ran ended from to own r.before r.whole (shell_parts r.start) ran r.ran;
             read = r.read;
             more = r.more;
             inputs = ap (λ rs. read_by g h ended from to own ran ∷ rs) r.inputs;
@@ -424,7 +424,7 @@ module _ (table : List ℕ) (items : Items) (filter : Filter) (limit : Option �
   select_import settings told holds what (Some n) (inr it) = let wrong = it.0 in cc
 
   select_dot : {P S : Type 0} (old : Shell P S) (told : Answer) (command : DotCommand) → CallsOfDot old told selected command → ⊥
-  select_dot old told (Importing what) it = select_import old.settings told old.holds what (columns_in old.full_text.tables what.table) it
+  select_dot old told (Importing what) it = select_import old.settings told old.holds what (width_in old.full_text.tables what.table) it
   select_dot old told Nothing it = not_none (none_of selected it)
   select_dot old told (SetMode mode) it = not_none (none_of selected it)
   select_dot old told (SetHeaders shown) it = not_none (none_of selected it)
@@ -441,9 +441,9 @@ module _ (table : List ℕ) (items : Items) (filter : Filter) (limit : Option �
   select_sql : {P S : Type 0} (line : ℕ) (text : List ℕ) (old : Shell P S) (told : Answer) → CallsOf (Sql line text) old told selected → Tells (says (reply_text old.settings reply)) told
   select_sql line text old told it = go (is_unclosed text) it
     where
-      go : (is_open : Bool) → MatchBool is_open (selected ≡ []) (CallsOfClass old.settings told selected (made_name (tokens_of text)) (class_of (table_names old.full_text) (tokens_of text))) → Tells (says (reply_text old.settings reply)) told
+      go : (is_open : Bool) → MatchBool is_open (selected ≡ []) (CallsOfClass old.settings told selected (made_name (sql_tokens text)) (class_of (known_names old.full_text) (sql_tokens text))) → Tells (says (reply_text old.settings reply)) told
       go true it = absurd (not_none (none_of selected it))
-      go false it = select_class old.settings told (made_name (tokens_of text)) (class_of (table_names old.full_text) (tokens_of text)) it
+      go false it = select_class old.settings told (made_name (sql_tokens text)) (class_of (known_names old.full_text) (sql_tokens text)) it
 
   select_lists : {P S : Type 0} (g : Ghosts P) (h : Ghosts S) (old new : Parts P S) (reads : List (List ℕ)) (all : Effects) (before more : List Call) → At g h (Reached g h old reads) all before (Select table items filter limit offset) (Ok reply) more new.full_text → Lists g h old reads all before (Select table items filter limit offset) reply more new
   select_lists {P} {S} g h old new reads all before more it = go it.member it.turn it.reached
@@ -495,6 +495,6 @@ kept_by_runs g h law sound first old new reads all held settled ran clean = reco
     kept = law old.full_text new.full_text all.calls first clean held settled (all_made g h old new reads all ran)
 
 -- one run, however it ends
-pub ran_and_kept : {P S : Type 0} (g : Ghosts P) (h : Ghosts S) (ended : Result Status RunFault) (old new : Console P S) → Ends g h ended old new → IsSettled h old.shell.full_text → KeptByRuns g h (IsClean h) → RanAndKept g h ended old new
-ran_and_kept g h (Ok status) old new ran settled law = (ran.effects, (ran, refl), λ first held clean. law first (parts_of old.shell) (parts_of new.shell) (ran.read ∷ []) ran.effects held settled (last_ran (Ok status) old new ran.effects (ran, refl)) clean)
-ran_and_kept g h (Err fault) old new cut settled law = (cut.effects, (cut, refl), λ first held clean. law first (parts_of old.shell) (parts_of new.shell) (cut.read ∷ []) cut.effects held settled (last_ran (Err fault) old new cut.effects (cut, refl)) clean)
+pub ran_and_kept : {P S : Type 0} (g : Ghosts P) (h : Ghosts S) (ended : Result Status RunFault) (old new : Console P S) → Ends g h ended old new → SurvivesCrash h old.shell.full_text → KeptByRuns g h (IsClean h) → RanAndKept g h ended old new
+ran_and_kept g h (Ok status) old new ran settled law = (ran.effects, (ran, refl), λ first held clean. law first (shell_parts old.shell) (shell_parts new.shell) (ran.read ∷ []) ran.effects held settled (last_ran (Ok status) old new ran.effects (ran, refl)) clean)
+ran_and_kept g h (Err fault) old new cut settled law = (cut.effects, (cut, refl), λ first held clean. law first (shell_parts old.shell) (shell_parts new.shell) (cut.read ∷ []) cut.effects held settled (last_ran (Err fault) old new cut.effects (cut, refl)) clean)

@@ -11,17 +11,17 @@ use Rattle.shell_text.specs.Words.{is_unclosed}
 use Rattle.ft_values.specs.declared.fault.Fault.{Fault as Cause}
 use Rattle.ft_content.specs.Command.{Command, Insert, Reply}
 use Rattle.ft_index.specs.Called.{Call, Executed, Looked, Noted}
-use Rattle.ft_statements.specs.Words.{tokens_of}
+use Rattle.ft_statements.specs.Words.{sql_tokens}
 use Rattle.ft_statements.specs.Statements.{Class, Plain, FullText, class_of}
 use Rattle.ft_statements.specs.Dots.{DotCommand, Import, Importing, Tables, dot_command_of}
 use Rattle.ft_statements.specs.Plain.{made_name}
 use Rattle.ft_shell.specs.Shell.{Shell}
-use Rattle.shell_io.specs.Sources.{Files, Gives}
+use Rattle.shell_io.specs.Sources.{Files, GivesFile}
 use Rattle.plain_sql.specs.Imports.{delimiter_of, row_cells}
 use Rattle.shell_io.specs.Records.{warnings}
 use Rattle.ft_shell.specs.FullTextTurns.{answer_of_reply}
-use Rattle.ft_shell.specs.StatementTurns.{table_names}
-use Rattle.ft_shell.specs.ImportTurns.{columns_in, answer_of_insert}
+use Rattle.ft_shell.specs.StatementTurns.{known_names}
+use Rattle.ft_shell.specs.ImportTurns.{width_in, answer_of_insert}
 use Rattle.shell_io.specs.Records.{kept, records_in}
 use Rattle.ft_shell.specs.DotParts.{after_stop}
 use Rattle.shell_io.specs.Outcomes.{Answer, Tells, blames}
@@ -40,7 +40,7 @@ pub record HasRecords (settings : Settings) (holds : Files) (what : Import) (fou
   pub delimiter : ℕ
   pub parts : delimiter_of what.csv settings ≡ Some delimiter
   pub bytes : List ℕ
-  pub gives : Gives holds what.file bytes
+  pub gives : GivesFile holds what.file bytes
   pub are : AreRecords (csv_reader delimiter) csv.StartRecord (strip_bom bytes) found
 
 module _ (settings : Settings) (told : Answer) (calls : List Call) where
@@ -69,11 +69,11 @@ module _ (settings : Settings) (told : Answer) (calls : List Call) where
 
 -- what a member calls, over the tables and the files that are there, where this is told of it
 abbrev pub CallsOfDot : {P S : Type 0} → Shell P S → Answer → List Call → DotCommand → Type 0
-CallsOfDot old told calls (Importing what) = CallsOfImport old.settings told calls old.holds what (columns_in old.full_text.tables what.table)
+CallsOfDot old told calls (Importing what) = CallsOfImport old.settings told calls old.holds what (width_in old.full_text.tables what.table)
 CallsOfDot old told calls Tables = MayRead calls
 CallsOfDot old told calls _ = calls ≡ []
 
 abbrev pub CallsOf : {P S : Type 0} → Member → Shell P S → Answer → List Call → Type 0
 CallsOf (Fault line fault) old told calls = calls ≡ []
-CallsOf (Sql line text) old told calls = MatchBool (is_unclosed text) (calls ≡ []) (CallsOfClass old.settings told calls (made_name (tokens_of text)) (class_of (table_names old.full_text) (tokens_of text)))
+CallsOf (Sql line text) old told calls = MatchBool (is_unclosed text) (calls ≡ []) (CallsOfClass old.settings told calls (made_name (sql_tokens text)) (class_of (known_names old.full_text) (sql_tokens text)))
 CallsOf (Dot line text) old told calls = CallsOfDot old told calls (dot_command_of (dot_words_of (after_stop text)))

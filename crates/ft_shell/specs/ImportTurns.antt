@@ -20,15 +20,15 @@ use Rattle.plain_sql.specs.Imports.{delimiter_of, row_cells}
 use Rattle.plain_sql.specs.IntoTables.{IsLeft, IntoTable}
 use Rattle.plain_sql.specs.PlainImports.{import_steps, CommitsAll, Declines}
 use Rattle.shell_io.specs.Records.{kept, records_in, warnings}
-use Rattle.shell_io.specs.Sources.{Files, Gives, Refuses, fetch_words}
+use Rattle.shell_io.specs.Sources.{Files, GivesFile, Refuses, fetch_words}
 use Rattle.shell_io.specs.declared.source.SourceFault.{SourceFault}
 use Rattle.plain_sql.specs.Listings.{Tries}
 use Rattle.ft_statements.specs.Texts.{fault_text}
 use Rattle.shell_io.specs.Outcomes.{Answer, blames, lacks_memory, warned}
 
 -- the number of columns of the first table that has this name, if one has
-abbrev pub columns_in : List TableInfo → List ℕ → Option ℕ
-columns_in tables name = option_map (λ (t : TableInfo). length t.columns) (info_named tables name)
+abbrev pub width_in : List TableInfo → List ℕ → Option ℕ
+width_in tables name = option_map (λ (t : TableInfo). length t.columns) (info_named tables name)
 
 -- ---- into a full-text table
 
@@ -90,7 +90,7 @@ module _ {P S : Type 0} (g : Ghosts P) (h : Ghosts S) (what : Import) (old new :
 
   -- the file's records go into the table of that name, but for those that are skipped
   abbrev pub RecordsTurn : List (List (List ℕ)) → Type 0
-  RecordsTurn found = IntoNamed (kept what.skip found) (columns_in before.tables what.table) ⊎ Declined (codes "out of memory")
+  RecordsTurn found = IntoNamed (kept what.skip found) (width_in before.tables what.table) ⊎ Declined (codes "out of memory")
 
   -- the file's bytes are read as records of CSV, if they are a text
   pub data BytesTurn (delimiter : ℕ) (bytes : List ℕ) : Type 0 where
@@ -102,7 +102,7 @@ module _ {P S : Type 0} (g : Ghosts P) (h : Ghosts S) (what : Import) (old new :
   -- the file's bytes are those that its name holds, if they are there, or their fetch is refused by
   -- this fault
   pub data FileTurn (holds : Files) (delimiter : ℕ) : Type 0 where
-    fetched : (bytes : List ℕ) → Gives holds what.file bytes → BytesTurn delimiter bytes → FileTurn holds delimiter
+    fetched : (bytes : List ℕ) → GivesFile holds what.file bytes → BytesTurn delimiter bytes → FileTurn holds delimiter
     unfetched : (fault : SourceFault) → Refuses holds what.file fault → Declined (fetch_words fault) → FileTurn holds delimiter
 
   -- the delimiter is tested first

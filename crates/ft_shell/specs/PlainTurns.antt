@@ -8,7 +8,7 @@ use Rattle.sqlite.specs.declared.error.Error.{Error}
 use Rattle.shell_text.specs.Print.{Settings}
 use Rattle.ft_index.specs.Kept.{FullText}
 use Rattle.ft_statements.specs.Plain.{asks, made_name, seeks}
-use Rattle.ft_statements.specs.Words.{tokens_of}
+use Rattle.ft_statements.specs.Words.{sql_tokens}
 use Rattle.plain_sql.specs.PlainStatements.{TellsRefusal, IfClean, QueryTurn}
 use Rattle.shell_io.specs.Outcomes.{Answer, lacks_memory}
 use Rattle.ft_shell.specs.FullTextTurns.{MaybeNotes}
@@ -19,14 +19,14 @@ module _ {P S : Type 0} (g : Ghosts P) (h : Ghosts S) where
     done : (count : ℕ) → IfClean g old new (Executes text [] (state g old) (state g new) (Ok count)) → MaybeNotes h made before after told
         → CommandTurn text made old new before after told
     refused : (e : Error) → IfClean g old new (Executes text [] (state g old) (state g new) (Err e)) → after ≡ before
-        → TellsRefusal (seeks (tokens_of text)) e told
+        → TellsRefusal (seeks (sql_tokens text)) e told
         → CommandTurn text made old new before after told
 
   -- a plain statement: a query, or a command
   abbrev pub PlainTurn : Settings → List ℕ → Held P → Held P → FullText S → FullText S → Answer → Type 0
-  PlainTurn settings text old new before after told = MatchBool (asks (tokens_of text))
+  PlainTurn settings text old new before after told = MatchBool (asks (sql_tokens text))
       (QueryTurn g settings text old new told × (after ≡ before))
-      (CommandTurn text (made_name (tokens_of text)) old new before after told)
+      (CommandTurn text (made_name (sql_tokens text)) old new before after told)
 
 -- a unit's turn, or, for want of memory, nothing
 abbrev pub OrNothing : {P S : Type 0} → Type 0 → Held P → Held P → FullText S → FullText S → Answer → Type 0

@@ -9,7 +9,7 @@ use Rattle.ft_content.specs.Deserved.{Contents}
 use Rattle.ft_content.specs.Step.{reply_to}
 use Rattle.sqlite.specs.State.{HasCleanDisk}
 use Rattle.ft_index.specs.Kept.{FullText, Holds}
-use Rattle.ft_index.specs.Crashes.{IsSettled}
+use Rattle.ft_index.specs.Crashes.{SurvivesCrash}
 use Rattle.ft_index.specs.Called.{Call, CallsKept, Executed, Runs, accepted, left_by, is_unsound}
 use Rattle.shell_io.specs.declared.run.Status.{Status}
 use Rattle.shell_io.specs.declared.run.RunFault.{RunFault}
@@ -22,8 +22,8 @@ use Rattle.ft_shell.specs.Runs.{Console, Completes, Stops}
 
 -- ---- runs
 
-abbrev pub parts_of : {P S : Type 0} → Shell P S → Parts P S
-parts_of shell = record { settings = shell.settings; plain = shell.plain; full_text = shell.full_text }
+abbrev pub shell_parts : {P S : Type 0} → Shell P S → Parts P S
+shell_parts shell = record { settings = shell.settings; plain = shell.plain; full_text = shell.full_text }
 
 module _ {P S : Type 0} (g : Ghosts P) (h : Ghosts S) where
   -- A run, however it ended, with what its turns wrote and the calls that they made of the
@@ -43,10 +43,10 @@ module _ {P S : Type 0} (g : Ghosts P) (h : Ghosts S) where
   pub data AllRan : Parts P S → List (List ℕ) → Effects → Parts P S → Type 0 where
     none_ran : (parts : Parts P S) → AllRan parts [] idle parts
     last_ran : (ended : Result Status RunFault) (old new : Console P S) (all : Effects) (ran : Ran ended old new all)
-        → AllRan (parts_of old.shell) (read_by ended old new all ran ∷ []) all (parts_of new.shell)
+        → AllRan (shell_parts old.shell) (read_by ended old new all ran ∷ []) all (shell_parts new.shell)
     first_ran : (ended : Result Status RunFault) (old new : Console P S) (all : Effects) (reads : List (List ℕ)) (rest : Effects) (last : Parts P S)
-        (ran : Ran ended old new all) → AllRan (parts_of new.shell) reads rest last
-        → AllRan (parts_of old.shell) (read_by ended old new all ran ∷ reads) (and_then all rest) last
+        (ran : Ran ended old new all) → AllRan (shell_parts new.shell) reads rest last
+        → AllRan (shell_parts old.shell) (read_by ended old new all ran ∷ reads) (and_then all rest) last
 
   -- Turns from the first of runs up to one of their shells, before a member: all those of some
   -- runs, and then those of the members before it in what the next run read.
@@ -54,7 +54,7 @@ module _ {P S : Type 0} (g : Ghosts P) (h : Ghosts S) where
     pub before : List (List ℕ)
     pub whole : Effects
     pub start : Shell P S
-    pub ran : AllRan old before whole (parts_of start)
+    pub ran : AllRan old before whole (shell_parts start)
     pub read : List ℕ
     pub more : List (List ℕ)
     pub inputs : reads ≡ before ++ read ∷ more
@@ -120,10 +120,10 @@ module _ {P S : Type 0} (g : Ghosts P) (h : Ghosts S) where
   -- returned what was written.
   abbrev pub KeptByRuns : (FullText S → Type 0) → Type 0
   KeptByRuns IsClean = (first : Contents) (old new : Parts P S) (reads : List (List ℕ)) (all : Effects) → Holds h old.full_text first
-      → IsSettled h old.full_text → AllRan g h old reads all new → IsClean new.full_text → PromiseKept first old reads all new
+      → SurvivesCrash h old.full_text → AllRan g h old reads all new → IsClean new.full_text → PromiseKept first old reads all new
 
   -- So it is after one run.
   abbrev pub RanAndKept : Result Status RunFault → Console P S → Console P S → Type 0
   RanAndKept ended old new = (all : Effects) × (ran : Ran g h ended old new all)
       × ((first : Contents) → Holds h old.shell.full_text first → IsClean h new.shell.full_text
-      → PromiseKept first (parts_of old.shell) (read_by g h ended old new all ran ∷ []) all (parts_of new.shell))
+      → PromiseKept first (shell_parts old.shell) (read_by g h ended old new all ran ∷ []) all (shell_parts new.shell))

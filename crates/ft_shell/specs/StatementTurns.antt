@@ -8,15 +8,15 @@ use Rattle.shell_text.specs.Print.{Settings}
 use Rattle.shell_text.specs.Words.{is_unclosed}
 use Rattle.ft_content.specs.Views.{TableInfo}
 use Rattle.ft_index.specs.Kept.{FullText}
-use Rattle.ft_statements.specs.Words.{tokens_of}
+use Rattle.ft_statements.specs.Words.{sql_tokens}
 use Rattle.ft_statements.specs.Statements.{Class, Plain, FullText as FullTextClass, class_of}
 use Rattle.ft_shell.specs.FullTextTurns.{FullTextTurn}
 use Rattle.ft_shell.specs.PlainTurns.{PlainTurn, OrNothing}
 use Rattle.shell_io.specs.Outcomes.{Answer, blames}
 
 -- the names of the full-text tables that are there
-abbrev pub table_names : {S : Type 0} → FullText S → List (List ℕ)
-table_names known = map (λ (t : TableInfo). t.name) known.tables
+abbrev pub known_names : {S : Type 0} → FullText S → List (List ℕ)
+known_names known = map (λ (t : TableInfo). t.name) known.tables
 
 module _ {P S : Type 0} (g : Ghosts P) (h : Ghosts S) (settings : Settings) (text : List ℕ) (old new : Held P) (before after : FullText S) (told : Answer) where
   -- nothing is done, and this is the fault line
@@ -31,4 +31,4 @@ module _ {P S : Type 0} (g : Ghosts P) (h : Ghosts S) (settings : Settings) (tex
   -- the turn of a statement's class; or, for want of memory, nothing
   abbrev pub StatementTurn : Type 0
   StatementTurn = OrNothing (MatchBool (is_unclosed text) (Declines (codes "incomplete input"))
-      (ClassTurn (class_of (table_names before) (tokens_of text)))) old new before after told
+      (ClassTurn (class_of (known_names before) (sql_tokens text)))) old new before after told

@@ -9,7 +9,7 @@ use Rattle.shell_text.specs.Words.{is_unclosed}
 use Rattle.ft_content.specs.Command.{Insert}
 use Rattle.ft_index.specs.Kept.{FullText}
 use Rattle.ft_index.specs.Called.{Call, Executed, Looked, Noted}
-use Rattle.ft_statements.specs.Words.{tokens_of}
+use Rattle.ft_statements.specs.Words.{sql_tokens}
 use Rattle.ft_statements.specs.Plain.{asks, made_name}
 use Rattle.ft_statements.specs.Statements.{Class, Plain, FullText as FullTextClass, class_of}
 use Rattle.ft_statements.specs.Dots.{DotCommand, Import, Nothing, SetMode, SetHeaders, SetSeparator, SetNull, SetEcho, SetBail, Print}
@@ -20,12 +20,12 @@ use Rattle.plain_sql.specs.Imports.{delimiter_of, row_cells}
 use Rattle.ft_shell.specs.FullTextTurns.{MaybeNotes}
 use Rattle.ft_shell.specs.PlainTurns.{CommandTurn, done, refused}
 use Rattle.plain_sql.specs.PlainStatements.{QueryTurn}
-use Rattle.ft_shell.specs.StatementTurns.{ClassTurn, Declines, StatementTurn, table_names}
+use Rattle.ft_shell.specs.StatementTurns.{ClassTurn, Declines, StatementTurn, known_names}
 use Rattle.ft_shell.specs.DotTurns.{DotTurn}
 use Rattle.ft_shell.specs.ImportTurns as imports
 use Rattle.ft_shell.specs.TablesTurns as tables
 use Rattle.ft_shell.specs.TablesTurns.{TablesTurn}
-use Rattle.ft_shell.specs.ImportTurns.{BytesTurn, DelimitedTurn, FileTurn, IntoNamed, IntoNew, PlainImport, TextImport, columns_in}
+use Rattle.ft_shell.specs.ImportTurns.{BytesTurn, DelimitedTurn, FileTurn, IntoNamed, IntoNew, PlainImport, TextImport, width_in}
 use Rattle.shell_io.specs.Records.{kept, records_in}
 use Rattle.shell_io.specs.Outcomes.{Answer}
 
@@ -50,20 +50,20 @@ module _ {P S : Type 0} (g : Ghosts P) (h : Ghosts S) (settings : Settings) wher
     command_in name (refused e is same tells) = []
 
     abbrev pub plain_in : (is_query : Bool) → MatchBool is_query (QueryTurn g settings text old new told × (after ≡ before))
-        (CommandTurn g h text (made_name (tokens_of text)) old new before after told) → List Call
+        (CommandTurn g h text (made_name (sql_tokens text)) old new before after told) → List Call
     plain_in true it = []
-    plain_in false it = command_in (made_name (tokens_of text)) it
+    plain_in false it = command_in (made_name (sql_tokens text)) it
 
     -- a full-text statement executes its command
     abbrev pub class_in : (class : Option Class) → ClassTurn g h settings text old new before after told class → List Call
     class_in None it = []
-    class_in (Some Plain) it = plain_in (asks (tokens_of text)) it
+    class_in (Some Plain) it = plain_in (asks (sql_tokens text)) it
     class_in (Some (FullTextClass command)) it = Executed command it.1.answer ∷ []
 
     abbrev pub closed_in : (is_open : Bool) → MatchBool is_open (Declines g h settings text old new before after told (codes "incomplete input"))
-        (ClassTurn g h settings text old new before after told (class_of (table_names before) (tokens_of text))) → List Call
+        (ClassTurn g h settings text old new before after told (class_of (known_names before) (sql_tokens text))) → List Call
     closed_in true it = []
-    closed_in false it = class_in (class_of (table_names before) (tokens_of text)) it
+    closed_in false it = class_in (class_of (known_names before) (sql_tokens text)) it
 
     abbrev pub statement_in : StatementTurn g h settings text old new before after told → List Call
     statement_in (inl it) = closed_in (is_unclosed text) it
@@ -93,7 +93,7 @@ module _ {P S : Type 0} (g : Ghosts P) (h : Ghosts S) where
     named_in rows None it = table_in what rows old new before after told it
 
     abbrev pub bytes_in : (delimiter : ℕ) (bytes : List ℕ) → BytesTurn g h what old new before after told delimiter bytes → List Call
-    bytes_in delimiter bytes (imports.read found are (inl it)) = named_in (kept what.skip found) (columns_in before.tables what.table) it
+    bytes_in delimiter bytes (imports.read found are (inl it)) = named_in (kept what.skip found) (width_in before.tables what.table) it
     bytes_in delimiter bytes (imports.read found are (inr nothing)) = []
     bytes_in delimiter bytes (imports.no_text is nothing) = []
     bytes_in delimiter bytes (imports.no_memory nothing) = []

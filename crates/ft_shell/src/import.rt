@@ -3,7 +3,7 @@ ghost use Rattle.std.specs.Prelude.{◌≡◌, ◌+◌, ◌^◌, ◌<◌, length
 ghost use Rattle.std.specs.List.{enumerate_from};
 ghost use Rattle.ft_content.specs.Views.{shown_info};
 ghost use Rattle.ft_statements.specs.DotViews.{import_as};
-ghost use Rattle.ft_shell.specs.ImportTurns.{columns_in, TextImport, IntoNamed, IntoNew, PlainImport};
+ghost use Rattle.ft_shell.specs.ImportTurns.{width_in, TextImport, IntoNamed, IntoNew, PlainImport};
 ghost use Rattle.ft_shell.specs.DotTurns.{DotTurn};
 ghost use Rattle.ft_shell.specs.Shell.{shell_of};
 ghost use Rattle.ft_statements.specs.Dots.{Importing};
@@ -62,7 +62,7 @@ fn records_turn<P: Alter, S: Alter>(
     requires { first + length records.items < 2 ^ 64 }
     ensures { IntoNamed P.Store S.Store (import_as what.now) plain.old plain.new full_text.old
         full_text.new (answer_as result) (enumerate_from first (map texts_of records.items))
-        (columns_in full_text.old.tables (import_as what.now).table) }
+        (width_in full_text.old.tables (import_as what.now).table) }
 {
     match columns_named(full_text.tables(), what.table.as_str()) {
         Some(columns) => full_text_import(alloc, full_text, what, columns, first, records),
@@ -72,7 +72,7 @@ fn records_turn<P: Alter, S: Alter>(
 
 // How many columns the full-text table of this name has, if there is one.
 fn columns_named(tables: &[TableInfo], name: &str) -> Option<usize>
-    ensures { result ≡ columns_in (map shown_info tables.now) name.now }
+    ensures { result ≡ width_in (map shown_info tables.now) name.now }
 {
     match table_place(tables, name) {
         Some(place) => Some(tables[place].columns.len()),

@@ -6,7 +6,7 @@ ghost use Rattle.shell_io.specs.LinesRead.{HasNoEnd, Way, at_end, behind, member
 ghost use Rattle.ft_shell.specs.Ran.{moment, Ends, GoesOn, IsWithinLine, NoneWaits, Runs, TakesRead};
 ghost use Rattle.ft_shell.specs.Runs.{console_of};
 ghost use Rattle.ft_shell.specs.Promise.{IsAny, IsClean, KeptByRuns, RanAndKept};
-ghost use Rattle.ft_index.specs.Crashes.{IsSettled};
+ghost use Rattle.ft_index.specs.Crashes.{SurvivesCrash};
 ghost use Rattle.ft_shell.specs.Shell.{shell_with};
 ghost use Rattle.shell_io.specs.Sources.{Files};
 ghost use Rattle.shell_io.specs.Writing.{SameWriters};
@@ -126,7 +126,7 @@ impl<P: Alter, S: Alter> Session<P, S> {
 
     // The law that a crash leaves what an open store holds, and nothing else.
     fn is_settled(&self)
-        ensures { IsSettled S.Store self.now.full_text }
+        ensures { SurvivesCrash S.Store self.now.full_text }
     {
         self.full_text.is_settled();
     }

@@ -9,7 +9,7 @@ ghost use Rattle.ft_shell.specs.FullTextTurns.{FullTextTurn, NoteTurn};
 ghost use Rattle.ft_shell.specs.PlainTurns.{CommandTurn, PlainTurn, OrNothing};
 ghost use Rattle.shell_text.specs.Words.{words_of};
 ghost use Rattle.ft_statements.specs.Plain.{seeks};
-ghost use Rattle.ft_statements.specs.Words.{tokens_of};
+ghost use Rattle.ft_statements.specs.Words.{sql_tokens};
 ghost use Rattle.ft_content.specs.Views as views;
 
 use crate::dot_turn::dot_line_turn;
@@ -101,7 +101,7 @@ fn command_turn<P: Alter, S: Alter>(
     text: &str,
     statement: &PlainStatement,
 ) -> Answer
-    requires { statement.now.seeks ≡ seeks (tokens_of text.now) }
+    requires { statement.now.seeks ≡ seeks (sql_tokens text.now) }
     ensures { CommandTurn P.Store S.Store text.now
         (option_map string_bytes statement.now.made) plain.old plain.new full_text.old
         full_text.new (answer_as result) }

@@ -1,9 +1,9 @@
 -- A dot line is read as its grammar says.
-use Rattle.std.proofs.Common.{◌≡◌, inl, inr, ℕ, Bool, true, false, cond, List, [], ◌∷◌, Option, Some, None, option_map, refl, sym, ap, ◌∙◌, bytes_eq}
+use Rattle.std.proofs.Common.{◌≡◌, inl, inr, ℕ, Bool, true, false, cond, List, [], ◌∷◌, Option, Some, None, option_map, unwrap_or, refl, sym, ap, ◌∙◌, bytes_eq}
 use Rattle.std.proofs.lemmas.Slice.Eq.{bytes_eq-Decides}
 use Rattle.ft_statements.specs.Forms.{Form, means, one, ends, ◌&◌, ◌·◌, Has}
-use Rattle.ft_statements.specs.Reading.{Reads, ◌>>=◌, word_at, end_at, onto_read, found, read}
-use Rattle.ft_statements.specs.Dots.{DotCommand, Row, rows, SaysRow, SaysIn, Says, usage_in, made_in, or_usage, usage_of, made, dot_command_of, any_words, files, file_named, options, Import, import, import_of}
+use Rattle.ft_statements.specs.Reading.{FrontRead, ◌>>=◌, one_at, end_at, onto_read, found, read}
+use Rattle.ft_statements.specs.Dots.{DotCommand, Row, rows, Usage, SaysRow, SaysIn, Says, said_in, dot_command_of, all_words, files, file_named, options, Import, import, import_of}
 use Rattle.ft_statements.proofs.FormLaw.{none_or, found_sound, found_complete}
 
 -- ---- the law
@@ -14,65 +14,65 @@ whole_sound form = found_sound (form · ends) λ ts x rest has. has.3.1
 whole_complete : (form : Form (List ℕ) DotCommand) (words : List (List ℕ)) (c : DotCommand) → Has (form · ends) words c [] → found (read (form · ends) words) ≡ Some c
 whole_complete form words c = found_complete (form · ends) words c []
 
-row_sound : (r : Row) (words : List (List ℕ)) (c : DotCommand) → or_usage (Some r.usage) (found (read (r.form · ends) words)) ≡ c → SaysRow r words c
+row_sound : (r : Row) (words : List (List ℕ)) (c : DotCommand) → unwrap_or (found (read (r.form · ends) words)) (Usage r.usage) ≡ c → SaysRow r words c
 row_sound r words c e = by_read (found (read (r.form · ends) words)) refl e where
-  by_read : (o : Option DotCommand) → found (read (r.form · ends) words) ≡ o → or_usage (Some r.usage) o ≡ c → SaysRow r words c
+  by_read : (o : Option DotCommand) → found (read (r.form · ends) words) ≡ o → unwrap_or o (Usage r.usage) ≡ c → SaysRow r words c
   by_read (Some d) is e1 = inl (whole_sound r.form words c (is ∙ ap Some e1))
   by_read None is e1 = inr ((λ d has. let some = whole_complete r.form words d has in cc), sym e1)
 
-row_complete : (r : Row) (words : List (List ℕ)) (c : DotCommand) → SaysRow r words c → or_usage (Some r.usage) (found (read (r.form · ends) words)) ≡ c
-row_complete r words c (inl has) = ap (or_usage (Some r.usage)) (whole_complete r.form words c has)
+row_complete : (r : Row) (words : List (List ℕ)) (c : DotCommand) → SaysRow r words c → unwrap_or (found (read (r.form · ends) words)) (Usage r.usage) ≡ c
+row_complete r words c (inl has) = ap (λ o. unwrap_or o (Usage r.usage)) (whole_complete r.form words c has)
 row_complete r words c (inr (never, is)) =
-    ap (or_usage (Some r.usage)) (none_or (found (read (r.form · ends) words)) λ d some. never d (whole_sound r.form words d some)) ∙ sym is
+    ap (λ o. unwrap_or o (Usage r.usage)) (none_or (found (read (r.form · ends) words)) λ d some. never d (whole_sound r.form words d some)) ∙ sym is
 
-in_sound : (rs : List {1} Row) (name : List ℕ) (words : List (List ℕ)) (c : DotCommand) → or_usage (usage_in rs name) (made_in rs name words) ≡ c → SaysIn rs name words c
+-- the row that is taken
+abbrev chosen : Bool → Row → List {1} Row → List ℕ → List (List ℕ) → DotCommand
+chosen b r rs name words = cond b (unwrap_or (found (read (r.form · ends) words)) (Usage r.usage)) (said_in rs name words)
+
+in_sound : (rs : List {1} Row) (name : List ℕ) (words : List (List ℕ)) (c : DotCommand) → said_in rs name words ≡ c → SaysIn rs name words c
 in_sound [] name words c e = sym e
 in_sound (r ∷ rs) name words c e = by_test (in_sound rs name words c) (bytes_eq name r.name) refl e where
-  by_test : (or_usage (usage_in rs name) (made_in rs name words) ≡ c → SaysIn rs name words c) → (b : Bool) → bytes_eq name r.name ≡ b →
-      or_usage (cond b (Some r.usage) (usage_in rs name)) (cond b (found (read (r.form · ends) words)) (made_in rs name words)) ≡ c → SaysIn (r ∷ rs) name words c
+  by_test : (said_in rs name words ≡ c → SaysIn rs name words c) → (b : Bool) → bytes_eq name r.name ≡ b → chosen b r rs name words ≡ c → SaysIn (r ∷ rs) name words c
   by_test later true is e1 = inl ((bytes_eq-Decides name r.name).0 is, row_sound r words c e1)
   by_test later false other e1 = inr ((λ same. let is = (bytes_eq-Decides name r.name).1 same in cc), later e1)
 
-in_complete : (rs : List {1} Row) (name : List ℕ) (words : List (List ℕ)) (c : DotCommand) → SaysIn rs name words c → or_usage (usage_in rs name) (made_in rs name words) ≡ c
+in_complete : (rs : List {1} Row) (name : List ℕ) (words : List (List ℕ)) (c : DotCommand) → SaysIn rs name words c → said_in rs name words ≡ c
 in_complete [] name words c is = sym is
-in_complete (r ∷ rs) name words c (inl (same, says)) =
-    ap (λ b. or_usage (cond b (Some r.usage) (usage_in rs name)) (cond b (found (read (r.form · ends) words)) (made_in rs name words))) ((bytes_eq-Decides name r.name).1 same)
-    ∙ row_complete r words c says
+in_complete (r ∷ rs) name words c (inl (same, says)) = ap (λ b. chosen b r rs name words) ((bytes_eq-Decides name r.name).1 same) ∙ row_complete r words c says
 in_complete (r ∷ rs) name words c (inr (other, says)) = by_test (bytes_eq name r.name) refl (in_complete rs name words c says) where
-  by_test : (b : Bool) → bytes_eq name r.name ≡ b → or_usage (usage_in rs name) (made_in rs name words) ≡ c →
-      or_usage (cond b (Some r.usage) (usage_in rs name)) (cond b (found (read (r.form · ends) words)) (made_in rs name words)) ≡ c
+  by_test : (b : Bool) → bytes_eq name r.name ≡ b → said_in rs name words ≡ c → chosen b r rs name words ≡ c
   by_test true is later = absurd (other ((bytes_eq-Decides name r.name).0 is))
   by_test false is later = later
 
 pub line_sound : (words : List (List ℕ)) (c : DotCommand) → dot_command_of words ≡ c → Says words c
-unfolding dot_command_of usage_of made
+unfolding dot_command_of
 line_sound [] c e = sym e
 line_sound (name ∷ words) c e = in_sound rows name words c e
 
 pub line_complete : (words : List (List ℕ)) (c : DotCommand) → Says words c → dot_command_of words ≡ c
-unfolding dot_command_of usage_of made
+unfolding dot_command_of
 line_complete [] c is = sym is
 line_complete (name ∷ words) c says = in_complete rows name words c says
 
 -- ---- what the code reads
 
-abbrev at_end : {A : Type 0} → A × List (List ℕ) → Reads (List ℕ) A
+abbrev at_end : {A : Type 0} → A × List (List ℕ) → FrontRead (List ℕ) A
 at_end r = end_at r.1 >>= λ s. Some (r.0, s.1)
 
 -- what was read, where nothing is left
-abbrev ended : {A : Type 0} → Reads (List ℕ) A → Option A
+abbrev ended : {A : Type 0} → FrontRead (List ℕ) A → Option A
 ended o = found (o >>= at_end)
 
-abbrev given : {A B : Type 0} → (A → B) → A × List (List ℕ) → Reads (List ℕ) B
+abbrev given : {A B : Type 0} → (A → B) → A × List (List ℕ) → FrontRead (List ℕ) B
 given f s = Some (f s.0, s.1)
 
-abbrev before : {A : Type 0} → List (List ℕ) → A → Reads (List ℕ) A
+abbrev before : {A : Type 0} → List (List ℕ) → A → FrontRead (List ℕ) A
 before rest x = Some (x, rest)
 
 -- a command of what a form means
 pub mapped : {A B : Type 0} (f : A → B) (form : Form (List ℕ) A) (words : List (List ℕ)) → found (read (means f & form · ends) words) ≡ option_map f (found (read (form · ends) words))
 mapped {A} f form words = by_read (read form words) where
-  by_read : (o : Reads (List ℕ) A) → ended (o >>= given f) ≡ option_map f (ended o)
+  by_read : (o : FrontRead (List ℕ) A) → ended (o >>= given f) ≡ option_map f (ended o)
   by_read None = refl
   by_read (Some (x, [])) = refl
   by_read (Some (x, w ∷ ws)) = refl
@@ -89,11 +89,11 @@ alone {A} f (w ∷ v ∷ ws) = by_word (f w) where
   by_word None = refl
   by_word (Some x) = refl
 
-any_there : (words : List (List ℕ)) → read any_words words ≡ Some (words, [])
+any_there : (words : List (List ℕ)) → read all_words words ≡ Some (words, [])
 any_there [] = refl
 any_there (w ∷ ws) = ap (onto_read w) (any_there ws)
 
-pub printed : (f : List (List ℕ) → DotCommand) (words : List (List ℕ)) → found (read (means f & any_words · ends) words) ≡ Some (f words)
+pub printed : (f : List (List ℕ) → DotCommand) (words : List (List ℕ)) → found (read (means f & all_words · ends) words) ≡ Some (f words)
 printed f words = ap (λ o. ended (o >>= given f)) (any_there words)
 
 -- ---- .import
@@ -110,8 +110,8 @@ files_in (file ∷ rest) = second rest (file_named file)
 abbrev paired : List ℕ → List ℕ → List ℕ × List ℕ
 paired file table = (file, table)
 
-abbrev next : {A : Type 0} → (List ℕ → A) × List (List ℕ) → Reads (List ℕ) A
-next r = word_at Some r.1 >>= λ s. Some (r.0 s.0, s.1)
+abbrev next : {A : Type 0} → (List ℕ → A) × List (List ℕ) → FrontRead (List ℕ) A
+next r = one_at Some r.1 >>= λ s. Some (r.0 s.0, s.1)
 
 pub files_are : (words : List (List ℕ)) → found (read (files · ends) words) ≡ files_in words
 unfolding files
@@ -128,17 +128,17 @@ files_are (file ∷ rest) = by_name rest (file_named file) where
 abbrev named : Bool × Option ℕ → List ℕ × List ℕ → Option Import
 named options names = Some (import_of options names)
 
-abbrev with_files : (List ℕ × List ℕ → Import) × List (List ℕ) → Reads (List ℕ) Import
+abbrev with_files : (List ℕ × List ℕ → Import) × List (List ℕ) → FrontRead (List ℕ) Import
 with_files r = read files r.1 >>= λ s. Some (r.0 s.0, s.1)
 
 pub import_read : (words : List (List ℕ)) → found (read (import · ends) words) ≡ (read options words >>= λ o. found (read (files · ends) o.1) >>= named o.0)
 unfolding import
 import_read words = by_options (read options words) where
-  by_files : (o : Bool × Option ℕ) (r : Reads (List ℕ) (List ℕ × List ℕ)) → ended (r >>= given (import_of o)) ≡ (ended r >>= named o)
+  by_files : (o : Bool × Option ℕ) (r : FrontRead (List ℕ) (List ℕ × List ℕ)) → ended (r >>= given (import_of o)) ≡ (ended r >>= named o)
   by_files o None = refl
   by_files o (Some (f, [])) = refl
   by_files o (Some (f, w ∷ ws)) = refl
 
-  by_options : (o : Reads (List ℕ) (Bool × Option ℕ)) → ended ((o >>= given import_of) >>= with_files) ≡ (o >>= λ o. found (read (files · ends) o.1) >>= named o.0)
+  by_options : (o : FrontRead (List ℕ) (Bool × Option ℕ)) → ended ((o >>= given import_of) >>= with_files) ≡ (o >>= λ o. found (read (files · ends) o.1) >>= named o.0)
   by_options None = refl
   by_options (Some (o, rest)) = by_files o (read files rest)

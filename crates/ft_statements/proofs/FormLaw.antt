@@ -2,7 +2,7 @@
 use Rattle.std.proofs.Common.{◌≡◌, inl, inr, ℕ, zero, suc, ◌+◌, ◌≤◌, ◌<◌, Bool, true, false, cond, List, [], ◌∷◌, ◌++◌, length, Option, Some, None, refl, sym, ap, ◌∙◌, subst, arith, append_assoc, length-append}
 use Rattle.std.specs.Option.{option_or}
 use Rattle.ft_statements.specs.Forms.{Mark, Opens, Closes, Parts, Other, Form, means, one, ends, ◌&◌, ◌·◌, such, when, first, list, balanced, begins, Separated, last_part, then_comma, IsBalanced, no_word, any_word, any_part, group, Stops, at_end, at_close, at_part, Has}
-use Rattle.ft_statements.specs.Reading.{Reads, ◌>>=◌, onto_read, word_at, end_at, list_behind, list_at, balanced_step, balanced_at, read, found}
+use Rattle.ft_statements.specs.Reading.{FrontRead, ◌>>=◌, onto_read, one_at, end_at, list_behind, list_at, balanced_step, balanced_at, read, found}
 
 -- ---- steps one after the other
 
@@ -23,7 +23,7 @@ pub none_or : {A : Type 0} (o : Option A) → ((x : A) → ¬ (o ≡ Some x)) �
 none_or None never = refl
 none_or (Some x) never = absurd (never x refl)
 
-pub from_onto : {W A : Type 0} (P : List A → List W → Type 0) (x : A) (later : Reads W (List A)) {xs : List A} {rest : List W} → onto_read x later ≡ Some (xs, rest) →
+pub from_onto : {W A : Type 0} (P : List A → List W → Type 0) (x : A) (later : FrontRead W (List A)) {xs : List A} {rest : List W} → onto_read x later ≡ Some (xs, rest) →
     ((ys : List A) → later ≡ Some (ys, rest) → P (x ∷ ys) rest) → P xs rest
 from_onto P x None e go = cc
 from_onto P x (Some (ys, left)) {xs} {rest} e go =
@@ -45,12 +45,12 @@ means_read x = record {
 
 one_read : {W A : Type 0} (f : W → Option A) → IsRead (one f)
 one_read {W} {A} f = record { sound = sound; complete = complete; within = λ ts y rest has. omega (arith, ap length has.1) } where
-  sound : (ts : List W) (x : A) (rest : List W) → word_at f ts ≡ Some (x, rest) → (t : W) × (ts ≡ t ∷ rest) × (f t ≡ Some x)
+  sound : (ts : List W) (x : A) (rest : List W) → one_at f ts ≡ Some (x, rest) → (t : W) × (ts ≡ t ∷ rest) × (f t ≡ Some x)
   sound [] x rest e = cc
   sound (t ∷ ts) x rest e = bound (f t) _ e λ y is e1. finally (λ r. (u : W) × (t ∷ ts ≡ u ∷ r.1) × (f u ≡ Some r.0)) (t, refl, is) e1
 
-  complete : (ts : List W) (x : A) (rest : List W) → (t : W) × (ts ≡ t ∷ rest) × (f t ≡ Some x) → word_at f ts ≡ Some (x, rest)
-  complete ts x rest has = ap (word_at f) has.1 ∙ goes_on _ has.2 refl
+  complete : (ts : List W) (x : A) (rest : List W) → (t : W) × (ts ≡ t ∷ rest) × (f t ≡ Some x) → one_at f ts ≡ Some (x, rest)
+  complete ts x rest has = ap (one_at f) has.1 ∙ goes_on _ has.2 refl
 
 ends_read : {W : Type 0} → IsRead {W = W} ends
 ends_read {W} = record {
@@ -106,7 +106,7 @@ first_read : {W A : Type 0} (p q : Form W A) → IsRead p → IsRead q → IsRea
 first_read {W} {A} p q by_p by_q = record { sound = sound; complete = complete; within = within } where
   sound : (ts : List W) (x : A) (rest : List W) → option_or (read p ts) (read q ts) ≡ Some (x, rest) → Has (first p q) ts x rest
   sound ts x rest e = by_case (read p ts) refl e where
-    by_case : (o : Reads W A) → read p ts ≡ o → option_or o (read q ts) ≡ Some (x, rest) → Has (first p q) ts x rest
+    by_case : (o : FrontRead W A) → read p ts ≡ o → option_or o (read q ts) ≡ Some (x, rest) → Has (first p q) ts x rest
     by_case (Some r) is e1 = inl (by_p.sound ts x rest (is ∙ e1))
     by_case None is e1 = inr ((λ y left has. let found = by_p.complete ts y left has in cc), by_q.sound ts x rest e1)
 
@@ -133,7 +133,7 @@ list_read {W} {A} comma p by_p = record { sound = λ ts xs rest e. sound (length
       by_test true is e2 = from_onto (Separated comma (Has p) ts) x _ e2 λ ys found. then_comma has is (later us ys rest found)
       by_test false is e2 = finally (λ z. Separated comma (Has p) ts z.0 z.1) (last_part has is) e2
 
-  last_behind : (more : List W → Reads W (List A)) (x : A) (us : List W) → begins comma us ≡ false → list_behind comma more x us ≡ Some (x ∷ [], us)
+  last_behind : (more : List W → FrontRead W (List A)) (x : A) (us : List W) → begins comma us ≡ false → list_behind comma more x us ≡ Some (x ∷ [], us)
   last_behind more x [] other = refl
   last_behind more x (t ∷ us) other = ap (λ b. cond b (onto_read x (more us)) (Some (x ∷ [], t ∷ us))) other
 
@@ -193,11 +193,11 @@ balanced_sound {W} mark (t ∷ ts) d us rest e = by_mark (balanced_sound mark ts
   by_mark on Other is d e = from_onto (Front mark d (t ∷ ts)) t _ e λ vs read. front_on (on d vs rest read) (closing_other is)
 
 -- words put before what is read after them
-abbrev pub all_onto : {W A : Type 0} → List A → Reads W (List A) → Reads W (List A)
+abbrev pub all_onto : {W A : Type 0} → List A → FrontRead W (List A) → FrontRead W (List A)
 all_onto [] later = later
 all_onto (u ∷ us) later = onto_read u (all_onto us later)
 
-pub onto_all : {W A : Type 0} (us : List A) (t : A) (vs : List A) (later : Reads W (List A)) → all_onto (us ++ t ∷ vs) later ≡ all_onto us (onto_read t (all_onto vs later))
+pub onto_all : {W A : Type 0} (us : List A) (t : A) (vs : List A) (later : FrontRead W (List A)) → all_onto (us ++ t ∷ vs) later ≡ all_onto us (onto_read t (all_onto vs later))
 onto_all [] t vs later = refl
 onto_all (u ∷ us) t vs later = ap (onto_read u) (onto_all us t vs later)
 

@@ -8,9 +8,9 @@ use Rattle.ft_statements.specs.declared.statement.StatementFault.{StatementFault
 use Rattle.ft_statements.specs.declared.statement.StatementFault.TheVariants.{Syntax}
 use Rattle.ft_statements.specs.declared.reading.Reader.{Reader}
 use Rattle.ft_statements.specs.Forms.{Mark, Opens, Closes, Parts, Other, begins}
-use Rattle.ft_statements.specs.Words.{Token, is_symbol}
-use Rattle.ft_statements.specs.Reading.{◌>>=◌, Reads, onto_read, list_behind, list_at, balanced_step, balanced_at, depth_after, ends_part, read}
-use Rattle.ft_statements.specs.Grammar.{symbol, mark_of}
+use Rattle.ft_statements.specs.Words.{Token, spells}
+use Rattle.ft_statements.specs.Reading.{◌>>=◌, FrontRead, onto_read, list_behind, list_at, balanced_step, balanced_at, depth_after, ends_part, read}
+use Rattle.ft_statements.specs.Grammar.{spelled, mark_of}
 use Rattle.ft_statements.specs.declared.words.Token.{Token as RustToken}
 use Rattle.ft_statements.specs.Views.{seen, plain, rest_of, Advances}
 use Rattle.ft_statements.proofs.FormLaw.{all_onto, onto_all, all_there, some_inj}
@@ -18,15 +18,15 @@ use Rattle.ft_statements.proofs.FormLaw.{all_onto, onto_all, all_there, some_inj
 -- ---- lists
 
 abbrev pub is_comma : Token → Bool
-is_comma t = is_symbol (codes ",") t
+is_comma t = spells (codes ",") t
 
 -- there are as many words as tokens
-pub at_most : {A : Type 0} (form : List Token → Reads Token A) (ps : List RustToken) → list_at is_comma form (length (plain ps) + 1) (plain ps) ≡ list_at is_comma form (length ps + 1) (plain ps)
+pub at_most : {A : Type 0} (form : List Token → FrontRead Token A) (ps : List RustToken) → list_at is_comma form (length (plain ps) + 1) (plain ps) ≡ list_at is_comma form (length ps + 1) (plain ps)
 at_most form ps = ap (λ n. list_at is_comma form (n + 1) (plain ps)) (length-map ps seen)
 
 -- after a comma, the list goes on
-pub list_goes : {A : Type 0} (form : List Token → Reads Token A) (n i : ℕ) (found : List A) (ts us rest : List Token) (x : A) (all : List A) → i < n → form ts ≡ Some (x, us) → begins is_comma us ≡ true →
-    read (symbol (codes ",")) us ≡ Some (tt, rest) → all ≡ found ++ x ∷ [] → all_onto all (list_at is_comma form (n - (i + 1)) rest) ≡ all_onto found (list_at is_comma form (n - i) ts)
+pub list_goes : {A : Type 0} (form : List Token → FrontRead Token A) (n i : ℕ) (found : List A) (ts us rest : List Token) (x : A) (all : List A) → i < n → form ts ≡ Some (x, us) → begins is_comma us ≡ true →
+    read (spelled (codes ",")) us ≡ Some (tt, rest) → all ≡ found ++ x ∷ [] → all_onto all (list_at is_comma form (n - (i + 1)) rest) ≡ all_onto found (list_at is_comma form (n - i) ts)
 list_goes form n i found ts [] rest x all h is there passed are = cc
 list_goes form n i found ts (t ∷ us) rest x all h is there passed are =
     let more = list_at is_comma form (n - (i + 1)) in
@@ -39,7 +39,7 @@ list_goes form n i found ts (t ∷ us) rest x all h is there passed are =
     ∙ ap (λ m. all_onto found (list_at is_comma form m ts)) one
 
 -- where none stands, it ends
-pub list_stops : {A : Type 0} (form : List Token → Reads Token A) (n i : ℕ) (found : List A) (ts us rest : List Token) (x : A) (all : List A) → i < n → form ts ≡ Some (x, us) → begins is_comma us ≡ false →
+pub list_stops : {A : Type 0} (form : List Token → FrontRead Token A) (n i : ℕ) (found : List A) (ts us rest : List Token) (x : A) (all : List A) → i < n → form ts ≡ Some (x, us) → begins is_comma us ≡ false →
     all ≡ found ++ x ∷ [] → rest ≡ us → all_onto found (list_at is_comma form (n - i) ts) ≡ Some (all, rest)
 list_stops form n i found ts us rest x all h is there are left =
     let more = list_at is_comma form (n - (i + 1)) in
@@ -52,18 +52,18 @@ list_stops form n i found ts us rest x all h is there are left =
       last [] there = refl
       last (t ∷ us) there = ap (λ b. cond b (onto_read x (list_at is_comma form (n - (i + 1)) us)) (Some (x ∷ [], t ∷ us))) there
 
-onto_none : {A : Type 0} (found : List A) → all_onto found (let none : Reads Token (List A) = None in none) ≡ None
+onto_none : {A : Type 0} (found : List A) → all_onto found (let none : FrontRead Token (List A) = None in none) ≡ None
 onto_none [] = refl
 onto_none (x ∷ xs) = ap (onto_read x) (onto_none xs)
 
 -- where a part is none, the list is none
-pub list_fails : {A : Type 0} (form : List Token → Reads Token A) (n i : ℕ) (found : List A) (ts : List Token) → i < n → form ts ≡ None → all_onto found (list_at is_comma form (n - i) ts) ≡ None
+pub list_fails : {A : Type 0} (form : List Token → FrontRead Token A) (n i : ℕ) (found : List A) (ts : List Token) → i < n → form ts ≡ None → all_onto found (list_at is_comma form (n - i) ts) ≡ None
 list_fails form n i found ts h none =
     let more = list_at is_comma form (n - (i + 1)) in
     let one : n - i ≡ suc (n - (i + 1)) = omega (arith, h) in
     ap (λ m. all_onto found (list_at is_comma form m ts)) one ∙ ap (λ o. all_onto found (o >>= λ r. list_behind is_comma more r.0 r.1)) none ∙ onto_none found
 
-pub list_spent : {A : Type 0} (form : List Token → Reads Token A) (n i : ℕ) (found : List A) (ts : List Token) → n ≤ i → all_onto found (list_at is_comma form (n - i) ts) ≡ None
+pub list_spent : {A : Type 0} (form : List Token → FrontRead Token A) (n i : ℕ) (found : List A) (ts : List Token) → n ≤ i → all_onto found (list_at is_comma form (n - i) ts) ≡ None
 list_spent form n i found ts h = let none : n - i ≡ 0 = omega (arith, h) in ap (λ m. all_onto found (list_at is_comma form m ts)) none ∙ onto_none found
 
 -- one more is found
@@ -72,7 +72,7 @@ one_more shown found more x is = ap (map shown) is ∙ map-append shown found (x
 
 -- ---- any words
 
-step_on : (m : Mark) (t : Token) (ts : List Token) (more : ℕ → Reads Token (List Token)) (depth : ℕ) → (depth == 0 && ends_part m) ≡ false → balanced_step m t ts more depth ≡ onto_read t (more (depth_after m depth))
+step_on : (m : Mark) (t : Token) (ts : List Token) (more : ℕ → FrontRead Token (List Token)) (depth : ℕ) → (depth == 0 && ends_part m) ≡ false → balanced_step m t ts more depth ≡ onto_read t (more (depth_after m depth))
 step_on Opens t ts more depth e = refl
 step_on Closes t ts more zero e = cc
 step_on Closes t ts more (suc depth) e = let one : depth ≡ suc depth - 1 = omega arith in ap (λ d. onto_read t (more d)) one
@@ -83,7 +83,7 @@ step_on Other t ts more depth e = refl
 above : (n : ℕ) (b : Bool) → ¬ ((suc n == 0 && b) ≡ true)
 above n b e = grind (arith, nat_tests, e)
 
-step_out : (m : Mark) (t : Token) (ts : List Token) (more : ℕ → Reads Token (List Token)) (depth : ℕ) → (depth == 0 && ends_part m) ≡ true → balanced_step m t ts more depth ≡ Some ([], t ∷ ts)
+step_out : (m : Mark) (t : Token) (ts : List Token) (more : ℕ → FrontRead Token (List Token)) (depth : ℕ) → (depth == 0 && ends_part m) ≡ true → balanced_step m t ts more depth ≡ Some ([], t ∷ ts)
 step_out Opens t ts more zero e = cc
 step_out Closes t ts more zero e = refl
 step_out Parts t ts more zero e = refl
@@ -127,7 +127,7 @@ words_all ps i depth h none =
 -- ---- faults
 
 -- a fault goes on as it is
-pub fault_goes : {A B : Type 0} (shown : A → B) (form : List Token → Reads Token B) (before after : Reader) (result : Result A StatementFault) (fault : StatementFault) →
+pub fault_goes : {A B : Type 0} (shown : A → B) (form : List Token → FrontRead Token B) (before after : Reader) (result : Result A StatementFault) (fault : StatementFault) →
     IsErr result → IsErrAnd result (λ other. other ≡ fault) → (fault ≡ Syntax → form (rest_of before) ≡ None) → Advances shown form before after result
 fault_goes shown form before after (Ok x) fault is same none = absurd same
 fault_goes shown form before after (Err other) fault is same none = record { found = tt; none = λ e. let is_syntax : other ≡ Syntax = cc in none (sym same ∙ is_syntax) }

@@ -2,8 +2,8 @@
 use Rattle.std.proofs.Common.{◌≡◌, ℕ, ◌-◌, ◌≤◌, Bool, true, false, ◌||◌, ◌&&◌, List, [], ◌∷◌, length, drop, take, get_or, refl, sym, ap, ◌∙◌, arith, codes}
 use Rattle.std.specs.List.{list_any}
 use Rattle.std.proofs.lemmas.List.{length-drop, take_all}
-use Rattle.ft_statements.specs.Words.{Token, is_keyword}
-use Rattle.ft_statements.specs.Plain.{begins_query, may_return, asks}
+use Rattle.ft_statements.specs.Words.{Token, spells, is_one_of}
+use Rattle.ft_statements.specs.Plain.{query_words, writing_words, asks}
 use Rattle.ft_statements.specs.declared.words.Token.{Token as RustToken}
 use Rattle.ft_statements.specs.Views.{seen, plain}
 use Rattle.ft_statements.specs.Statements.{names_table}
@@ -23,9 +23,9 @@ any_seen test [] = refl
 any_seen test (p ∷ ps) = ap (λ b. test (seen p) || b) (any_seen test ps)
 
 -- a statement that begins as one that writes
-pub asks_writing : (ps : List RustToken) (d : RustToken) → 1 ≤ length ps → begins_query (seen (get_or ps 0 d)) ≡ false → may_return (seen (get_or ps 0 d)) ≡ true →
-    asks (plain ps) ≡ list_any (λ p. is_keyword (codes "RETURNING") (seen p)) (take (length ps - 1) (drop 1 ps))
+pub asks_writing : (ps : List RustToken) (d : RustToken) → 1 ≤ length ps → is_one_of query_words (seen (get_or ps 0 d)) ≡ false → is_one_of writing_words (seen (get_or ps 0 d)) ≡ true →
+    asks (plain ps) ≡ list_any (λ p. spells (codes "RETURNING") (seen p)) (take (length ps - 1) (drop 1 ps))
 asks_writing [] d h other writes = absurd (omega (arith, h))
 asks_writing (p ∷ ps) d h other writes =
-    (λ j. other j || (writes j && any_seen (is_keyword (codes "RETURNING")) ps j))
-    ∙ ap (list_any (λ p. is_keyword (codes "RETURNING") (seen p))) (sym (take_all (length (p ∷ ps) - 1) ps (omega arith)))
+    (λ j. other j || (writes j && any_seen (spells (codes "RETURNING")) ps j))
+    ∙ ap (list_any (λ p. spells (codes "RETURNING") (seen p))) (sym (take_all (length (p ∷ ps) - 1) ps (omega arith)))

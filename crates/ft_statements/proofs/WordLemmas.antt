@@ -10,7 +10,7 @@ use Rattle.std.proofs.Math.Seq.{take-append_seam}
 use Rattle.ft_statements.specs.Words.{StandsFor, nothing, other_character, doubled_mark, halved, closing, between_marks}
 use Rattle.std.proofs.lemmas.Bool.Decides.{nat_tests}
 use Rattle.shell_text.specs.WordForms as marked
-use Rattle.shell_text.specs.WordForms.{IsMarked}
+use Rattle.shell_text.specs.WordForms.{IsInMarks}
 
 characters_are : (text : List ℕ) (u : IsUtf8 text) → chars text ≡ u.0
 characters_are text u = sym (ap chars u.1.1) ∙ chars-encodes u.0 u.1.0
@@ -88,7 +88,7 @@ inside_marks text s t mark (Some c) u v is behind =
 
 -- ---- what stands between marks, and what it stands for
 
-pub stands_marked : {mark : ℕ} {inside text : List ℕ} → StandsFor mark inside text → IsMarked mark inside
+pub stands_marked : {mark : ℕ} {inside text : List ℕ} → StandsFor mark inside text → IsInMarks mark inside
 stands_marked nothing = marked.nothing
 stands_marked (other_character other s) = marked.other_byte other (stands_marked s)
 stands_marked (doubled_mark s) = marked.doubled_mark (stands_marked s)
@@ -113,12 +113,12 @@ stands_halved nothing = refl
 stands_halved {mark} (other_character {c} {inside} other s) = one_taken mark c inside other ∙ ap (λ cs. c ∷ cs) (stands_halved s)
 stands_halved {mark} (doubled_mark {inside} s) = two_taken mark inside ∙ ap (λ cs. mark ∷ cs) (stands_halved s)
 
-marked_stands : {mark : ℕ} {inside : List ℕ} → IsMarked mark inside → StandsFor mark inside (halved mark false inside)
+marked_stands : {mark : ℕ} {inside : List ℕ} → IsInMarks mark inside → StandsFor mark inside (halved mark false inside)
 marked_stands marked.nothing = nothing
 marked_stands {mark} (marked.other_byte {b} {bytes} other m) = subst (StandsFor mark (b ∷ bytes)) (sym (one_taken mark b bytes other)) (other_character other (marked_stands m))
 marked_stands {mark} (marked.doubled_mark {bytes} m) = subst (StandsFor mark (mark ∷ mark ∷ bytes)) (sym (two_taken mark bytes)) (doubled_mark (marked_stands m))
 
-pub halved_stands : (mark : ℕ) (inside text : List ℕ) → IsMarked mark inside × (halved mark false inside ≡ text) → StandsFor mark inside text
+pub halved_stands : (mark : ℕ) (inside text : List ℕ) → IsInMarks mark inside × (halved mark false inside ≡ text) → StandsFor mark inside text
 halved_stands mark inside text both = subst (StandsFor mark inside) both.1 (marked_stands both.0)
 
 pub between : (mark : ℕ) {inside text : List ℕ} → StandsFor (closing mark) inside text → between_marks (mark ∷ inside ++ closing mark ∷ []) ≡ text

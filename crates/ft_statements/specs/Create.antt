@@ -30,5 +30,5 @@ columns_in (Setting name value ∷ more) = columns_in more
 columns_in (Column name ∷ more) = name ∷ columns_in more
 
 -- the options and the columns each keep the order of the arguments
-abbrev pub created : Bool → List ℕ → List ℕ → List Argument → Command
-created new table kind given = Create table kind (settings_in given) (columns_in given) new
+abbrev pub create_with : Bool → List ℕ → List ℕ → List Argument → Command
+create_with new table kind given = Create table kind (settings_in given) (columns_in given) new

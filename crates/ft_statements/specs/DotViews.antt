@@ -1,5 +1,5 @@
 -- Steps. Dot-commands as the code holds them.
-use Rattle.std.specs.Prelude.{ℕ, ◌≡◌, Bool, List, map, Option, option_map, string_bytes, String}
+use Rattle.std.specs.Prelude.{ℕ, ◌≡◌, List, map, string_bytes, String}
 use Rattle.std.specs.declared.alloc.Global.{Global}
 use Rattle.std.specs.Borrow.{Bor}
 use Rattle.ft_statements.specs.declared.dots.DotCommand.{DotCommand}
@@ -25,22 +25,9 @@ command_as commands.Quit = forms.Quit
 command_as (commands.Usage text) = forms.Usage text.now
 command_as commands.Unknown = forms.Unknown
 
-abbrev pub words_left : Bor (List (String Global)) → List (List ℕ)
-words_left rest = map string_bytes rest.now
-
 -- what was read, and the words after it
-abbrev pub csv_words : Bool × Bor (List (String Global)) → Bool × List (List ℕ)
-csv_words read = (read.0, words_left read.1)
-
-abbrev pub skip_words : Option (Option ℕ × Bor (List (String Global))) → Option (Option ℕ × List (List ℕ))
-skip_words read = option_map (λ r. (r.0, words_left r.1)) read
-
-abbrev pub option_words : Option ((Bool × Option ℕ) × Bor (List (String Global))) → Option ((Bool × Option ℕ) × List (List ℕ))
-option_words read = option_map (λ r. (r.0, words_left r.1)) read
-
--- the names of a file and of a table
-abbrev pub two_words : Option (Bor (String Global) × Bor (String Global)) → Option (List ℕ × List ℕ)
-two_words files = option_map (λ f. (string_bytes f.0.now, string_bytes f.1.now)) files
+abbrev pub with_left : {A : Type 0} → A × Bor (List (String Global)) → A × List (List ℕ)
+with_left read = (read.0, map string_bytes read.1.now)
 
 -- the command that a line's words make, as it is read and as the grammar says
 pub record IsSaid (words : List (List ℕ)) (result : DotCommand) : Type 0 where

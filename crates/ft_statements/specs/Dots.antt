@@ -3,7 +3,7 @@
 -- these words, is our own choice.
 use Prim.Native.String.{String}
 use Rattle.std.specs.Prelude.{◌≡◌, ◌≢◌, ◌⊎◌, ℕ, nat_le, nat_lt, Bool, true, false, ◌&&◌}
-use Rattle.std.specs.Prelude.{◌||◌, List, [], ◌∷◌, length, Option, Some, None, if◌then◌else◌, codes, bytes_eq}
+use Rattle.std.specs.Prelude.{◌||◌, List, [], ◌∷◌, length, Option, Some, None, unwrap_or, if◌then◌else◌, codes, bytes_eq}
 use Rattle.std.specs.List.{list_all}
 use Rattle.std.specs.Char.{is_ascii_digit}
 use Rattle.std.specs.Str.{str_eq_ignore_ascii_case}
@@ -38,29 +38,26 @@ pub data DotCommand : Type 0 where
 
 -- ---- single words
 
-abbrev pub is_text : String → List ℕ → Bool
-is_text text word = bytes_eq word (codes text)
+abbrev pub is_exact : String → List ℕ → Bool
+is_exact text word = bytes_eq word (codes text)
 
 abbrev pub exact : String → Form (List ℕ) (Unit {0})
-exact text = one (λ word. if is_text text word then Some tt else None)
+exact text = one (λ word. if is_exact text word then Some tt else None)
 
 abbrev pub any_word : Form (List ℕ) (List ℕ)
 any_word = one Some
 
-abbrev pub any_words : Form (List ℕ) (List (List ℕ))
-any_words = balanced (λ word. Other)
+abbrev pub all_words : Form (List ℕ) (List (List ℕ))
+all_words = balanced (λ word. Other)
 
 -- list | csv | column | quote          ("Changing Output Formats")
 abbrev pub mode_named : List ℕ → Option Mode
 mode_named word =
-    if is_text "list" word then Some modes.List
-    else if is_text "csv" word then Some modes.Csv
-    else if is_text "column" word then Some modes.Column
-    else if is_text "quote" word then Some modes.Quote
+    if is_exact "list" word then Some modes.List
+    else if is_exact "csv" word then Some modes.Csv
+    else if is_exact "column" word then Some modes.Column
+    else if is_exact "quote" word then Some modes.Quote
     else None
-
-abbrev pub mode : Form (List ℕ) Mode
-mode = one mode_named
 
 abbrev pub is_same : String → List ℕ → Bool
 is_same text word = str_eq_ignore_ascii_case word (codes text)
@@ -68,12 +65,9 @@ is_same text word = str_eq_ignore_ascii_case word (codes text)
 -- on | yes | 1 | off | no | 0          in any case of ASCII letters
 abbrev pub switch_named : List ℕ → Option Bool
 switch_named word =
-    if is_same "on" word || is_same "yes" word || is_text "1" word then Some true
-    else if is_same "off" word || is_same "no" word || is_text "0" word then Some false
+    if is_same "on" word || is_same "yes" word || is_exact "1" word then Some true
+    else if is_same "off" word || is_same "no" word || is_exact "0" word then Some false
     else None
-
-abbrev pub switch : Form (List ℕ) Bool
-switch = one switch_named
 
 -- one to seven digits, at most 1,000,000
 abbrev pub skip_named : List ℕ → Option ℕ
@@ -83,19 +77,19 @@ skip_named word =
 
 -- an option is no FILE
 abbrev pub file_named : List ℕ → Option (List ℕ)
-file_named word = if is_text "--csv" word || is_text "--skip" word then None else Some word
+file_named word = if is_exact "--csv" word || is_exact "--skip" word then None else Some word
 
 -- ---- [--csv] [--skip N] FILE TABLE          the options in any order ("Importing files as CSV or
 -- other formats")
 
 unfoldable pub may_csv : Form (List ℕ) Bool
-may_csv = when (is_text "--csv") (means true · exact "--csv") (means false)
+may_csv = when (is_exact "--csv") (means true · exact "--csv") (means false)
 
 unfoldable pub may_skip : Form (List ℕ) (Option ℕ)
-may_skip = when (is_text "--skip") (means Some · exact "--skip" & one skip_named) (means None)
+may_skip = when (is_exact "--skip") (means Some · exact "--skip" & one skip_named) (means None)
 
 unfoldable pub options : Form (List ℕ) (Bool × Option ℕ)
-options = when (is_text "--csv") (means (λ csv skip. (csv, skip)) & may_csv & may_skip) (means (λ skip csv. (csv, skip)) & may_skip & may_csv)
+options = when (is_exact "--csv") (means (λ csv skip. (csv, skip)) & may_csv & may_skip) (means (λ skip csv. (csv, skip)) & may_skip & may_csv)
 
 unfoldable pub files : Form (List ℕ) (List ℕ × List ℕ)
 files = means (λ file table. (file, table)) & one file_named & any_word
@@ -114,23 +108,23 @@ pub record Row : Type 1 where
   pub usage : List ℕ
   pub form : Form (List ℕ) DotCommand
 
-abbrev pub row : String → String → Form (List ℕ) DotCommand → Row
-row name usage form = record { name = codes name; usage = codes usage; form = form }
+abbrev pub dot_row : String → String → Form (List ℕ) DotCommand → Row
+dot_row name usage form = record { name = codes name; usage = codes usage; form = form }
 
 unfoldable pub rows : List {1} Row
 rows =
-    row "mode" ".mode list|csv|column|quote" (means SetMode & mode)
-    ∷ row "headers" ".headers BOOL" (means SetHeaders & switch)
-    ∷ row "header" ".headers BOOL" (means SetHeaders & switch)
-    ∷ row "separator" ".separator TEXT" (means SetSeparator & any_word)
-    ∷ row "nullvalue" ".nullvalue TEXT" (means SetNull & any_word)
-    ∷ row "print" ".print TEXT..." (means Print & any_words)
-    ∷ row "echo" ".echo BOOL" (means SetEcho & switch)
-    ∷ row "bail" ".bail BOOL" (means SetBail & switch)
-    ∷ row "import" ".import [--csv] [--skip N] FILE TABLE" (means Importing & import)
-    ∷ row "tables" ".tables" (means Tables)
-    ∷ row "quit" ".quit" (means Quit)
-    ∷ row "exit" ".exit" (means Quit)
+    dot_row "mode" ".mode list|csv|column|quote" (means SetMode & one mode_named)
+    ∷ dot_row "headers" ".headers BOOL" (means SetHeaders & one switch_named)
+    ∷ dot_row "header" ".headers BOOL" (means SetHeaders & one switch_named)
+    ∷ dot_row "separator" ".separator TEXT" (means SetSeparator & any_word)
+    ∷ dot_row "nullvalue" ".nullvalue TEXT" (means SetNull & any_word)
+    ∷ dot_row "print" ".print TEXT..." (means Print & all_words)
+    ∷ dot_row "echo" ".echo BOOL" (means SetEcho & one switch_named)
+    ∷ dot_row "bail" ".bail BOOL" (means SetBail & one switch_named)
+    ∷ dot_row "import" ".import [--csv] [--skip N] FILE TABLE" (means Importing & import)
+    ∷ dot_row "tables" ".tables" (means Tables)
+    ∷ dot_row "quit" ".quit" (means Quit)
+    ∷ dot_row "exit" ".exit" (means Quit)
     ∷ []
 
 -- the command that the words after its name make, or how it is used where they make none
@@ -149,25 +143,10 @@ Says (name ∷ words) c = SaysIn rows name words c
 
 -- ---- computed
 
-abbrev pub usage_in : List {1} Row → List ℕ → Option (List ℕ)
-usage_in [] name = None
-usage_in (r ∷ rs) name = if bytes_eq name r.name then Some r.usage else usage_in rs name
-
-abbrev pub made_in : List {1} Row → List ℕ → List (List ℕ) → Option DotCommand
-made_in [] name words = None
-made_in (r ∷ rs) name words = if bytes_eq name r.name then found (read (r.form · ends) words) else made_in rs name words
-
-unfoldable pub usage_of : List ℕ → Option (List ℕ)
-usage_of name = usage_in rows name
-
-unfoldable pub made : List ℕ → List (List ℕ) → Option DotCommand
-made name words = made_in rows name words
-
-abbrev pub or_usage : Option (List ℕ) → Option DotCommand → DotCommand
-or_usage None command = Unknown
-or_usage (Some usage) None = Usage usage
-or_usage (Some usage) (Some command) = command
+abbrev pub said_in : List {1} Row → List ℕ → List (List ℕ) → DotCommand
+said_in [] name words = Unknown
+said_in (r ∷ rs) name words = if bytes_eq name r.name then unwrap_or (found (read (r.form · ends) words)) (Usage r.usage) else said_in rs name words
 
 unfoldable pub dot_command_of : List (List ℕ) → DotCommand
 dot_command_of [] = Nothing
-dot_command_of (name ∷ words) = or_usage (usage_of name) (made name words)
+dot_command_of (name ∷ words) = said_in rows name words

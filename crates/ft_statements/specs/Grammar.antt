@@ -10,28 +10,18 @@ use Rattle.ft_content.specs.Content.{Cell, Null, Int, Text}
 use Rattle.ft_content.specs.Command.{Command, Drop, Insert, Update, Delete, Select, Rebuild, Check, Optimize, Filter, All}
 use Rattle.ft_content.specs.Command.{Docid, Match, Item, AllColumns, Named, OffsetsOf, Items, Counted, Listed}
 use Rattle.ft_statements.specs.Forms.{Mark, Opens, Closes, Parts, Other, Form, means, one, ends, ◌&◌, ◌·◌, such, when, first, list, balanced, Has}
-use Rattle.ft_statements.specs.Words.{Token, is_keyword, is_symbol, name_of, literal_of}
+use Rattle.ft_statements.specs.Words.{Token, spells, name_of, literal_of}
 use Rattle.ft_statements.specs.Values.{number_of, signed, counted}
-use Rattle.ft_statements.specs.Create.{Argument, Setting, Column, joined, tokenizer_of, created}
+use Rattle.ft_statements.specs.Create.{Argument, Setting, Column, joined, tokenizer_of, create_with}
 
 -- ---- single words
 
--- a word without marks, in any case of ASCII letters
-abbrev pub IsKeyword : List ℕ → Token → Type 0
-IsKeyword keyword t = is_keyword keyword t ≡ true
-
-abbrev pub keyword : List ℕ → Form Token (Unit {0})
-keyword text = one (λ t. if is_keyword text t then Some tt else None)
-
--- a single character
-abbrev pub symbol : List ℕ → Form Token (Unit {0})
-symbol text = one (λ t. if is_symbol text t then Some tt else None)
+-- this keyword, in any case of ASCII letters, or this single character
+abbrev pub spelled : List ℕ → Form Token (Unit {0})
+spelled text = one (λ t. if spells text t then Some tt else None)
 
 abbrev pub word : String → Form Token (Unit {0})
-word text = keyword (codes text)
-
-abbrev pub sign : String → Form Token (Unit {0})
-sign text = symbol (codes text)
+word text = spelled (codes text)
 
 -- any word without marks, keywords too, or a quoted one
 abbrev pub name : Form Token (List ℕ)
@@ -45,34 +35,31 @@ text = one literal_of
 abbrev pub number : Form Token ℕ
 number = one number_of
 
--- these keywords, one after the other
-abbrev pub keywords : List (List ℕ) → Form Token (Unit {0})
-keywords [] = means tt
-keywords (k ∷ ks) = keyword k · keywords ks
+-- these, one after the other
+abbrev pub words : List (List ℕ) → Form Token (Unit {0})
+words [] = means tt
+words (text ∷ texts) = spelled text · words texts
 
 -- ---- words that may be missing, parentheses and lists
 
 -- [words]          whether they stand there
 abbrev pub may : List (List ℕ) → Form Token Bool
-may ks = first (means true · keywords ks) (means false)
-
-abbrev pub may_sign : String → Form Token Bool
-may_sign text = when (is_symbol (codes text)) (means true · sign text) (means false)
+may texts = first (means true · words texts) (means false)
 
 -- [word form]          and what its absence means
 abbrev pub clause : {A : Type 0} → String → Form Token A → A → Form Token A
-clause text form absent = when (is_keyword (codes text)) (means (λ x. x) · word text & form) (means absent)
+clause text form absent = when (spells (codes text)) (means (λ x. x) · word text & form) (means absent)
 
 -- ( form )
 abbrev pub parens : {A : Type 0} → Form Token A → Form Token A
-parens form = means (λ x. x) · sign "(" & form · sign ")"
+parens form = means (λ x. x) · word "(" & form · word ")"
 
 -- form {, form}
 abbrev pub commas : {A : Type 0} → Form Token A → Form Token (List A)
-commas form = list (is_symbol (codes ",")) form
+commas form = list (spells (codes ",")) form
 
 abbrev pub mark_of : Token → Mark
-mark_of t = if is_symbol (codes "(") t then Opens else if is_symbol (codes ")") t then Closes else if is_symbol (codes ",") t then Parts else Other
+mark_of t = if spells (codes "(") t then Opens else if spells (codes ")") t then Closes else if spells (codes ",") t then Parts else Other
 
 -- {word}          their parentheses are balanced, and a comma in them ends nothing
 abbrev pub any_words : Form Token (List Token)
@@ -82,7 +69,7 @@ any_words = balanced mark_of
 
 -- - | +          whether it is a minus; it may be missing
 unfoldable pub minus : Form Token Bool
-minus = when (is_symbol (codes "-")) (means true · sign "-") (when (is_symbol (codes "+")) (means false · sign "+") (means false))
+minus = when (spells (codes "-")) (means true · word "-") (when (spells (codes "+")) (means false · word "+") (means false))
 
 -- [+ | -] number          within 64 bits
 unfoldable pub integer : Form Token ℤ
@@ -98,7 +85,7 @@ key = first (word "docid") (word "rowid")
 
 -- key = integer | name MATCH text          ("Simple FTS Queries")
 unfoldable pub by_docid : Form Token Filter
-by_docid = means Docid · key · sign "=" & integer
+by_docid = means Docid · key · word "=" & integer
 
 unfoldable pub by_match : Form Token Filter
 by_match = means Match & name · word "MATCH" & text
@@ -111,11 +98,11 @@ filter = clause "WHERE" (first by_docid by_match) All
 
 -- tokenize [=] word {word}          ("Tokenizers"; that the sign may be missing is our own choice)
 unfoldable pub tokenizer : Form Token Argument
-tokenizer = such (means tokenizer_of · word "tokenize" · may_sign "=" & any_words)
+tokenizer = such (means tokenizer_of · word "tokenize" · may (codes "=" ∷ []) & any_words)
 
 -- name = {word}          ("FTS4 Options")
 unfoldable pub setting : Form Token Argument
-setting = means (λ name value. Setting name (joined value)) & name · sign "=" & any_words
+setting = means (λ name value. Setting name (joined value)) & name · word "=" & any_words
 
 -- (name | text) {word}          a column; what stands after its name is ignored
 unfoldable pub column : Form Token Argument
@@ -126,11 +113,11 @@ argument = first tokenizer (first setting column)
 
 -- [( [argument {, argument}] )]
 unfoldable pub arguments : Form Token (List Argument)
-arguments = when (is_symbol (codes "(")) (parens (when (is_symbol (codes ")")) (means []) (commas argument))) (means [])
+arguments = when (spells (codes "(")) (parens (when (spells (codes ")")) (means []) (commas argument))) (means [])
 
 unfoldable pub create : Form Token Command
 create =
-    means created · word "CREATE" · word "VIRTUAL" · word "TABLE" & may (codes "IF" ∷ codes "NOT" ∷ codes "EXISTS" ∷ [])
+    means create_with · word "CREATE" · word "VIRTUAL" · word "TABLE" & may (codes "IF" ∷ codes "NOT" ∷ codes "EXISTS" ∷ [])
     & name · word "USING" & name & arguments
 
 -- ---- DROP TABLE [IF EXISTS] name
@@ -142,7 +129,7 @@ drop_table = means (λ there table. Drop table there) · word "DROP" · word "TA
 
 -- [;]
 unfoldable pub done : Form Token (Unit {0})
-done = means tt · may_sign ";" · ends
+done = means tt · may (codes ";" ∷ []) · ends
 
 -- ---- INSERT INTO name ( name ) VALUES ( text )          ("Special Commands For FTS3 and FTS4")
 
@@ -154,18 +141,16 @@ special_of table word =
     else if str_eq_ignore_ascii_case word (codes "optimize") then Some (Optimize table)
     else None
 
--- the one column is named as the table
-abbrev pub special_where : List ℕ → List ℕ → List ℕ → Option Command
-special_where table column word = if str_eq_ignore_ascii_case column table then special_of table word else None
-
--- nothing but an end is after it
+-- the one column is named as the table, and nothing but an end is after it
 unfoldable pub special : Form Token Command
-special = such (means special_where · word "INSERT" · word "INTO" & name & parens name · word "VALUES" & parens text · done)
+special =
+    such (means (λ table column word. if str_eq_ignore_ascii_case column table then special_of table word else None)
+    · word "INSERT" · word "INTO" & name & parens name · word "VALUES" & parens text · done)
 
 -- ---- INSERT INTO name [( name {, name} )] VALUES row {, row}
 
 unfoldable pub columns : Form Token (Option (List (List ℕ)))
-columns = when (is_symbol (codes "(")) (means Some & parens (commas name)) (means None)
+columns = when (spells (codes "(")) (means Some & parens (commas name)) (means None)
 
 -- ( value {, value} )
 unfoldable pub row : Form Token (List Cell)
@@ -183,7 +168,7 @@ insert = first special insert_rows
 
 -- name = value
 unfoldable pub set : Form Token (List ℕ × Cell)
-set = means (λ name cell. (name, cell)) & name · sign "=" & value
+set = means (λ name cell. (name, cell)) & name · word "=" & value
 
 unfoldable pub update : Form Token Command
 update = means Update · word "UPDATE" & name · word "SET" & commas set & filter
@@ -198,11 +183,11 @@ unfoldable pub offsets : Form Token Item
 offsets = means OffsetsOf · word "offsets" & parens name
 
 unfoldable pub item : Form Token Item
-item = first (means AllColumns · sign "*") (first offsets (means Named & name))
+item = first (means AllColumns · word "*") (first offsets (means Named & name))
 
 -- count ( * ) | item {, item}          ("Introduction to FTS3 and FTS4")
 unfoldable pub count_all : Form Token Items
-count_all = means Counted · word "count" · parens (sign "*")
+count_all = means Counted · word "count" · parens (word "*")
 
 unfoldable pub items : Form Token Items
 items = first count_all (means Listed & commas item)
@@ -233,11 +218,11 @@ select =
 -- any of these, by its first word
 unfoldable pub command : Form Token Command
 command =
-    when (is_keyword (codes "CREATE")) create
-    (when (is_keyword (codes "DROP")) drop_table
-    (when (is_keyword (codes "INSERT")) insert
-    (when (is_keyword (codes "UPDATE")) update
-    (when (is_keyword (codes "DELETE")) delete select))))
+    when (spells (codes "CREATE")) create
+    (when (spells (codes "DROP")) drop_table
+    (when (spells (codes "INSERT")) insert
+    (when (spells (codes "UPDATE")) update
+    (when (spells (codes "DELETE")) delete select))))
 
 -- command [;]
 unfoldable pub statement : Form Token Command

@@ -6,7 +6,7 @@ use Rattle.std.specs.List.Sorted.{IsPermutation, IsSorted}
 use Rattle.std.specs.Ordering.{nat_cmp}
 use Rattle.std.specs.Cmp.Lexicographic.{slice_cmp}
 use Rattle.shell_text.specs.Print as print
-use Rattle.shell_text.specs.Print.{Settings, Table, printed}
+use Rattle.shell_text.specs.Print.{Settings, PrintedTable, printed}
 use Rattle.ft_content.specs.Content.{Cell, Null, Int, Text}
 use Rattle.ft_statements.specs.Statements.{is_named}
 use Rattle.ft_content.specs.Command.{Grid, Reply, Done, Rows}
@@ -17,13 +17,13 @@ cell_value Null = print.Null
 cell_value (Int n) = print.Integer n
 cell_value (Text text) = print.Words text
 
-abbrev pub table_of : Grid → Table
-table_of grid = record { names = grid.names; rows = map (map cell_value) grid.rows }
+abbrev pub printed_table : Grid → PrintedTable
+printed_table grid = record { names = grid.names; rows = map (map cell_value) grid.rows }
 
 -- Rows are printed as the settings say, and nothing where the reply has none.
 abbrev pub reply_text : Settings → Reply → List ℕ
 reply_text settings Done = []
-reply_text settings (Rows grid) = printed settings (table_of grid)
+reply_text settings (Rows grid) = printed settings (printed_table grid)
 
 -- whether one of the full-text tables has this name, in any case of ASCII letters
 abbrev pub is_own : List (List ℕ) → List ℕ → Bool

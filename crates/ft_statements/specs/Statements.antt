@@ -5,16 +5,13 @@ use Rattle.std.specs.List.{Any, list_any}
 use Rattle.std.specs.Option.{option_map_or}
 use Rattle.ft_values.specs.Names.{same_name}
 use Rattle.ft_content.specs.Command.{Command}
-use Rattle.ft_statements.specs.Words.{Token, is_one_of, name_of}
+use Rattle.ft_statements.specs.Words.{Token, spells, is_one_of, name_of}
 use Rattle.ft_statements.specs.Reading.{found, read}
-use Rattle.ft_statements.specs.Grammar.{IsKeyword, keywords, statement, IsStatement}
+use Rattle.ft_statements.specs.Grammar.{words, statement, IsStatement}
 
 -- the words after which a full-text table's name makes a statement full-text
 abbrev pub lead_words : List (List ℕ)
 lead_words = codes "FROM" ∷ codes "INTO" ∷ codes "UPDATE" ∷ codes "TABLE" ∷ codes "JOIN" ∷ codes "EXISTS" ∷ []
-
-pub data IsLead : Token → Type 0 where
-  lead_word : {t : Token} → Any (λ word. IsKeyword word t) lead_words → IsLead t
 
 -- the same text, in any case of ASCII letters
 abbrev pub is_named : List ℕ → List ℕ → Bool
@@ -27,9 +24,9 @@ pub data IsTable (tables : List (List ℕ)) : Token → Type 0 where
 -- CREATE VIRTUAL {word} | {word} lead table {word}
 pub data IsFullText (tables : List (List ℕ)) : List Token → Type 0 where
   makes_virtual : {a b : Token} {ts : List Token} →
-      IsKeyword (codes "CREATE") a → IsKeyword (codes "VIRTUAL") b → IsFullText tables (a ∷ b ∷ ts)
-  names_one : (before : List Token) {lead table : Token} (behind : List Token) →
-      IsLead lead → IsTable tables table → IsFullText tables (before ++ lead ∷ table ∷ behind)
+      spells (codes "CREATE") a ≡ true → spells (codes "VIRTUAL") b ≡ true → IsFullText tables (a ∷ b ∷ ts)
+  names_one : (before : List Token) (lead : Token) {table : Token} (behind : List Token) →
+      Any (λ word. spells word lead ≡ true) lead_words → IsTable tables table → IsFullText tables (before ++ lead ∷ table ∷ behind)
 
 pub data Class : Type 0 where
   Plain : Class
@@ -44,25 +41,22 @@ pub data HasClass (tables : List (List ℕ)) : List Token → Class → Type 0 w
 
 -- ---- computed
 
-abbrev pub leads : Token → Bool
-leads t = is_one_of lead_words t
-
 abbrev pub is_table : List (List ℕ) → Token → Bool
 is_table tables t = option_map_or (λ name. list_any (is_named name) tables) (name_of t) false
 
 abbrev pub names_table : List (List ℕ) → List Token → Bool
 names_table tables [] = false
 names_table tables (t ∷ []) = false
-names_table tables (t ∷ next ∷ more) = (leads t && is_table tables next) || names_table tables (next ∷ more)
+names_table tables (t ∷ next ∷ more) = (is_one_of lead_words t && is_table tables next) || names_table tables (next ∷ more)
 
 abbrev pub makes_table : List Token → Bool
-makes_table ts = is_some (read (keywords (codes "CREATE" ∷ codes "VIRTUAL" ∷ [])) ts)
+makes_table ts = is_some (read (words (codes "CREATE" ∷ codes "VIRTUAL" ∷ [])) ts)
 
 abbrev pub is_full_text : List (List ℕ) → List Token → Bool
 is_full_text tables ts = makes_table ts || names_table tables ts
 
-unfoldable pub command_of : List Token → Option Command
-command_of ts = found (read statement ts)
+unfoldable pub spelled_command : List Token → Option Command
+spelled_command ts = found (read statement ts)
 
 unfoldable pub class_of : List (List ℕ) → List Token → Option Class
-class_of tables ts = if is_full_text tables ts then option_map FullText (command_of ts) else Some Plain
+class_of tables ts = if is_full_text tables ts then option_map FullText (spelled_command ts) else Some Plain

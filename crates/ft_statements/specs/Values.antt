@@ -8,12 +8,12 @@ use Rattle.ft_statements.specs.Words.{Token}
 abbrev pub digits_value : List ℕ → ℕ
 digits_value digits = fold (λ n d. 10 * n + (d - 48)) 0 digits
 
-abbrev pub is_number : SqlKind → Bool
-is_number kinds.Number = true
-is_number _ = false
+abbrev pub is_number_kind : SqlKind → Bool
+is_number_kind kinds.Number = true
+is_number_kind _ = false
 
 abbrev pub number_of : Token → Option ℕ
-number_of t = if is_number t.kind then Some (digits_value t.text) else None
+number_of t = if is_number_kind t.kind then Some (digits_value t.text) else None
 
 -- the number with its sign, where it is within 64 bits
 abbrev pub signed : Bool → ℕ → Option ℤ

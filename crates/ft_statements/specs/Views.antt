@@ -11,7 +11,7 @@ use Rattle.ft_statements.specs.declared.create.Argument.{Argument}
 use Rattle.ft_statements.specs.declared.create.Argument.TheVariants as arguments
 use Rattle.ft_statements.specs.Words.{Token}
 use Rattle.ft_statements.specs.Forms.{Form, begins}
-use Rattle.ft_statements.specs.Reading.{Reads, read, depth_after}
+use Rattle.ft_statements.specs.Reading.{FrontRead, read, depth_after}
 use Rattle.ft_statements.specs.Grammar.{mark_of}
 use Rattle.ft_statements.specs.Create as forms
 
@@ -51,8 +51,8 @@ pub record IsDepthAfter (before : ℕ) (word : Token) (now : ℕ) : Type 0 where
   pub most : now ≤ before + 1
 
 -- a list of names, if there is one
-abbrev pub listed : {A : Type 0} → Option (Vec (String Global) A) → Option (List (List ℕ))
-listed names = option_map texts_of names
+abbrev pub names_if : {A : Type 0} → Option (Vec (String Global) A) → Option (List (List ℕ))
+names_if names = option_map texts_of names
 
 -- ---- what a reader finds, or that there is no such thing; of want of memory nothing is said
 
@@ -62,7 +62,7 @@ pub record Gives {A B : Type 0} (shown : A → B) (result : Result A StatementFa
   pub none : IsErrOf result Syntax → form ≡ None
 
 -- a value, as the form has it, and the words after it are left
-pub record Advances {A B : Type 0} (shown : A → B) (form : List Token → Reads Token B) (before after : Reader)
+pub record Advances {A B : Type 0} (shown : A → B) (form : List Token → FrontRead Token B) (before after : Reader)
     (result : Result A StatementFault) : Type 0 where
   pub found : IfOk result (λ x. form (rest_of before) ≡ Some (shown x, rest_of after))
   pub none : IsErrOf result Syntax → form (rest_of before) ≡ None

@@ -2,7 +2,7 @@
 -- literals are those of the SQLite document "SQL Language Expressions" (section "Literal Values
 -- (Constants)") and of its page "SQLite Keywords".
 use Rattle.std.specs.Prelude.{◌≢◌, ℕ, ◌+◌, ◌-◌, Bool, true, false, ◌==◌, ◌&&◌, List, [], ◌∷◌, map, length, take, slice_range, Option}
-use Rattle.std.specs.Prelude.{Some, None, if◌then◌else◌, bytes_eq, chars, encode_utf8_all}
+use Rattle.std.specs.Prelude.{Some, None, if◌then◌else◌, chars, encode_utf8_all}
 use Rattle.std.specs.List.{list_any}
 use Rattle.std.specs.Str.{str_eq_ignore_ascii_case}
 use Rattle.shell_text.specs.Words.{words_of}
@@ -15,33 +15,26 @@ pub record Token : Type 0 where
   pub kind : SqlKind
   pub text : List ℕ
 
-abbrev pub token_of : List ℕ → SqlWord → Token
-token_of text w = record { kind = w.kind; text = slice_range text w.start (w.start + w.size) }
+abbrev pub sql_token : List ℕ → SqlWord → Token
+sql_token text w = record { kind = w.kind; text = slice_range text w.start (w.start + w.size) }
 
 -- the words of a statement's text, in order
-abbrev pub tokens_of : List ℕ → List Token
-tokens_of text = map (token_of text) (words_of text)
+abbrev pub sql_tokens : List ℕ → List Token
+sql_tokens text = map (sql_token text) (words_of text)
 
 abbrev pub is_bare : SqlKind → Bool
 is_bare kinds.Word = true
+is_bare kinds.Symbol = true
 is_bare _ = false
 
-abbrev pub is_mark : SqlKind → Bool
-is_mark kinds.Symbol = true
-is_mark _ = false
+-- the word is this keyword, without marks and in any case of ASCII letters, or this single
+-- character ("SQLite Keywords")
+abbrev pub spells : List ℕ → Token → Bool
+spells word t = is_bare t.kind && str_eq_ignore_ascii_case t.text word
 
--- the word is this keyword: it stands without marks, in any case of ASCII letters ("SQLite
--- Keywords")
-abbrev pub is_keyword : List ℕ → Token → Bool
-is_keyword keyword t = is_bare t.kind && str_eq_ignore_ascii_case t.text keyword
-
--- the word is one of these keywords
+-- the word is one of these
 abbrev pub is_one_of : List (List ℕ) → Token → Bool
-is_one_of keywords t = list_any (λ keyword. is_keyword keyword t) keywords
-
--- the word is this single character
-abbrev pub is_symbol : List ℕ → Token → Bool
-is_symbol symbol t = is_mark t.kind && bytes_eq t.text symbol
+is_one_of words t = list_any (λ word. spells word t) words
 
 -- what stands between marks, and what it stands for: the closing mark stands there only doubled,
 -- for one ("Literal Values (Constants)")
@@ -60,14 +53,11 @@ halved mark after (c ∷ cs) = if after && c == mark then halved mark false cs e
 abbrev pub closing : ℕ → ℕ
 closing mark = if mark == 0x5B then 0x5D else mark
 
-abbrev pub all_but_last : {A : Type 0} → List A → List A
-all_but_last xs = take (length xs - 1) xs
-
 -- the characters between two marks, where the closing one is doubled ("Literal Values (Constants)";
 -- no closing bracket stands between brackets)
 abbrev pub between_marks : List ℕ → List ℕ
 between_marks [] = []
-between_marks (mark ∷ rest) = halved (closing mark) false (all_but_last rest)
+between_marks (mark ∷ rest) = halved (closing mark) false (take (length rest - 1) rest)
 
 -- what a text or a quoted name is without its marks
 abbrev pub without_marks : List ℕ → List ℕ
@@ -84,13 +74,13 @@ bare t = bare_text t.kind t.text
 
 -- a name is any word without marks, or a quoted one ("SQLite Keywords"; that a keyword may be a
 -- name is an own choice)
-abbrev pub is_name : SqlKind → Bool
-is_name kinds.Word = true
-is_name kinds.Quoted = true
-is_name _ = false
+abbrev pub is_name_kind : SqlKind → Bool
+is_name_kind kinds.Word = true
+is_name_kind kinds.Quoted = true
+is_name_kind _ = false
 
 abbrev pub name_of : Token → Option (List ℕ)
-name_of t = if is_name t.kind then Some (bare t) else None
+name_of t = if is_name_kind t.kind then Some (bare t) else None
 
 -- a text stands between single quotes ("Literal Values (Constants)")
 abbrev pub is_literal : SqlKind → Bool

@@ -11,7 +11,7 @@ use crate::statement::StatementFault;
 use crate::values::integer;
 use ft_content::{Command, Deletion, Filter, Modification, Value};
 
-// Passes one of the names of the docid.
+/// Passes one of the names of the docid.
 #[tactic(auto, unfolding(crate::specs::Grammar::key))]
 pub(crate) fn key(words: &mut Reader<'_>) -> Result<(), StatementFault>
     ensures { Passes forms.key words.old words.new result }
@@ -19,7 +19,7 @@ pub(crate) fn key(words: &mut Reader<'_>) -> Result<(), StatementFault>
     if words.takes("docid") {
         return Ok(());
     }
-    words.keyword("rowid")
+    words.word("rowid")
 }
 
 // A docid, after its name and an equals sign.
@@ -28,7 +28,7 @@ fn docid(words: &mut Reader<'_>) -> Result<Filter, StatementFault>
     ensures { Advances views.filter_of (read forms.by_docid) words.old words.new result }
 {
     key(words)?;
-    words.symbol("=")?;
+    words.word("=")?;
     Ok(Filter::Docid(integer(words)?))
 }
 
@@ -38,12 +38,12 @@ fn matching(words: &mut Reader<'_>) -> Result<Filter, StatementFault>
     ensures { Advances views.filter_of (read forms.by_match) words.old words.new result }
 {
     let name = words.name()?;
-    words.keyword("MATCH")?;
+    words.word("MATCH")?;
     let query = words.literal()?;
     Ok(Filter::Match { name, query })
 }
 
-// The filter after WHERE, or all documents where that word doesn't stand there.
+/// The filter after WHERE, or all documents where that word doesn't stand there.
 #[tactic(auto, unfolding(crate::specs::Grammar::filter))]
 pub(crate) fn filter(words: &mut Reader<'_>) -> Result<Filter, StatementFault>
     ensures { Advances views.filter_of (read forms.filter) words.old words.new result }
@@ -72,7 +72,7 @@ impl Spelled for (String, Value) {
     #[tactic(auto, unfolding(crate::specs::Grammar::set))]
     fn read(words: &mut Reader<'_>) -> Result<(String, Value), StatementFault> {
         let name = words.name()?;
-        words.symbol("=")?;
+        words.word("=")?;
         Ok((name, Value::read(words)?))
     }
 }
@@ -82,9 +82,9 @@ impl Spelled for (String, Value) {
 pub(crate) fn update(words: &mut Reader<'_>) -> Result<Command, StatementFault>
     ensures { Advances views.command_of (read forms.update) words.old words.new result }
 {
-    words.keyword("UPDATE")?;
+    words.word("UPDATE")?;
     let table = words.name()?;
-    words.keyword("SET")?;
+    words.word("SET")?;
     let sets = words.list()?;
     let filter = filter(words)?;
     Ok(Command::Update(Modification {
@@ -99,8 +99,8 @@ pub(crate) fn update(words: &mut Reader<'_>) -> Result<Command, StatementFault>
 pub(crate) fn delete(words: &mut Reader<'_>) -> Result<Command, StatementFault>
     ensures { Advances views.command_of (read forms.delete) words.old words.new result }
 {
-    words.keyword("DELETE")?;
-    words.keyword("FROM")?;
+    words.word("DELETE")?;
+    words.word("FROM")?;
     let table = words.name()?;
     let filter = filter(words)?;
     Ok(Command::Delete(Deletion { table, filter }))

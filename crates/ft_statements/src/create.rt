@@ -40,8 +40,8 @@ fn joined(alloc: Global, words: &[Token<'_>]) -> Result<String, AllocError>
 fn tokenizer(words: &mut Reader<'_>) -> Result<Argument, StatementFault>
     ensures { Advances argument_as (read forms.tokenizer) words.old words.new result }
 {
-    words.keyword("tokenize")?;
-    words.takes_symbol("=");
+    words.word("tokenize")?;
+    words.takes_all(&["="]);
     let given = words.any_words()?;
     if given.is_empty() {
         return Err(StatementFault::Syntax);
@@ -57,7 +57,7 @@ fn setting(words: &mut Reader<'_>) -> Result<Argument, StatementFault>
     ensures { Advances argument_as (read forms.setting) words.old words.new result }
 {
     let name = words.name()?;
-    words.symbol("=")?;
+    words.word("=")?;
     let value = joined(words.alloc, words.any_words()?)?;
     Ok(Argument::Setting { name, value })
 }
@@ -107,14 +107,14 @@ fn arguments(words: &mut Reader<'_>) -> Result<Vec<Argument>, StatementFault>
     ensures { Advances (λ found. map argument_as found.items) (read forms.arguments) words.old
         words.new result }
 {
-    if !words.takes_symbol("(") {
+    if !words.takes("(") {
         return Ok(Vec::new(words.alloc));
     }
-    if words.takes_symbol(")") {
+    if words.takes(")") {
         return Ok(Vec::new(words.alloc));
     }
     let found = words.list()?;
-    words.symbol(")")?;
+    words.word(")")?;
     Ok(found)
 }
 
@@ -142,12 +142,12 @@ fn sorted(
 pub(crate) fn create(words: &mut Reader<'_>) -> Result<Command, StatementFault>
     ensures { Advances views.command_of (read forms.create) words.old words.new result }
 {
-    words.keyword("CREATE")?;
-    words.keyword("VIRTUAL")?;
-    words.keyword("TABLE")?;
+    words.word("CREATE")?;
+    words.word("VIRTUAL")?;
+    words.word("TABLE")?;
     let if_new = words.takes_all(&["IF", "NOT", "EXISTS"]);
     let table = words.name()?;
-    words.keyword("USING")?;
+    words.word("USING")?;
     let module = words.name()?;
     let (options, columns) = sorted(words.alloc, arguments(words)?)?;
     Ok(Command::Create(Creation {
@@ -164,8 +164,8 @@ pub(crate) fn create(words: &mut Reader<'_>) -> Result<Command, StatementFault>
 pub(crate) fn drop_table(words: &mut Reader<'_>) -> Result<Command, StatementFault>
     ensures { Advances views.command_of (read forms.drop_table) words.old words.new result }
 {
-    words.keyword("DROP")?;
-    words.keyword("TABLE")?;
+    words.word("DROP")?;
+    words.word("TABLE")?;
     let if_there = words.takes_all(&["IF", "EXISTS"]);
     let table = words.name()?;
     Ok(Command::Drop { table, if_there })

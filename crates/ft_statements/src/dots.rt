@@ -1,11 +1,11 @@
 //! Which dot-command a line's words are.
-ghost use Rattle.std.specs.Prelude.{◌≡◌, map, string_bytes, option_map, IfOk, Some};
+ghost use Rattle.std.specs.Prelude.{◌≡◌, map, string_bytes, option_map, unwrap_or, IfOk, Some};
 ghost use Rattle.std.specs.Char.{is_ascii_digit};
 ghost use Rattle.std.specs.List.{list_all};
-ghost use Rattle.ft_statements.specs.Forms.{means, ends, ◌·◌};
+ghost use Rattle.ft_statements.specs.Forms.{means, one, ends, ◌·◌};
 ghost use Rattle.ft_statements.specs.Reading.{found, read};
 ghost use Rattle.ft_statements.specs.Dots as forms;
-ghost use Rattle.ft_statements.specs.DotViews.{command_as, import_as, csv_words, skip_words, option_words, two_words, IsSaid};
+ghost use Rattle.ft_statements.specs.DotViews.{command_as, import_as, with_left, IsSaid};
 
 use crate::values::digits_value;
 use shell_text::Mode;
@@ -56,62 +56,61 @@ fn line_command(alloc: Global, words: &[String]) -> Result<DotCommand, AllocErro
     ensures { IfOk result (λ command. command_as command
         ≡ forms.dot_command_of (map string_bytes words.now)) }
 {
-    let [name, words @ ..] = words else {
-        return Ok(DotCommand::Nothing);
-    };
-    let Some(usage) = usage_of(name.as_str()) else {
-        return Ok(DotCommand::Unknown);
-    };
-    let command = made(alloc, name.as_str(), words)?;
-    Ok(command.unwrap_or(DotCommand::Usage(usage)))
-}
-
-// How the command of a name is used.
-#[tactic(auto, unfolding(crate::specs::Dots::usage_of, crate::specs::Dots::rows))]
-fn usage_of(name: &str) -> Option<&'static str>
-    ensures { option_map (λ usage. usage.now) result ≡ forms.usage_of name.now }
-{
-    match name {
-        "mode" => Some(".mode list|csv|column|quote"),
-        "headers" | "header" => Some(".headers BOOL"),
-        "separator" => Some(".separator TEXT"),
-        "nullvalue" => Some(".nullvalue TEXT"),
-        "print" => Some(".print TEXT..."),
-        "echo" => Some(".echo BOOL"),
-        "bail" => Some(".bail BOOL"),
-        "import" => Some(".import [--csv] [--skip N] FILE TABLE"),
-        "tables" => Some(".tables"),
-        "quit" => Some(".quit"),
-        "exit" => Some(".exit"),
-        _ => None,
+    match words {
+        [name, words @ ..] => named(alloc, name.as_str(), words),
+        [] => Ok(DotCommand::Nothing),
     }
 }
 
-// The command of a name, where the words after it fit.
-#[tactic(auto, unfolding(crate::specs::Dots::made, crate::specs::Dots::rows), using(crate::proofs::DotLaw::mapped, crate::proofs::DotLaw::printed))]
-fn made(alloc: Global, name: &str, words: &[String]) -> Result<Option<DotCommand>, AllocError>
-    ensures { IfOk result (λ command. option_map command_as command
-        ≡ forms.made name.now (map string_bytes words.now)) }
+// The command of a name, or how it is used where the words after it don't fit.
+#[tactic(auto, unfolding(crate::specs::Dots::rows), using(crate::proofs::DotLaw::mapped, crate::proofs::DotLaw::printed))]
+fn named(alloc: Global, name: &str, words: &[String]) -> Result<DotCommand, AllocError>
+    ensures { IfOk result (λ command. command_as command
+        ≡ forms.said_in forms.rows name.now (map string_bytes words.now)) }
 {
     match name {
-        "mode" => Ok(mode_in(words).map(DotCommand::Mode)),
-        "headers" | "header" => Ok(switch_in(words).map(DotCommand::Headers)),
-        "separator" => Ok(text_in(alloc, words)?.map(DotCommand::Separator)),
-        "nullvalue" => Ok(text_in(alloc, words)?.map(DotCommand::Null)),
-        "print" => Ok(Some(DotCommand::Print(copied(alloc, words)?))),
-        "echo" => Ok(switch_in(words).map(DotCommand::Echo)),
-        "bail" => Ok(switch_in(words).map(DotCommand::Bail)),
-        "import" => Ok(import_of(alloc, words)?.map(DotCommand::Import)),
-        "tables" => Ok(alone(DotCommand::Tables, words)),
-        "quit" | "exit" => Ok(alone(DotCommand::Quit, words)),
-        _ => Ok(None),
+        "mode" => Ok(said(
+            ".mode list|csv|column|quote",
+            mode_in(words).map(DotCommand::Mode),
+        )),
+        "headers" | "header" => Ok(said(
+            ".headers BOOL",
+            switch_in(words).map(DotCommand::Headers),
+        )),
+        "separator" => Ok(said(
+            ".separator TEXT",
+            text_in(alloc, words)?.map(DotCommand::Separator),
+        )),
+        "nullvalue" => Ok(said(
+            ".nullvalue TEXT",
+            text_in(alloc, words)?.map(DotCommand::Null),
+        )),
+        "print" => Ok(DotCommand::Print(copied(alloc, words)?)),
+        "echo" => Ok(said(".echo BOOL", switch_in(words).map(DotCommand::Echo))),
+        "bail" => Ok(said(".bail BOOL", switch_in(words).map(DotCommand::Bail))),
+        "import" => Ok(said(
+            ".import [--csv] [--skip N] FILE TABLE",
+            import_of(alloc, words)?.map(DotCommand::Import),
+        )),
+        "tables" => Ok(said(".tables", alone(DotCommand::Tables, words))),
+        "quit" => Ok(said(".quit", alone(DotCommand::Quit, words))),
+        "exit" => Ok(said(".exit", alone(DotCommand::Quit, words))),
+        _ => Ok(DotCommand::Unknown),
     }
+}
+
+// The command that words make, or how it is used where they make none.
+fn said(usage: &'static str, command: Option<DotCommand>) -> DotCommand
+    ensures { command_as result
+        ≡ unwrap_or (option_map command_as command) (forms.Usage usage.now) }
+{
+    command.unwrap_or(DotCommand::Usage(usage))
 }
 
 // The mode that is the one word.
 #[tactic(auto, using(crate::proofs::DotLaw::alone))]
 fn mode_in(words: &[String]) -> Option<Mode>
-    ensures { result ≡ found (read (forms.mode · ends) (map string_bytes words.now)) }
+    ensures { result ≡ found (read (one forms.mode_named · ends) (map string_bytes words.now)) }
 {
     match lone(words)? {
         "list" => Some(Mode::List),
@@ -136,7 +135,7 @@ fn lone(words: &[String]) -> Option<&str>
 // The switch that is the one word, in any case of ASCII letters.
 #[tactic(auto, using(crate::proofs::DotLaw::alone))]
 fn switch_in(words: &[String]) -> Option<bool>
-    ensures { result ≡ found (read (forms.switch · ends) (map string_bytes words.now)) }
+    ensures { result ≡ found (read (one forms.switch_named · ends) (map string_bytes words.now)) }
 {
     let word = lone(words)?;
     if word.eq_ignore_ascii_case("on") || word.eq_ignore_ascii_case("yes") || word == "1" {
@@ -200,7 +199,7 @@ fn import_of(alloc: Global, words: &[String]) -> Result<Option<Import>, AllocErr
 // FILE and TABLE, and nothing else; an option is no file.
 #[tactic(auto, unfolding(crate::specs::Dots::files), using(crate::proofs::DotLaw::files_are))]
 fn files_in(words: &[String]) -> Option<(&String, &String)>
-    ensures { two_words result
+    ensures { option_map (λ f. (string_bytes f.0.now, string_bytes f.1.now)) result
         ≡ found (read (forms.files · ends) (map string_bytes words.now)) }
 {
     match words {
@@ -214,7 +213,7 @@ fn files_in(words: &[String]) -> Option<(&String, &String)>
 // The options, and the words after them.
 #[tactic(auto, unfolding(crate::specs::Dots::options))]
 fn options(words: &[String]) -> Option<((bool, Option<u64>), &[String])>
-    ensures { option_words result ≡ read forms.options (map string_bytes words.now) }
+    ensures { option_map with_left result ≡ read forms.options (map string_bytes words.now) }
 {
     match words {
         [first, ..] if first.as_str() == "--csv" => {
@@ -233,7 +232,7 @@ fn options(words: &[String]) -> Option<((bool, Option<u64>), &[String])>
 // Whether `--csv` stands there, and the words after it.
 #[tactic(auto, unfolding(crate::specs::Dots::may_csv))]
 fn csv_at(words: &[String]) -> (bool, &[String])
-    ensures { Some (csv_words result) ≡ read forms.may_csv (map string_bytes words.now) }
+    ensures { Some (with_left result) ≡ read forms.may_csv (map string_bytes words.now) }
 {
     match words {
         [first, rest @ ..] if first.as_str() == "--csv" => (true, rest),
@@ -244,7 +243,7 @@ fn csv_at(words: &[String]) -> (bool, &[String])
 // The number after `--skip`, if that stands there, and the words after it.
 #[tactic(auto, unfolding(crate::specs::Dots::may_skip))]
 fn skip_at(words: &[String]) -> Option<(Option<u64>, &[String])>
-    ensures { skip_words result ≡ read forms.may_skip (map string_bytes words.now) }
+    ensures { option_map with_left result ≡ read forms.may_skip (map string_bytes words.now) }
 {
     match words {
         [first, rest @ ..] if first.as_str() == "--skip" => {

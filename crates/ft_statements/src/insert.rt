@@ -4,7 +4,7 @@ ghost use Rattle.ft_content.specs.Content.{Cell};
 ghost use Rattle.ft_content.specs.Views as views;
 ghost use Rattle.ft_statements.specs.Reading.{read};
 ghost use Rattle.ft_statements.specs.Grammar as forms;
-ghost use Rattle.ft_statements.specs.Views.{listed, Gives, Advances};
+ghost use Rattle.ft_statements.specs.Views.{names_if, Gives, Advances};
 
 use crate::reading::{Reader, Spelled};
 use crate::statement::StatementFault;
@@ -30,16 +30,16 @@ fn special_of(table: String, word: &str) -> Result<Command, StatementFault>
 fn special(words: &mut Reader<'_>) -> Result<Command, StatementFault>
     ensures { Advances views.command_of (read forms.special) words.old words.new result }
 {
-    words.keyword("INSERT")?;
-    words.keyword("INTO")?;
+    words.word("INSERT")?;
+    words.word("INTO")?;
     let table = words.name()?;
-    words.symbol("(")?;
+    words.word("(")?;
     let column = words.name()?;
-    words.symbol(")")?;
-    words.keyword("VALUES")?;
-    words.symbol("(")?;
+    words.word(")")?;
+    words.word("VALUES")?;
+    words.word("(")?;
     let word = words.literal()?;
-    words.symbol(")")?;
+    words.word(")")?;
     words.done()?;
     if !column.as_str().eq_ignore_ascii_case(table.as_str()) {
         return Err(StatementFault::Syntax);
@@ -50,13 +50,13 @@ fn special(words: &mut Reader<'_>) -> Result<Command, StatementFault>
 // A list of names, if a parenthesis stands there.
 #[tactic(auto, unfolding(crate::specs::Grammar::columns))]
 fn columns(words: &mut Reader<'_>) -> Result<Option<Vec<String>>, StatementFault>
-    ensures { Advances listed (read forms.columns) words.old words.new result }
+    ensures { Advances names_if (read forms.columns) words.old words.new result }
 {
-    if !words.takes_symbol("(") {
+    if !words.takes("(") {
         return Ok(None);
     }
     let names = words.list()?;
-    words.symbol(")")?;
+    words.word(")")?;
     Ok(Some(names))
 }
 
@@ -70,9 +70,9 @@ impl Spelled for Vec<Value> {
 
     #[tactic(auto, unfolding(crate::specs::Grammar::row))]
     fn read(words: &mut Reader<'_>) -> Result<Vec<Value>, StatementFault> {
-        words.symbol("(")?;
+        words.word("(")?;
         let values = words.list()?;
-        words.symbol(")")?;
+        words.word(")")?;
         Ok(values)
     }
 }
@@ -82,11 +82,11 @@ impl Spelled for Vec<Value> {
 fn insert_rows(words: &mut Reader<'_>) -> Result<Command, StatementFault>
     ensures { Advances views.command_of (read forms.insert_rows) words.old words.new result }
 {
-    words.keyword("INSERT")?;
-    words.keyword("INTO")?;
+    words.word("INSERT")?;
+    words.word("INTO")?;
     let table = words.name()?;
     let columns = columns(words)?;
-    words.keyword("VALUES")?;
+    words.word("VALUES")?;
     let rows = words.list()?;
     Ok(Command::Insert(Insertion {
         table,

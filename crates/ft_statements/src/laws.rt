@@ -1,10 +1,10 @@
 //! Laws of the definitions.
 ghost use Rattle.std.specs.Prelude.{◌≡◌, ◌↔◌, ℕ, List, [], ◌∷◌, ◌++◌, Some, None, true, false};
-ghost use Rattle.shell_text.specs.WordForms.{IsMarked};
+ghost use Rattle.shell_text.specs.WordForms.{IsInMarks};
 ghost use Rattle.ft_content.specs.Command.{Command};
 ghost use Rattle.ft_statements.specs.Words.{Token, StandsFor, halved, closing, between_marks};
 ghost use Rattle.ft_statements.specs.Plain.{Asks, Makes, asks, made_name};
-ghost use Rattle.ft_statements.specs.Statements.{Class, command_of, class_of, HasClass};
+ghost use Rattle.ft_statements.specs.Statements.{Class, spelled_command, class_of, HasClass};
 ghost use Rattle.ft_statements.specs.Grammar.{IsStatement};
 ghost use Rattle.ft_statements.specs.Dots.{DotCommand, Says, dot_command_of};
 
@@ -13,7 +13,7 @@ ghost use Rattle.ft_statements.specs.Dots.{DotCommand, Says, dot_command_of};
 /// none.
 pub fn statements_by_grammar()
     ensures command { (ts : List Token) (c : Command) →
-        (command_of ts ≡ Some c) ↔ IsStatement ts c }
+        (spelled_command ts ≡ Some c) ↔ IsStatement ts c }
     ensures class { (tables : List (List ℕ)) (ts : List Token) (class : Class) →
         (class_of tables ts ≡ Some class) ↔ HasClass tables ts class }
     ensures none { (tables : List (List ℕ)) (ts : List Token) →
@@ -37,7 +37,7 @@ pub fn dot_lines_by_grammar()
 /// computed; and between the first and the last mark of a word is what is taken.
 pub fn literals_by_marks()
     ensures inside { (mark : ℕ) (inside text : List ℕ) → StandsFor mark inside text
-        ↔ (IsMarked mark inside × (halved mark false inside ≡ text)) }
+        ↔ (IsInMarks mark inside × (halved mark false inside ≡ text)) }
     ensures between { (mark : ℕ) (inside text : List ℕ) → StandsFor (closing mark) inside text →
         between_marks (mark ∷ inside ++ closing mark ∷ []) ≡ text }
 {}

@@ -10,7 +10,7 @@ ghost use Rattle.ft_statements.specs.Views.{seen, plain, rest_of, Gives};
 
 use crate::reading::Reader;
 use crate::statement::StatementFault;
-use crate::words::{Token, is_keyword, is_one_of, tokens_of};
+use crate::words::{Token, is_one_of, is_word, tokens_of};
 use shell_text::SqlWord;
 use std::alloc::{AllocError, Global};
 
@@ -25,11 +25,11 @@ pub struct PlainStatement {
     pub made: Option<String>,
 }
 
-// Whether a keyword is one of the words.
-fn has(words: &[Token<'_>], keyword: &str) -> bool
-    ensures { result ≡ list_any (λ word. tokens.is_keyword keyword.now (seen word)) words.now }
+// Whether this is one of the words.
+fn has(words: &[Token<'_>], this: &str) -> bool
+    ensures { result ≡ list_any (λ word. tokens.spells this.now (seen word)) words.now }
 {
-    words.iter().any(|word| is_keyword(word, keyword))
+    words.iter().any(|word| is_word(word, this))
 }
 
 // Whether MATCH is one of the words.
@@ -64,9 +64,9 @@ fn temporary(words: &mut Reader<'_>)
 fn made_name(mut words: Reader<'_>) -> Result<String, StatementFault>
     ensures { Gives string_bytes result (forms.made_name (rest_of words.entry)) }
 {
-    words.keyword("CREATE")?;
+    words.word("CREATE")?;
     temporary(&mut words);
-    words.keyword("TABLE")?;
+    words.word("TABLE")?;
     words.takes_all(&["IF", "NOT", "EXISTS"]);
     words.name()
 }
@@ -79,7 +79,7 @@ pub fn read_plain(
     words: &[SqlWord],
 ) -> Result<PlainStatement, AllocError>
     requires { words.now ≡ words_of text.now }
-    ensures { IfOk result (IsRunAs (tokens.tokens_of text.now)) }
+    ensures { IfOk result (IsRunAs (tokens.sql_tokens text.now)) }
 {
     let tokens = tokens_of(alloc, text, words)?;
     let left = tokens.as_slice();

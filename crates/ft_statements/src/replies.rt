@@ -13,7 +13,7 @@ use std::io::Write;
 
 // A value as it is printed.
 fn cell_of(value: Value) -> Cell
-    ensures { print.value_of result ≡ forms.cell_value (shown_value value) }
+    ensures { print.value_of_cell result ≡ forms.cell_value (shown_value value) }
 {
     match value {
         Value::Null => Cell::Null,
@@ -23,7 +23,7 @@ fn cell_of(value: Value) -> Cell
 }
 
 fn row_of(alloc: Global, values: Vec<Value>) -> Result<Vec<Cell>, AllocError>
-    ensures { IfOk result (λ row. map print.value_of row.items
+    ensures { IfOk result (λ row. map print.value_of_cell row.items
         ≡ map forms.cell_value (views.cells_of values)) }
 {
     let mut row = Vec::new(alloc);
@@ -34,7 +34,7 @@ fn row_of(alloc: Global, values: Vec<Value>) -> Result<Vec<Cell>, AllocError>
 }
 
 fn rows_of(alloc: Global, rows: Vec<Vec<Value>>) -> Result<Vec<Vec<Cell>>, AllocError>
-    ensures { IfOk result (λ cells. map (λ row. map print.value_of row.items) cells.items
+    ensures { IfOk result (λ cells. map (λ row. map print.value_of_cell row.items) cells.items
         ≡ map (map forms.cell_value) (views.rows_of rows)) }
 {
     let mut cells = Vec::new(alloc);
@@ -46,7 +46,8 @@ fn rows_of(alloc: Global, rows: Vec<Vec<Value>>) -> Result<Vec<Vec<Cell>>, Alloc
 
 // A grid as it is printed.
 fn grid_of(alloc: Global, grid: ft_content::Grid) -> Result<Grid, AllocError>
-    ensures { IfOk result (λ shown. print.table_of shown ≡ forms.table_of (views.grid_of grid)) }
+    ensures { IfOk result (λ shown. print.table_of shown
+        ≡ forms.printed_table (views.grid_of grid)) }
 {
     let rows = rows_of(alloc, grid.rows)?;
     Ok(Grid {

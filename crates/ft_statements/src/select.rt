@@ -17,10 +17,10 @@ use ft_content::{Command, Item, Items, Selection};
 fn offsets(words: &mut Reader<'_>) -> Result<Item, StatementFault>
     ensures { Advances views.item_of (read forms.offsets) words.old words.new result }
 {
-    words.keyword("offsets")?;
-    words.symbol("(")?;
+    words.word("offsets")?;
+    words.word("(")?;
     let name = words.name()?;
-    words.symbol(")")?;
+    words.word(")")?;
     Ok(Item::Offsets(name))
 }
 
@@ -34,7 +34,7 @@ impl Spelled for Item {
 
     #[tactic(auto, unfolding(crate::specs::Grammar::item))]
     fn read(words: &mut Reader<'_>) -> Result<Item, StatementFault> {
-        if words.takes_symbol("*") {
+        if words.takes("*") {
             return Ok(Item::All);
         }
         let start = *words;
@@ -53,10 +53,10 @@ impl Spelled for Item {
 fn count_all(words: &mut Reader<'_>) -> Result<Items, StatementFault>
     ensures { Advances views.items_of (read forms.count_all) words.old words.new result }
 {
-    words.keyword("count")?;
-    words.symbol("(")?;
-    words.symbol("*")?;
-    words.symbol(")")?;
+    words.word("count")?;
+    words.word("(")?;
+    words.word("*")?;
+    words.word(")")?;
     Ok(Items::Count)
 }
 
@@ -81,7 +81,7 @@ fn order(words: &mut Reader<'_>) -> Result<(), StatementFault>
     ensures { Advances (λ none. none) (read forms.order) words.old words.new result }
 {
     if words.takes("ORDER") {
-        words.keyword("BY")?;
+        words.word("BY")?;
         key(words)?;
         words.takes_all(&["ASC"]);
     }
@@ -116,9 +116,9 @@ fn limits(words: &mut Reader<'_>) -> Result<(Option<u64>, u64), StatementFault>
 pub(crate) fn select(words: &mut Reader<'_>) -> Result<Command, StatementFault>
     ensures { Advances views.command_of (read forms.select) words.old words.new result }
 {
-    words.keyword("SELECT")?;
+    words.word("SELECT")?;
     let items = selection(words)?;
-    words.keyword("FROM")?;
+    words.word("FROM")?;
     let table = words.name()?;
     let filter = filter(words)?;
     order(words)?;

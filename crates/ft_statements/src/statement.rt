@@ -75,9 +75,9 @@ fn command(words: &mut Reader<'_>) -> Result<Command, StatementFault>
 }
 
 // The command that all of the words spell.
-#[tactic(auto, unfolding(crate::specs::Statements::command_of, crate::specs::Grammar::statement))]
+#[tactic(auto, unfolding(crate::specs::Statements::spelled_command, crate::specs::Grammar::statement))]
 fn statement(mut words: Reader<'_>) -> Result<Command, StatementFault>
-    ensures { Gives views.command_of result (forms.command_of (rest_of words.entry)) }
+    ensures { Gives views.command_of result (forms.spelled_command (rest_of words.entry)) }
 {
     let command = command(&mut words)?;
     words.done()?;
@@ -87,7 +87,7 @@ fn statement(mut words: Reader<'_>) -> Result<Command, StatementFault>
 // The words after which a full-text table's name makes a statement full-text.
 const LEADS: [&str; 6] = ["FROM", "INTO", "UPDATE", "TABLE", "JOIN", "EXISTS"];
 
-// Whether one of these tables has this name.
+/// Whether one of these tables has this name.
 pub(crate) fn has_table(tables: &[TableInfo], name: &str) -> bool
     ensures { result ≡ list_any (forms.is_named name.now) (views.info_names tables.now) }
 {
@@ -142,7 +142,7 @@ pub fn read_statement(
     tables: &[TableInfo],
 ) -> Result<Class, StatementFault>
     requires { words.now ≡ words_of text.now }
-    ensures { ReadsClass (views.info_names tables.now) (tokens.tokens_of text.now) result }
+    ensures { ReadsClass (views.info_names tables.now) (tokens.sql_tokens text.now) result }
 {
     let tokens = tokens_of(alloc, text, words)?;
     let left = tokens.as_slice();

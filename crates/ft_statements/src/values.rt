@@ -16,8 +16,8 @@ use shell_text::SqlKind;
 // The size of the least number of 64 bits.
 const MOST_BELOW_ZERO: u64 = 9_223_372_036_854_775_808;
 
-// The number that digits write, where one that is too large for 64 bits with a sign stands as the
-// least such number.
+/// The number that digits write, where one that is too large for 64 bits with a sign stands as the
+/// least such number.
 pub(crate) fn digits_value(digits: &[u8]) -> u64
     ensures { result ≡ min (numbers.digits_value digits.now) 9223372036854775809 }
 {
@@ -58,14 +58,14 @@ fn number_of(word: &Token<'_>) -> Result<u64, StatementFault>
 fn minus(words: &mut Reader<'_>) -> bool
     ensures { Some (result, rest_of words.new) ≡ read forms.minus (rest_of words.old) }
 {
-    if words.takes_symbol("-") {
+    if words.takes("-") {
         return true;
     }
-    words.takes_symbol("+");
+    words.takes("+");
     false
 }
 
-// A number with a sign or without one.
+/// A number with a sign or without one.
 #[tactic(auto, unfolding(crate::specs::Grammar::integer))]
 pub(crate) fn integer(words: &mut Reader<'_>) -> Result<i64, StatementFault>
     ensures { Advances (λ n. n) (read forms.integer) words.old words.new result }
@@ -75,7 +75,7 @@ pub(crate) fn integer(words: &mut Reader<'_>) -> Result<i64, StatementFault>
     signed(negative, number).ok_or(StatementFault::Syntax)
 }
 
-// A number of rows.
+/// A number of rows.
 #[tactic(auto, unfolding(crate::specs::Grammar::count))]
 pub(crate) fn count(words: &mut Reader<'_>) -> Result<u64, StatementFault>
     ensures { Advances (λ n. n) (read forms.count) words.old words.new result }

@@ -16,14 +16,14 @@ pub(crate) struct Token<'a> {
     pub(crate) text: &'a str,
 }
 
-// The words of a text, each with its own.
+/// The words of a text, each with its own.
 pub(crate) fn tokens_of<'a>(
     alloc: Global,
     text: &'a str,
     words: &[SqlWord],
 ) -> Result<Vec<Token<'a>>, AllocError>
     requires { words.now ≡ words_of text.now }
-    ensures { IfOk result (λ tokens. plain tokens.items ≡ forms.tokens_of text.now) }
+    ensures { IfOk result (λ tokens. plain tokens.items ≡ forms.sql_tokens text.now) }
 {
     words_on_characters();
     let mut tokens = Vec::new(alloc);
@@ -36,26 +36,18 @@ pub(crate) fn tokens_of<'a>(
     Ok(tokens)
 }
 
-// Whether a word is this keyword.
-pub(crate) fn is_keyword(token: &Token<'_>, keyword: &str) -> bool
-    ensures { result ≡ forms.is_keyword keyword.now (seen token.now) }
+/// Whether a word is this one, a keyword or a single character.
+pub(crate) fn is_word(token: &Token<'_>, word: &str) -> bool
+    ensures { result ≡ forms.spells word.now (seen token.now) }
 {
-    matches!(token.kind, SqlKind::Word) && token.text.eq_ignore_ascii_case(keyword)
+    matches!(token.kind, SqlKind::Word | SqlKind::Symbol) && token.text.eq_ignore_ascii_case(word)
 }
 
-// Whether a word is one of these keywords.
-pub(crate) fn is_one_of(token: &Token<'_>, keywords: &[&str]) -> bool
-    ensures { result ≡ list_any (λ keyword. forms.is_keyword keyword.now (seen token.now))
-        keywords.now }
+/// Whether a word is one of these.
+pub(crate) fn is_one_of(token: &Token<'_>, words: &[&str]) -> bool
+    ensures { result ≡ list_any (λ word. forms.spells word.now (seen token.now)) words.now }
 {
-    keywords.iter().any(|keyword| is_keyword(token, keyword))
-}
-
-// Whether a word is this symbol.
-pub(crate) fn is_symbol(token: &Token<'_>, symbol: &str) -> bool
-    ensures { result ≡ forms.is_symbol symbol.now (seen token.now) }
-{
-    matches!(token.kind, SqlKind::Symbol) && token.text == symbol
+    words.iter().any(|word| is_word(token, word))
 }
 
 fn closing(mark: char) -> char
@@ -94,7 +86,7 @@ fn without_marks(alloc: Global, text: &str) -> Result<String, AllocError>
     halved(alloc, closing(mark), inside.as_str())
 }
 
-// The text that a word stands for.
+/// The text that a word stands for.
 pub(crate) fn bare(alloc: Global, token: &Token<'_>) -> Result<String, AllocError>
     ensures { IfOk result (λ text. string_bytes text ≡ forms.bare (seen token.now)) }
 {
@@ -104,7 +96,7 @@ pub(crate) fn bare(alloc: Global, token: &Token<'_>) -> Result<String, AllocErro
     }
 }
 
-// The name that a word is.
+/// The name that a word is.
 pub(crate) fn name_of(alloc: Global, token: &Token<'_>) -> Result<String, StatementFault>
     ensures { Gives string_bytes result (forms.name_of (seen token.now)) }
 {
@@ -114,7 +106,7 @@ pub(crate) fn name_of(alloc: Global, token: &Token<'_>) -> Result<String, Statem
     }
 }
 
-// The text of a literal.
+/// The text of a literal.
 pub(crate) fn literal_of(alloc: Global, token: &Token<'_>) -> Result<String, StatementFault>
     ensures { Gives string_bytes result (forms.literal_of (seen token.now)) }
 {

@@ -3,7 +3,7 @@ use Rattle.std.proofs.Common.{◌≡◌, ◌∙◌, ◌∷◌, ◌⊎◌, ◌^�
 use Rattle.std.specs.List.{AllByRecursion}
 use Rattle.std.specs.Ordering.{eq_by_cmp, int_cmp, int_eq}
 use Rattle.std.specs.Cmp.{IsTotalOrder}
-use Rattle.std.specs.FinMap.Entries.{find, where_key, find-where_key}
+use Rattle.std.specs.FinMap.Entries.{put, find, where_key, find-where_key}
 use Rattle.std.proofs.lemmas.Int.{ints}
 use Rattle.std.proofs.lemmas.Cmp.{int_cmp_total}
 use Rattle.std.proofs.lemmas.Bool.{and_parts, both_ways, ltb-false, true_from_ne_false}
@@ -16,10 +16,8 @@ use Rattle.sqlite.specs.Tree.{Trees}
 use Rattle.sqlite_trees.specs.Tree.{with_tree, put_row, rowid}
 use Rattle.sqlite_sql.specs.Ops.{fits_i64}
 use Rattle.sqlite_sql.specs.Catalog.{entry_of}
-use Rattle.sqlite.specs.Listing.{understood}
-use Rattle.sqlite.specs.State.{State, Executes}
+use Rattle.sqlite.specs.State.{State, ExecutesInside}
 use Rattle.sqlite.specs.declared.error.Error.{Error}
-use Rattle.sqlite_tied.specs.Compute.{everything}
 use Rattle.sqlite_schema.specs.declared.schema.Constraint.TheVariants.{Datatype, NotNull, Check, PrimaryKey, Unique, ForeignKey}
 use Rattle.sqlite_schema.specs.declared.schema.Keys.TheVariants.{Enforced}
 use Rattle.sqlite_schema.specs.Rules.{agree, clashes, differ}
@@ -35,13 +33,14 @@ use Rattle.sqlite_catalog.specs.Listing.{IsSound}
 use Rattle.sqlite_typed.proofs.RowLemmas.{int_is_number, zero_is_number}
 use Rattle.ft_store.specs.Tables.{store_schema, tab_table, case_order}
 use Rattle.ft_store.specs.Rows.{table_entry, value_of}
-use Rattle.ft_store.specs.Calls.{IsStore, HasOwnRowids}
+use Rattle.ft_store.specs.Calls.{IsStore, HasOwnRowids, Steps}
+use Rattle.ft_store.proofs.StepLemmas.{added}
+use Rattle.ft_store.proofs.StoreTables as tables
 use Rattle.ft_store.specs.Puts.{IsGrown, AreGrown, IsTooBig, IsOthers}
 use Rattle.ft_store.proofs.Texts.{add_name_text}
-use Rattle.ft_store.proofs.TextLemmas.{add_name_terms, add_name_is, add_name_plain}
+use Rattle.ft_store.proofs.TextLemmas.{add_name_terms, add_name_means}
 use Rattle.ft_store.proofs.TypedLemmas.{IsNameRow, are_names, int_is}
 use Rattle.ft_store.proofs.AnswerLemmas.{sound_of}
-use Rattle.ft_store.proofs.AskedLemmas.{is_whole}
 use Rattle.ft_store.proofs.KeyedLemmas.{AreApart, find-keyed, some_first, equal_from, itself, apart_back, respects}
 use Rattle.ft_store.proofs.OrderLemmas.{tied_ints, tied_names}
 use Rattle.ft_store.proofs.RowidLemmas.{IsInt}
@@ -90,16 +89,15 @@ name_row tab name = Int tab ∷ Null ∷ Text name ∷ []
 name_made : (tab : ℤ) (name : List ℕ) → made_rows (tab_table 1) add_name_terms 3 (Int tab ∷ Text name ∷ []) ≡ name_row tab name ∷ []
 name_made tab name = rw (cast_int tab, cast_null) refl
 
-add_name_whole : is_whole add_name_text 2 (understood store_schema add_name_text) ≡ true
-unfolding understood everything
-add_name_whole = refl
-
--- no table whose rowids the database gives is written
-pub add_name_grown : (tab : ℤ) (name : List ℕ) (old new : State) (count : ℕ) → IsStore old.now → Executes add_name_text (Int tab ∷ Text name ∷ []) old new (Ok count) → AreGrown 0 old.now.trees new.now.trees
-add_name_grown tab name old new count kept h =
-    let made = inserts old new add_name_text (Int tab ∷ Text name ∷ []) 1 1 _ _ _ _ _ _ _ add_name_terms 3 (name_row tab name) count kept.schema add_name_is add_name_plain refl (rw (cast_int tab, cast_null) refl) h in
-    let o = made.0.others in
-    (go 3 (o.1.1.0 (λ e. omega (arith, e))), (go 5 (o.1.1.1.0 (λ e. omega (arith, e))), (go 7 (o.1.1.1.1.0 (λ e. omega (arith, e))), (go 9 (o.1.1.1.1.1.0 (λ e. omega (arith, e))), (go 11 (o.1.1.1.1.1.1.0 (λ e. omega (arith, e))), (go 13 (o.1.1.1.1.1.1.1.0 (λ e. omega (arith, e))), tt))))))
+-- the name stands under the number, and no table whose rowids the database gives is written
+pub adds_name : (tab : ℤ) (name : List ℕ) (old new : State) (count : ℕ) → IsStore old.now → find int_cmp tab (value_of old.now.trees).tables ≡ None → ExecutesInside 0 add_name_text (Int tab ∷ Text name ∷ []) old new (Ok count)
+    → Steps old new (record (value_of old.now.trees) { tables = put int_cmp tab name (value_of old.now.trees).tables }) × AreGrown 0 old.now.trees new.now.trees
+adds_name tab name old new count kept free ran =
+    let made = inserts old new add_name_text (Int tab ∷ Text name ∷ []) 1 (tab_table 1) add_name_terms 3 (name_row tab name) count kept.schema add_name_means.is add_name_means.plain refl (rw (cast_int tab, cast_null) refl) ran.0 in
+    let o = made.0.others in (
+      added old new kept ran.1 tables.names (name_row tab name) refl made free,
+      (go 3 (o.1.1.0 (λ e. omega (arith, e))), (go 5 (o.1.1.1.0 (λ e. omega (arith, e))), (go 7 (o.1.1.1.1.0 (λ e. omega (arith, e))), (go 9 (o.1.1.1.1.1.0 (λ e. omega (arith, e))), (go 11 (o.1.1.1.1.1.1.0 (λ e. omega (arith, e))), (go 13 (o.1.1.1.1.1.1.1.0 (λ e. omega (arith, e))), tt)))))),
+    )
   where
     go : (t : ℕ) → new.now.trees t ≡ old.now.trees t → IsGrown 0 (old.now.trees t) (new.now.trees t)
     go t same = grown_same 0 _ _ same
@@ -152,7 +150,7 @@ module _ (tab : ℤ) (name : List ℕ) (db : Trees) (sound : IsSound store_schem
   name_refused fit (Violates Unique) h = go (are_unique store_schema.indexes (with_tree db 1 (put_row (name_row tab name) (db 1))) (tab_table 1) (name_row tab name ∷ [])) refl
     where
       go : (b : Bool) → are_unique store_schema.indexes (with_tree db 1 (put_row (name_row tab name) (db 1))) (tab_table 1) (name_row tab name ∷ []) ≡ b → IsOthers tab name (value_of db).tables
-      go true is = absurd (h (unique_kept store_schema db (with_tree db 1 (put_row (name_row tab name) (db 1))) (tab_table 1) _ _ (name_row tab name ∷ []) (turned 1 _ _ _ _ _ _ _ (inr (inl refl)) db (name_row tab name ∷ []) fresh) is (sound.obeys.rules Unique)))
+      go true is = absurd (h (unique_kept store_schema db (with_tree db 1 (put_row (name_row tab name) (db 1))) (tab_table 1) _ _ (name_row tab name ∷ []) (turned (tab_table 1) (inr (inl refl)) db (name_row tab name ∷ []) fresh) is (sound.obeys.rules Unique)))
       go false is = twice is
   name_refused fit (Violates ForeignKey) h = absurd h
   name_refused fit Mismatch h = absurd (true≢false h)
@@ -172,7 +170,7 @@ module _ (tab : ℤ) (name : List ℕ) (db : Trees) (sound : IsSound store_schem
 pub add_name_why : (tab : ℤ) (name : List ℕ) (old new : State) → FitsSigned w64 tab → (IsTrue old.is_open → find int_cmp tab (value_of old.now.trees).tables ≡ None)
     → RunBlamed old new add_name_text (Int tab ∷ Text name ∷ []) (IsTooBig 3 (length name) ⊎ IsOthers tab name (value_of old.now.trees).tables)
 add_name_why tab name old new fit free store (e, other, ran) =
-    elim (insert_blamed 1 _ _ _ _ _ _ _ old new add_name_text (Int tab ∷ Text name ∷ []) 1 add_name_terms 3 add_name_is add_name_plain add_name_whole refl (λ db x h. elim h [ inl bad ↦ true≢false bad.1 | inr limit ↦ true≢false (sym limit.1) ]) store e other ran) [
+    elim (insert_blamed (tab_table 1) old new add_name_text (Int tab ∷ Text name ∷ []) 1 add_name_terms 3 add_name_means.is add_name_means.plain add_name_means.whole refl (λ db x h. elim h [ inl bad ↦ true≢false bad.1 | inr limit ↦ true≢false (sym limit.1) ]) store e other ran) [
       | inl blamed ↦ inl blamed
       | inr cant ↦
           let kept = store cant.0 in

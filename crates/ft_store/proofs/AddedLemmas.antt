@@ -1,8 +1,8 @@
 -- What the statements that put rows leave room for, and why they are refused.
-use Rattle.std.proofs.Common.{◌≡◌, ◌≢◌, ◌∙◌, ◌∷◌, ◌⊎◌, ◌+◌, ℕ, ℤ, Bool, true, false, List, [], length, map, Option, Some, None, Ok, Err, inl, inr, refl, sym, ap, subst, arith, IsTrue, true≢false, slice_get}
-use Rattle.std.specs.Prelude.{Any, MatchBool, if◌then◌else◌}
+use Rattle.std.proofs.Common.{◌≡◌, ◌≢◌, ◌∙◌, ◌∷◌, ◌⊎◌, ◌+◌, ℕ, ℤ, Bool, true, false, List, [], length, map, Some, None, Ok, Err, inl, inr, refl, sym, ap, subst, arith, IsTrue, true≢false, slice_get, ◌<◌, ◌≤◌, ◌^◌, T}
+use Rattle.std.specs.Prelude.{Any, MatchBool, if◌then◌else◌, IsUtf8, unwrap_or}
 use Rattle.std.specs.List.{AllByRecursion, list_all, flat_map}
-use Rattle.std.specs.FinMap.Entries.{find}
+use Rattle.std.specs.FinMap.Entries.{find, put, is_sorted}
 use Rattle.std.specs.Ordering.{eq_by_cmp}
 use Rattle.std.proofs.lemmas.Bool.{both_ways}
 use Rattle.sqlite.specs.declared.types.Value.TheVariants.{Null, Int, Text, Blob}
@@ -26,13 +26,10 @@ use Rattle.sqlite.specs.declared.error.ErrorCode.TheVariants as code
 use Rattle.sqlite.proofs.Callers.{IsPlain, command_of}
 use Rattle.sqlite.specs.Rowids.TheVariants.{Chosen}
 use Rattle.sqlite_value.specs.Keys.{first_key, without_case}
-use Rattle.sqlite_tied.specs.Compute.{everything}
-use Rattle.sqlite_schema.specs.declared.schema.Column.{Column}
 use Rattle.sqlite_schema.specs.declared.schema.Index.{Index}
 use Rattle.sqlite_schema.specs.declared.schema.Constraint.{Constraint}
 use Rattle.sqlite_schema.specs.declared.schema.Constraint.TheVariants.{Datatype, NotNull, Check, Unique}
 use Rattle.sqlite_schema.specs.Rules.{agree, passes, table_reals, index_reals}
-use Rattle.sqlite_value.specs.declared.keys.Order.{Order}
 use Rattle.sqlite_rules.specs.Lists.{Has}
 use Rattle.sqlite_rules.specs.Keys.{are_unique}
 use Rattle.sqlite_rules.specs.Edit.{with_rowid, next_rowid, numbered, IsOversized}
@@ -43,26 +40,33 @@ use Rattle.sqlite_sql.specs.Catalog.{entry_of}
 use Rattle.sqlite_catalog.specs.Listing.{IsSound}
 use Rattle.sqlite_typed.proofs.TestLemmas.{last_term}
 use Rattle.sqlite_typed.proofs.RowLemmas.{int_is_number, zero_is_number}
-use Rattle.ft_rows.specs.Store.{column_key_cmp, cell_key_cmp, list_key_cmp, name_cmp}
-use Rattle.ft_store.specs.Tables.{store_schema, a_table, col_table, cell_table, posting_table, sizes_table, noted_table, skip_table, plain_order, case_order}
-use Rattle.ft_store.specs.Rows.{num_of, txt_of, column_entry, skip_entry, cell_entry, list_entry, size_entry, note_entry, value_of}
-use Rattle.ft_store.specs.Calls.{IsStore, HasOwnRowids}
+use Rattle.ft_rows.specs.Store.{column_key_cmp, cell_key_cmp, list_key_cmp, name_cmp, StoreValue, without_key}
+use Rattle.ft_store.specs.Tables.{store_schema, cell_table, posting_table}
+use Rattle.ft_store.specs.Rows.{num_of, txt_of, value_of, cell_in}
+use Rattle.ft_store.specs.Calls.{IsStore, HasOwnRowids, Steps}
 use Rattle.ft_store.specs.Blame.{IsBlamed}
-use Rattle.ft_store.specs.Puts.{IsFull, AreGrown, IsTooBig, IsBigEntry}
-use Rattle.ft_store.specs.Groups.{Entry, entry_values}
+use Rattle.ft_store.specs.Puts.{IsFull, AreGrown, IsTooBig, IsBigEntry, IsGrown, KeepsRest}
+use Rattle.ft_store.specs.Groups.{PackedList, entry_values}
 use Rattle.ft_store.proofs.GroupLemmas.{all_eight}
-use Rattle.ft_store.proofs.Texts.{add_column_text, add_skip_text, add_cell_text, add_list_text, add_lists_text, add_size_text, add_note_text}
-use Rattle.ft_store.proofs.TextLemmas.{add_column_terms, add_column_is, add_column_plain, add_skip_terms, add_skip_is, add_skip_plain, add_cell_terms, add_cell_is, add_cell_plain, add_list_terms, add_list_is, add_list_plain, add_lists_terms, add_lists_is, add_lists_plain, add_size_terms, add_size_is, add_size_plain, add_note_terms, add_note_is, add_note_plain}
-use Rattle.ft_store.proofs.TypedLemmas.{IsColumnRow, IsSkipRow, IsCellRow, IsListRow, IsSizeRow, IsNoteRow, are_columns, are_skips, are_cells, are_lists, are_sizes, are_notes}
+use Rattle.ft_store.proofs.Texts.{drop_column_text, drop_skip_text, drop_cell_text, drop_list_text, drop_size_text, drop_note_text, add_column_text, add_skip_text, add_cell_text, add_list_text, add_lists_text, add_size_text, add_note_text}
+use Rattle.ft_store.proofs.TextLemmas.{IsInsertion, add_cell_terms, add_lists_terms, add_column_means, add_skip_means, add_cell_means, add_list_means, add_lists_means, add_size_means, add_note_means}
 use Rattle.ft_store.proofs.AnswerLemmas.{sound_of}
-use Rattle.ft_store.proofs.AskedLemmas.{is_whole}
-use Rattle.ft_store.proofs.KeyedLemmas.{find-keyed}
-use Rattle.ft_store.proofs.OrderLemmas.{tied_column_keys, column_key_total, tied_cell_keys, cell_key_total, tied_list_keys, list_key_total, tied_names, name_total}
-use Rattle.ft_store.proofs.ChangeLemmas.{inserts_all, cast_null, cast_int}
+use Rattle.ft_store.proofs.KeyedLemmas.{find-keyed, is_sorted-keyed, find-without_key, put-without_key}
+use Rattle.ft_store.proofs.ChangeLemmas.{bare_table, inserts, inserts_all, cast_null, cast_int}
+use Rattle.ft_store.proofs.StepLemmas.{added}
+use Rattle.ft_store.proofs.StoreTables.{StoreTable}
+use Rattle.ft_store.proofs.StoreTables as tables
+use Rattle.ft_store.proofs.ShownLemmas.{text_again}
+use Rattle.ft_store.proofs.PutLemmas.{then_step}
+use Rattle.sqlite.specs.Rows.{stamped}
+use Rattle.sqlite.specs.Store.{Ghosts}
+use Rattle.sqlite.specs.Held.{Held, state}
+use Rattle.ft_rows.specs.Packed.{spots_in}
+use Rattle.ft_store.specs.Changes.{TakesRows, ReplacesRow}
 use Rattle.ft_store.proofs.WriteLemmas.{then_tie, turned, turned_text, turned_case, cast_num, cast_txt, cast_lists, list_row}
-use Rattle.ft_store.proofs.GoneLemmas.{wrote_grown}
-use Rattle.ft_store.proofs.RiseLemmas.{IsUnnumbered, numbered_grown, trees_same}
-use Rattle.ft_store.proofs.InsertLemmas.{CantAdd, made_rows, insert_blamed, refused_why, no_clash, IsNumber, too_big}
+use Rattle.ft_store.proofs.GoneLemmas.{wrote_grown, rest_of, drop_column, drop_skip, drop_cell, drop_list, drop_size, drop_note}
+use Rattle.ft_store.proofs.RiseLemmas.{IsUnnumbered, numbered_grown, trees_same, full_since}
+use Rattle.ft_store.proofs.InsertLemmas.{CantAdd, IsGiven, room, made_rows, insert_blamed, refused_why, no_clash, IsNumber, too_big}
 
 -- what is too big in a row: the row, or its entry in the one index of its table
 pub oversized_why : (table : Table) (cols : List ℕ) → AllByRecursion (λ (i : Index). i.table ≡ table.tree → i.columns ≡ cols) store_schema.indexes → table_reals table ≡ 0 → index_reals 0 cols ≡ 0
@@ -71,28 +75,28 @@ oversized_why table cols own plain bare row (inl big) = inl (subst (λ n. ¬ IsS
 oversized_why table cols own plain bare row (inr (i, has, on, big)) =
     inr (subst (λ n. ¬ IsStorable n (entry_of cols row)) bare (subst (λ n. ¬ IsStorable (index_reals n cols) (entry_of cols row)) plain (subst (λ c. ¬ IsStorable (index_reals (table_reals table) c) (entry_of c row)) (all_has (λ (j : Index). j.table ≡ table.tree → j.columns ≡ cols) store_schema.indexes i own has on) big)))
 
-module _ (tree : ℕ) (name : List ℕ) (columns : List Column) (key : Option ℕ) (primary : List ℕ) (uniques : List (List ℕ)) (orders : List Order) (checks : List Term) where
+module _ (a : Table) where
   abbrev the_table : Table
-  the_table = a_table tree name columns key primary uniques orders checks
+  the_table = bare_table a
 
   insert_grown : (old new : State) (text : List ℕ) (params : Row) (at : ℕ) (terms : List Term) (width : ℕ) (sources : List Row) (count : ℕ) → old.now.schema ≡ store_schema
       → command_of (understood store_schema text) ≡ Insert at (Values terms width) → IsPlain (understood store_schema text) → slice_get store_schema.tables at ≡ Some the_table
-      → made_rows the_table terms width params ≡ sources → AllByRecursion IsUnnumbered sources → HasOwnRowids (old.now.trees tree) → Executes text params old new (Ok count)
+      → made_rows the_table terms width params ≡ sources → AllByRecursion IsUnnumbered sources → HasOwnRowids (old.now.trees a.tree) → Executes text params old new (Ok count)
       → AreGrown (length sources) old.now.trees new.now.trees
   insert_grown old new text params at terms width sources count has is plain found makes bare own h =
-      let rows = old.now.trees tree in
-      let made = inserts_all old new text params at tree name columns key primary uniques orders checks terms width (numbered Chosen rows sources) count has is plain found (ap (numbered Chosen rows) makes) h in
-      wrote_grown tree (length sources) old new _ made.0 (numbered_grown sources rows own.1 bare)
+      let rows = old.now.trees a.tree in
+      let made = inserts_all old new text params at a terms width (numbered Chosen rows sources) count has is plain found (ap (numbered Chosen rows) makes) h in
+      wrote_grown a.tree (length sources) old new _ made.0 (numbered_grown sources rows own.1 bare)
 
   -- why one row is not added, where its key is free
-  module _ (listed : Has store_schema.tables the_table) (db : Trees) (sound : IsSound store_schema db) (own : HasOwnRowids (db tree)) (source : Row) (bare : IsUnnumbered source) where
+  module _ (listed : Has store_schema.tables the_table) (db : Trees) (sound : IsSound store_schema db) (own : HasOwnRowids (db a.tree)) (source : Row) (bare : IsUnnumbered source) where
     abbrev new_row : Row
-    new_row = with_rowid Chosen (db tree) source
+    new_row = with_rowid Chosen (db a.tree) source
 
     one_why : list_all (passes Datatype store_schema db the_table) (new_row ∷ []) ≡ true → list_all (passes NotNull store_schema db the_table) (new_row ∷ []) ≡ true → list_all (passes Check store_schema db the_table) (new_row ∷ []) ≡ true
-        → are_unique store_schema.indexes (with_tree db tree (put_row new_row (db tree))) the_table (new_row ∷ []) ≡ true
-        → (e : Error) → CantAdd e the_table db (source ∷ []) → IsFull 1 (db tree) ⊎ IsOversized store_schema the_table new_row
-    one_why typed present checked unique e (inl refused) = elim (refused_why tree name columns key primary uniques orders checks listed db sound own (source ∷ []) (bare, tt) typed present checked refused.0 refused.1) [
+        → are_unique store_schema.indexes (with_tree db a.tree (put_row new_row (db a.tree))) the_table (new_row ∷ []) ≡ true
+        → (e : Error) → CantAdd e the_table db (source ∷ []) → IsFull 1 (db a.tree) ⊎ IsOversized store_schema the_table new_row
+    one_why typed present checked unique e (inl refused) = elim (refused_why a listed db sound own (source ∷ []) (bare, tt) typed present checked refused.0 refused.1) [
       | inl full ↦ inl full
       | inr twice ↦ absurd (both_ways _ twice.1 unique)
     ]
@@ -104,117 +108,107 @@ abbrev pub RunBlamed : State → State → List ℕ → Row → Type 0 → Type 
 RunBlamed old new sql params Why =
     (IsTrue old.is_open → IsStore old.now) → (e : Error) × (e ≢ SqliteFailure code.OutOfMemory) × ExecutesInside 0 sql params old new (Err e) → IsBlamed old new ⊎ Why
 
--- ---- the columns of tables
+-- ---- one row
 
-abbrev column_source : ℤ → ℤ → List ℕ → Row
-column_source tab at name = Null ∷ Int tab ∷ Int at ∷ Text name ∷ []
+-- too big a row of a table, whose key is indexed
+oversized : {K X : Type 0} {P : Row → Type 0} (t : StoreTable K X P) (row : Row) → table_reals (bare_table t.table) ≡ 0 → index_reals 0 t.places ≡ 0 → AllByRecursion IsNumber row → AllByRecursion IsNumber (entry_of t.places row)
+    → (1 < length row) × (length row ≤ 2001) → (0 < length (entry_of t.places row)) × (length (entry_of t.places row) ≤ 2001) → room (entry_of t.places row) ≤ room row → IsOversized store_schema (bare_table t.table) row → 10 ^ 9 < room row
+oversized t row plain_table bare numbers keys long wide less big = too_big row (entry_of t.places row) numbers keys long wide less (oversized_why (bare_table t.table) t.places t.index plain_table bare row big)
 
-column_made : (tab : ℤ) (at : ℤ) (name : List ℕ) → made_rows (col_table 3) add_column_terms 4 (Int tab ∷ Int at ∷ Text name ∷ []) ≡ column_source tab at name ∷ []
-column_made tab at name = rw (cast_null, cast_int tab, cast_int at) refl
+-- A statement adds one row to a table: what the columns make of its parameters, the entry of the row,
+-- and why a rule of the table does not refuse it where its key is free. More than so many values with
+-- so many bytes are too big.
+pub record AddsRow {K X : Type 0} {P : Row → Type 0} (t : StoreTable K X P) (text : List ℕ) (params : Row) (key : K) (x : X) (values count : ℕ) : Type 0 where
+  pub terms : List Term
+  pub width : ℕ
+  pub row : Row
+  pub means : IsInsertion t.at terms width text (length params)
+  pub made : made_rows (bare_table t.table) terms width params ≡ (Null ∷ row) ∷ []
+  pub given : IsGiven (bare_table t.table) terms width (stamped (bare_table t.table) params)
+  pub entry : (id : ℤ) → t.entry (Int id ∷ row) ≡ (key, x)
+  pub agrees : (id : ℤ) (r : Row) → P r → agree t.order t.places r t.places (Int id ∷ row) ≡ eq_by_cmp t.cmp key (t.entry r).0
+  pub typed : (db : Trees) (id : ℤ) → list_all (passes Datatype store_schema db (bare_table t.table)) ((Int id ∷ row) ∷ []) ≡ true
+  pub present : (db : Trees) (id : ℤ) → list_all (passes NotNull store_schema db (bare_table t.table)) ((Int id ∷ row) ∷ []) ≡ true
+  pub checked : (db : Trees) (id : ℤ) → list_all (passes Check store_schema db (bare_table t.table)) ((Int id ∷ row) ∷ []) ≡ true
+  pub big : (id : ℤ) → IsOversized store_schema (bare_table t.table) (Int id ∷ row) → IsTooBig values count
 
-pub add_column_grown : (tab : ℤ) (at : ℤ) (name : List ℕ) (old new : State) (count : ℕ) → IsStore old.now → Executes add_column_text (Int tab ∷ Int at ∷ Text name ∷ []) old new (Ok count) → AreGrown 1 old.now.trees new.now.trees
-add_column_grown tab at name old new count kept h =
-    insert_grown 3 _ _ _ _ _ _ _ old new add_column_text (Int tab ∷ Int at ∷ Text name ∷ []) 2 add_column_terms 4 (column_source tab at name ∷ []) count kept.schema add_column_is add_column_plain refl (column_made tab at name) (refl, tt) kept.numbered.1.1.0 h
+module _ {K X : Type 0} {P : Row → Type 0} (t : StoreTable K X P) (text : List ℕ) (params : Row) (key : K) (x : X) (values count : ℕ) (it : AddsRow t text params key x values count) where
+  abbrev IsFree : State → Type 0
+  IsFree s = find t.cmp key (t.rows (value_of s.now.trees)) ≡ None
 
-add_column_whole : is_whole add_column_text 3 (understood store_schema add_column_text) ≡ true
-unfolding understood everything
-add_column_whole = refl
+  adds : (old new : State) (n : ℕ) → IsStore old.now → IsFree old → ExecutesInside 0 text params old new (Ok n)
+      → Steps old new (t.with_rows (put t.cmp key x (t.rows (value_of old.now.trees))) (value_of old.now.trees)) × AreGrown 1 old.now.trees new.now.trees × KeepsRest t.table.tree old.now.trees new.now.trees
+  adds old new n kept free ran =
+      let rows = old.now.trees t.table.tree in
+      let v = value_of old.now.trees in
+      let id = next_rowid rows in
+      let made = inserts old new text params t.at t.table it.terms it.width (Int id ∷ it.row) n kept.schema it.means.is it.means.plain t.found (ap (numbered Chosen rows) it.made) ran.0 in
+      let free_entry = ap (λ (e : K × X). find t.cmp e.0 (t.rows v)) (it.entry id) ∙ free in (
+        subst (λ (e : K × X). Steps old new (t.with_rows (put t.cmp e.0 e.1 (t.rows v)) v)) (it.entry id) (added old new kept ran.1 t (Int id ∷ it.row) refl made free_entry),
+        wrote_grown t.table.tree 1 old new _ made.0 (numbered_grown ((Null ∷ it.row) ∷ []) rows (t.own old.now.trees kept.numbered).1 (refl, tt)),
+        rest_of t.table.tree old.now.trees new.now.trees made.0.others,
+      )
 
-column_agree : (rowid : ℤ) (tab : ℤ) (at : ℤ) (name : List ℕ) (r : Row) → IsColumnRow r → agree plain_order (1 ∷ 2 ∷ []) r (1 ∷ 2 ∷ []) (Int rowid ∷ Int tab ∷ Int at ∷ Text name ∷ []) ≡ eq_by_cmp column_key_cmp (tab, at) (column_entry r).0
-unfolding first_key
-column_agree rowid tab at name r typed = then_tie _ _ (turned _ _ _ _ typed.tab refl) (last_term (turned _ _ _ _ typed.at refl))
+  cant_why : (s : State) → IsStore s.now → IsFree s → (e : Error) → CantAdd e (bare_table t.table) s.now.trees ((Null ∷ it.row) ∷ []) → IsFull 1 (s.now.trees t.table.tree) ⊎ IsTooBig values count
+  cant_why s kept free e cant =
+      let db = s.now.trees in
+      let rows = db t.table.tree in
+      let sound = sound_of s kept in
+      let own = t.own db kept.numbered in
+      let id = next_rowid rows in
+      let row = Int id ∷ it.row in
+      let agrees = λ (r : Row) (h : P r). it.agrees id r h ∙ ap (λ (e : K × X). eq_by_cmp t.cmp e.0 (t.entry r).0) (sym (it.entry id)) in
+      let none = ap (λ (e : K × X). find t.cmp e.0 (map t.entry rows)) (it.entry id) ∙ sym (find-keyed t.cmp t.total t.tie key (map t.entry rows)) ∙ ap (find t.cmp key) (sym (t.are db)) ∙ free in
+      let clash = no_clash t.cmp t.entry t.order t.places P row id rows refl (t.typed db sound own) agrees none in
+      elim (one_why t.table t.listed db sound own (Null ∷ it.row) refl (it.typed db id) (it.present db id) (it.checked db id) (t.unique_if db (put_row row rows) row clash) e cant) [
+        | inl full ↦ inl full
+        | inr big ↦ inr (it.big id big)
+      ]
 
-column_big : (rowid : ℤ) (tab : ℤ) (at : ℤ) (name : List ℕ) → IsOversized store_schema (col_table 3) (Int rowid ∷ Int tab ∷ Int at ∷ Text name ∷ []) → IsTooBig 4 (length name)
-column_big rowid tab at name big =
-    let row = Int rowid ∷ Int tab ∷ Int at ∷ Text name ∷ [] in
-    let all = too_big row (entry_of (1 ∷ 2 ∷ []) row) (int_is_number rowid, (int_is_number tab, (int_is_number at, (zero_is_number, tt)))) (int_is_number tab, (int_is_number at, (int_is_number rowid, tt))) (omega arith, omega arith) (omega arith, omega arith) (omega arith)
-    (oversized_why (col_table 3) (1 ∷ 2 ∷ []) ((λ e. absurd (omega (arith, e))), ((λ e. refl), ((λ e. absurd (omega (arith, e))), ((λ e. absurd (omega (arith, e))), ((λ e. absurd (omega (arith, e))), ((λ e. absurd (omega (arith, e))), ((λ e. absurd (omega (arith, e))), tt))))))) refl refl row big) in
-    omega (arith, all)
+  add_why : (old new : State) → IsStore old.now → IsFree old → (e : Error) × (e ≢ SqliteFailure code.OutOfMemory) × ExecutesInside 0 text params old new (Err e)
+      → IsBlamed old new ⊎ (IsFull 1 (old.now.trees t.table.tree) ⊎ IsTooBig values count)
+  add_why old new kept free (e, other, ran) =
+      elim (insert_blamed t.table old new text params t.at it.terms it.width it.means.is it.means.plain it.means.whole t.found it.given (λ _. kept) e other ran) [
+        | inl blamed ↦ inl blamed
+        | inr cant ↦ inr (cant_why old kept free e (subst (CantAdd e (bare_table t.table) old.now.trees) it.made cant.1))
+      ]
 
-column_why : (tab : ℤ) (at : ℤ) (name : List ℕ) (db : Trees) → IsSound store_schema db → HasOwnRowids (db 3) → find column_key_cmp (tab, at) (value_of db).columns ≡ None
-    → (e : Error) → CantAdd e (col_table 3) db (column_source tab at name ∷ []) → IsFull 1 (db 3) ⊎ IsTooBig 4 (length name)
-column_why tab at name db sound own free e cant =
-    let id = next_rowid (db 3) in
-    let clash = no_clash column_key_cmp column_entry plain_order (1 ∷ 2 ∷ []) IsColumnRow (Int id ∷ Int tab ∷ Int at ∷ Text name ∷ []) id (db 3) refl (are_columns db sound) (column_agree id tab at name) (sym (find-keyed column_key_cmp column_key_total tied_column_keys (tab, at) (map column_entry (db 3))) ∙ free) in
-    elim (one_why 3 _ _ _ _ _ _ _ (inr (inr (inl refl))) db sound own (column_source tab at name) refl refl refl refl (rw clash refl) e cant) [
-      | inl full ↦ inl full
-      | inr big ↦ inr (column_big id tab at name big)
-    ]
+  -- put in place of what has its key
+  module _ {S : Type 0} (g : Ghosts S) where
+    abbrev gone : StoreValue → StoreValue
+    gone v = t.with_rows (without_key t.cmp key (t.rows v)) v
 
-pub add_column_why : (tab : ℤ) (at : ℤ) (name : List ℕ) (old new : State) → (IsTrue old.is_open → find column_key_cmp (tab, at) (value_of old.now.trees).columns ≡ None) → RunBlamed old new add_column_text (Int tab ∷ Int at ∷ Text name ∷ []) (IsFull 1 (old.now.trees 3) ⊎ IsTooBig 4 (length name))
-add_column_why tab at name old new free store (e, other, ran) =
-    elim (insert_blamed 3 _ _ _ _ _ _ _ old new add_column_text (Int tab ∷ Int at ∷ Text name ∷ []) 2 add_column_terms 4 add_column_is add_column_plain add_column_whole refl (λ db e h. elim h [ inl bad ↦ true≢false bad.1 | inr limit ↦ true≢false (sym limit.1) ]) store e other ran) [
-      | inl blamed ↦ inl blamed
-      | inr cant ↦
-          let kept = store cant.0 in
-          inr (column_why tab at name old.now.trees (sound_of old kept) kept.numbered.1.1.0 (free cant.0) e (subst (CantAdd e (col_table 3) old.now.trees) (column_made tab at name) cant.1))
-    ]
+    free_key : (old mid : Held S) → Steps (state g old) (state g mid) (gone (value_of (state g old).now.trees)) → IsFree (state g mid)
+    free_key old mid one =
+        let was = t.rows (value_of (state g old).now.trees) in
+        ap (λ (v : StoreValue). find t.cmp key (t.rows v)) one.is ∙ ap (find t.cmp key) (t.got (without_key t.cmp key was) (value_of (state g old).now.trees)) ∙ find-without_key t.cmp t.total t.tie key was
 
--- ---- the columns that aren't indexed
+    put_steps : (old mid new : Held S) → Steps (state g old) (state g mid) (gone (value_of (state g old).now.trees))
+        → Steps (state g mid) (state g new) (t.with_rows (put t.cmp key x (t.rows (value_of (state g mid).now.trees))) (value_of (state g mid).now.trees))
+        → Steps (state g old) (state g new) (t.with_rows (put t.cmp key x (t.rows (value_of (state g old).now.trees))) (value_of (state g old).now.trees))
+    put_steps old mid new one two =
+        let db = (state g old).now.trees in
+        let was = value_of db in
+        let rest = without_key t.cmp key (t.rows was) in
+        let sorted = subst (λ l. T (is_sorted t.cmp l)) (sym (t.are db)) (is_sorted-keyed t.cmp t.total t.tie (map t.entry (db t.table.tree))) in
+        subst (Steps (state g old) (state g new)) (ap (λ l. t.with_rows (put t.cmp key x l) (t.with_rows rest was)) (t.got rest was) ∙ t.set rest _ was ∙ ap (λ l. t.with_rows l was) (put-without_key t.cmp t.total t.tie key x (t.rows was) sorted))
+        (then_step (state g old) (state g mid) (state g new) _ (λ v. t.with_rows (put t.cmp key x (t.rows v)) v) one two)
 
-abbrev skip_source : ℤ → ℤ → Row
-skip_source tab at = Null ∷ Int tab ∷ Int at ∷ []
+    pub replaces : (drop : List ℕ) (keyed_by : Row) → TakesRows g drop keyed_by t.table.tree gone → ((a b : Trees) → AreGrown 0 a b → IsGrown 0 (a t.table.tree) (b t.table.tree))
+        → ReplacesRow g drop text keyed_by params t.table.tree (λ v. t.with_rows (put t.cmp key x (t.rows v)) v) values count
+    replaces drop keyed_by taken grows = record {
+      gone = gone;
+      takes = taken;
+      adds = λ old mid new n one ran.
+          let more = adds (state g mid) (state g new) n one.store (free_key old mid one) ran in (put_steps old mid new one more.0, more.1, more.2);
+      refused = λ old mid new one grown why. elim (add_why (state g mid) (state g new) one.store (free_key old mid one) why) [
+        | inl blamed ↦ inl blamed
+        | inr (inl full) ↦ inr (inl (full_since 0 1 ((state g old).now.trees t.table.tree) ((state g mid).now.trees t.table.tree) (grows (state g old).now.trees (state g mid).now.trees grown) full))
+        | inr (inr big) ↦ inr (inr big)
+      ];
+    }
 
-skip_made : (tab : ℤ) (at : ℤ) → made_rows (skip_table 13) add_skip_terms 3 (Int tab ∷ Int at ∷ []) ≡ skip_source tab at ∷ []
-skip_made tab at = rw (cast_null, cast_int tab, cast_int at) refl
-
-pub add_skip_grown : (tab : ℤ) (at : ℤ) (old new : State) (count : ℕ) → IsStore old.now → Executes add_skip_text (Int tab ∷ Int at ∷ []) old new (Ok count) → AreGrown 1 old.now.trees new.now.trees
-add_skip_grown tab at old new count kept h =
-    insert_grown 13 _ _ _ _ _ _ _ old new add_skip_text (Int tab ∷ Int at ∷ []) 7 add_skip_terms 3 (skip_source tab at ∷ []) count kept.schema add_skip_is add_skip_plain refl (skip_made tab at) (refl, tt) kept.numbered.1.1.1.1.1.1.1.0 h
-
-add_skip_whole : is_whole add_skip_text 2 (understood store_schema add_skip_text) ≡ true
-unfolding understood everything
-add_skip_whole = refl
-
-skip_agree : (rowid : ℤ) (tab : ℤ) (at : ℤ) (r : Row) → IsSkipRow r → agree plain_order (1 ∷ 2 ∷ []) r (1 ∷ 2 ∷ []) (Int rowid ∷ Int tab ∷ Int at ∷ []) ≡ eq_by_cmp column_key_cmp (tab, at) (skip_entry r).0
-unfolding first_key
-skip_agree rowid tab at r typed = then_tie _ _ (turned _ _ _ _ typed.tab refl) (last_term (turned _ _ _ _ typed.at refl))
-
-skip_big : (rowid : ℤ) (tab : ℤ) (at : ℤ) → IsOversized store_schema (skip_table 13) (Int rowid ∷ Int tab ∷ Int at ∷ []) → ⊥
-skip_big rowid tab at big =
-    let row = Int rowid ∷ Int tab ∷ Int at ∷ [] in
-    let all = too_big row (entry_of (1 ∷ 2 ∷ []) row) (int_is_number rowid, (int_is_number tab, (int_is_number at, tt))) (int_is_number tab, (int_is_number at, (int_is_number rowid, tt))) (omega arith, omega arith) (omega arith, omega arith) (omega arith)
-    (oversized_why (skip_table 13) (1 ∷ 2 ∷ []) ((λ e. absurd (omega (arith, e))), ((λ e. absurd (omega (arith, e))), ((λ e. absurd (omega (arith, e))), ((λ e. absurd (omega (arith, e))), ((λ e. absurd (omega (arith, e))), ((λ e. absurd (omega (arith, e))), ((λ e. refl), tt))))))) refl refl row big) in
-    omega (arith, all)
-
-skip_why : (tab : ℤ) (at : ℤ) (db : Trees) → IsSound store_schema db → HasOwnRowids (db 13) → find column_key_cmp (tab, at) (value_of db).skipped ≡ None
-    → (e : Error) → CantAdd e (skip_table 13) db (skip_source tab at ∷ []) → IsFull 1 (db 13)
-skip_why tab at db sound own free e cant =
-    let id = next_rowid (db 13) in
-    let clash = no_clash column_key_cmp skip_entry plain_order (1 ∷ 2 ∷ []) IsSkipRow (Int id ∷ Int tab ∷ Int at ∷ []) id (db 13) refl (are_skips db sound) (skip_agree id tab at) (sym (find-keyed column_key_cmp column_key_total tied_column_keys (tab, at) (map skip_entry (db 13))) ∙ free) in
-    elim (one_why 13 _ _ _ _ _ _ _ (inr (inr (inr (inr (inr (inr (inr (inl refl)))))))) db sound own (skip_source tab at) refl refl refl refl (rw clash refl) e cant) [
-      | inl full ↦ full
-      | inr big ↦ absurd (skip_big id tab at big)
-    ]
-
-pub add_skip_why : (tab : ℤ) (at : ℤ) (old new : State) → (IsTrue old.is_open → find column_key_cmp (tab, at) (value_of old.now.trees).skipped ≡ None) → RunBlamed old new add_skip_text (Int tab ∷ Int at ∷ []) (IsFull 1 (old.now.trees 13))
-add_skip_why tab at old new free store (e, other, ran) =
-    elim (insert_blamed 13 _ _ _ _ _ _ _ old new add_skip_text (Int tab ∷ Int at ∷ []) 7 add_skip_terms 3 add_skip_is add_skip_plain add_skip_whole refl (λ db e h. elim h [ inl bad ↦ true≢false bad.1 | inr limit ↦ true≢false (sym limit.1) ]) store e other ran) [
-      | inl blamed ↦ inl blamed
-      | inr cant ↦
-          let kept = store cant.0 in
-          inr (skip_why tab at old.now.trees (sound_of old kept) kept.numbered.1.1.1.1.1.1.1.0 (free cant.0) e (subst (CantAdd e (skip_table 13) old.now.trees) (skip_made tab at) cant.1))
-    ]
-
--- ---- cells
-
-abbrev cell_source : ℤ → ℤ → ℤ → Cell → Row
-cell_source tab docid at v = Null ∷ Int tab ∷ Int docid ∷ Int at ∷ num_of v ∷ txt_of v ∷ []
-
-cell_made : (tab : ℤ) (docid : ℤ) (at : ℤ) (v : Cell) → made_rows (cell_table 5) add_cell_terms 6 (Int tab ∷ Int docid ∷ Int at ∷ num_of v ∷ txt_of v ∷ []) ≡ cell_source tab docid at v ∷ []
-cell_made tab docid at v = rw (cast_null, cast_int tab, cast_int docid, cast_int at, cast_num v, cast_txt v) refl
-
-pub add_cell_grown : (tab : ℤ) (docid : ℤ) (at : ℤ) (v : Cell) (old new : State) (count : ℕ) → IsStore old.now → Executes add_cell_text (Int tab ∷ Int docid ∷ Int at ∷ num_of v ∷ txt_of v ∷ []) old new (Ok count) → AreGrown 1 old.now.trees new.now.trees
-add_cell_grown tab docid at v old new count kept h =
-    insert_grown 5 _ _ _ _ _ _ _ old new add_cell_text (Int tab ∷ Int docid ∷ Int at ∷ num_of v ∷ txt_of v ∷ []) 3 add_cell_terms 6 (cell_source tab docid at v ∷ []) count kept.schema add_cell_is add_cell_plain refl (cell_made tab docid at v) (refl, tt) kept.numbered.1.1.1.0 h
-
-add_cell_whole : is_whole add_cell_text 5 (understood store_schema add_cell_text) ≡ true
-unfolding understood everything
-add_cell_whole = refl
-
-cell_agree : (rowid : ℤ) (tab : ℤ) (docid : ℤ) (at : ℤ) (v : Cell) (r : Row) → IsCellRow r → agree plain_order (1 ∷ 2 ∷ 3 ∷ []) r (1 ∷ 2 ∷ 3 ∷ []) (Int rowid ∷ Int tab ∷ Int docid ∷ Int at ∷ num_of v ∷ txt_of v ∷ []) ≡ eq_by_cmp cell_key_cmp (tab, docid, at) (cell_entry r).0
-unfolding first_key
-cell_agree rowid tab docid at v r typed = then_tie _ _ (turned _ _ _ _ typed.tab refl) (then_tie _ _ (turned _ _ _ _ typed.docid refl) (last_term (turned _ _ _ _ typed.at refl)))
+-- ---- the rows
 
 num_number : (v : Cell) → IsNumber (num_of v)
 num_number cells.Null = zero_is_number
@@ -248,203 +242,164 @@ cell_given tab docid at cells.Null db e h = elim h [ inl bad ↦ true≢false ba
 cell_given tab docid at (cells.Int n) db e h = elim h [ inl bad ↦ true≢false bad.1 | inr limit ↦ true≢false (sym limit.1) ]
 cell_given tab docid at (cells.Text t) db e h = elim h [ inl bad ↦ true≢false bad.1 | inr limit ↦ true≢false (sym limit.1) ]
 
-cell_big : (rowid : ℤ) (tab : ℤ) (docid : ℤ) (at : ℤ) (v : Cell) → IsOversized store_schema (cell_table 5) (Int rowid ∷ Int tab ∷ Int docid ∷ Int at ∷ num_of v ∷ txt_of v ∷ []) → IsTooBig 6 (length (bytes (txt_of v)))
-cell_big rowid tab docid at v big =
-    let row = Int rowid ∷ Int tab ∷ Int docid ∷ Int at ∷ num_of v ∷ txt_of v ∷ [] in
-    let none = num_empty v in
-    let all = too_big row (entry_of (1 ∷ 2 ∷ 3 ∷ []) row) (int_is_number rowid, (int_is_number tab, (int_is_number docid, (int_is_number at, (num_number v, (txt_number v, tt)))))) (int_is_number tab, (int_is_number docid, (int_is_number at, (int_is_number rowid, tt)))) (omega arith, omega arith) (omega arith, omega arith) (omega (arith, none))
-    (oversized_why (cell_table 5) (1 ∷ 2 ∷ 3 ∷ []) ((λ e. absurd (omega (arith, e))), ((λ e. absurd (omega (arith, e))), ((λ e. refl), ((λ e. absurd (omega (arith, e))), ((λ e. absurd (omega (arith, e))), ((λ e. absurd (omega (arith, e))), ((λ e. absurd (omega (arith, e))), tt))))))) refl refl row big) in
-    omega (arith, all, none)
-
-cell_why : (tab : ℤ) (docid : ℤ) (at : ℤ) (v : Cell) (db : Trees) → IsSound store_schema db → HasOwnRowids (db 5) → find cell_key_cmp (tab, docid, at) (value_of db).cells ≡ None
-    → (e : Error) → CantAdd e (cell_table 5) db (cell_source tab docid at v ∷ []) → IsFull 1 (db 5) ⊎ IsTooBig 6 (length (bytes (txt_of v)))
-cell_why tab docid at v db sound own free e cant =
-    let id = next_rowid (db 5) in
-    let clash = no_clash cell_key_cmp cell_entry plain_order (1 ∷ 2 ∷ 3 ∷ []) IsCellRow (Int id ∷ Int tab ∷ Int docid ∷ Int at ∷ num_of v ∷ txt_of v ∷ []) id (db 5) refl (are_cells db sound) (cell_agree id tab docid at v) (sym (find-keyed cell_key_cmp cell_key_total tied_cell_keys (tab, docid, at) (map cell_entry (db 5))) ∙ free) in
-    elim (one_why 5 _ _ _ _ _ _ _ (inr (inr (inr (inl refl)))) db sound own (cell_source tab docid at v) refl (cell_typed db id tab docid at v) refl (cell_checked db id tab docid at v) (rw clash refl) e cant) [
-      | inl full ↦ inl full
-      | inr big ↦ inr (cell_big id tab docid at v big)
-    ]
-
-pub add_cell_why : (tab : ℤ) (docid : ℤ) (at : ℤ) (v : Cell) (old new : State) → (IsTrue old.is_open → find cell_key_cmp (tab, docid, at) (value_of old.now.trees).cells ≡ None) → RunBlamed old new add_cell_text (Int tab ∷ Int docid ∷ Int at ∷ num_of v ∷ txt_of v ∷ []) (IsFull 1 (old.now.trees 5) ⊎ IsTooBig 6 (length (bytes (txt_of v))))
-add_cell_why tab docid at v old new free store (e, other, ran) =
-    elim (insert_blamed 5 _ _ _ _ _ _ _ old new add_cell_text (Int tab ∷ Int docid ∷ Int at ∷ num_of v ∷ txt_of v ∷ []) 3 add_cell_terms 6 add_cell_is add_cell_plain add_cell_whole refl (cell_given tab docid at v) store e other ran) [
-      | inl blamed ↦ inl blamed
-      | inr cant ↦
-          let kept = store cant.0 in
-          inr (cell_why tab docid at v old.now.trees (sound_of old kept) kept.numbered.1.1.1.0 (free cant.0) e (subst (CantAdd e (cell_table 5) old.now.trees) (cell_made tab docid at v) cant.1))
-    ]
-
--- ---- posting lists
-
-abbrev list_source : ℤ → List ℕ → ℤ → List ℕ → Row
-list_source tab term docid list = Null ∷ Int tab ∷ Text term ∷ Int docid ∷ Blob list ∷ []
-
-list_made : (tab : ℤ) (term : List ℕ) (docid : ℤ) (list : List ℕ) → made_rows (posting_table 7) add_list_terms 5 (Int tab ∷ Text term ∷ Int docid ∷ Blob list ∷ []) ≡ list_source tab term docid list ∷ []
-list_made tab term docid list = rw (cast_null, cast_int tab, cast_int docid) refl
-
-pub add_list_grown : (tab : ℤ) (term : List ℕ) (docid : ℤ) (list : List ℕ) (old new : State) (count : ℕ) → IsStore old.now → Executes add_list_text (Int tab ∷ Text term ∷ Int docid ∷ Blob list ∷ []) old new (Ok count) → AreGrown 1 old.now.trees new.now.trees
-add_list_grown tab term docid list old new count kept h =
-    insert_grown 7 _ _ _ _ _ _ _ old new add_list_text (Int tab ∷ Text term ∷ Int docid ∷ Blob list ∷ []) 4 add_list_terms 5 (list_source tab term docid list ∷ []) count kept.schema add_list_is add_list_plain refl (list_made tab term docid list) (refl, tt) kept.numbered.1.1.1.1.0 h
-
-add_list_whole : is_whole add_list_text 4 (understood store_schema add_list_text) ≡ true
-unfolding understood everything
-add_list_whole = refl
-
-list_agree : (rowid : ℤ) (tab : ℤ) (term : List ℕ) (docid : ℤ) (list : List ℕ) (r : Row) → IsListRow r → agree plain_order (1 ∷ 2 ∷ 3 ∷ []) r (1 ∷ 2 ∷ 3 ∷ []) (Int rowid ∷ Int tab ∷ Text term ∷ Int docid ∷ Blob list ∷ []) ≡ eq_by_cmp list_key_cmp (tab, term, docid) (list_entry r).0
+column_row : (tab at : ℤ) (name : List ℕ) → IsUtf8 name → AddsRow tables.columns add_column_text (Int tab ∷ Int at ∷ Text name ∷ []) (tab, at) name 4 (length name)
 unfolding first_key
-list_agree rowid tab term docid list r typed = then_tie _ _ (turned _ _ _ _ typed.tab refl) (then_tie _ _ (turned_text _ _ _ _ typed.term refl) (last_term (turned _ _ _ _ typed.docid refl)))
+column_row tab at name text = record {
+  terms = _;
+  width = 4;
+  row = Int tab ∷ Int at ∷ Text name ∷ [];
+  means = add_column_means;
+  made = rw (cast_null, cast_int tab, cast_int at) refl;
+  given = λ db e h. elim h [ inl bad ↦ true≢false bad.1 | inr limit ↦ true≢false (sym limit.1) ];
+  entry = λ id. ap (λ n. ((tab, at), n)) (text_again name text);
+  agrees = λ id r h. then_tie _ _ (turned _ _ _ _ h.tab refl) (last_term (turned _ _ _ _ h.at refl));
+  typed = λ db id. refl;
+  present = λ db id. refl;
+  checked = λ db id. refl;
+  big = λ id over.
+      let all = oversized tables.columns (Int id ∷ Int tab ∷ Int at ∷ Text name ∷ []) refl refl (int_is_number id, (int_is_number tab, (int_is_number at, (zero_is_number, tt)))) (int_is_number tab, (int_is_number at, (int_is_number id, tt))) (omega arith, omega arith) (omega arith, omega arith) (omega arith) over in omega (arith, all);
+}
 
-list_big : (rowid : ℤ) (tab : ℤ) (term : List ℕ) (docid : ℤ) (list : List ℕ) → IsOversized store_schema (posting_table 7) (Int rowid ∷ Int tab ∷ Text term ∷ Int docid ∷ Blob list ∷ []) → IsTooBig 5 (length term + length list)
-list_big rowid tab term docid list big =
-    let row = Int rowid ∷ Int tab ∷ Text term ∷ Int docid ∷ Blob list ∷ [] in
-    let all = too_big row (entry_of (1 ∷ 2 ∷ 3 ∷ []) row) (int_is_number rowid, (int_is_number tab, (zero_is_number, (int_is_number docid, (zero_is_number, tt))))) (int_is_number tab, (zero_is_number, (int_is_number docid, (int_is_number rowid, tt)))) (omega arith, omega arith) (omega arith, omega arith) (omega arith)
-    (oversized_why (posting_table 7) (1 ∷ 2 ∷ 3 ∷ []) ((λ e. absurd (omega (arith, e))), ((λ e. absurd (omega (arith, e))), ((λ e. absurd (omega (arith, e))), ((λ e. refl), ((λ e. absurd (omega (arith, e))), ((λ e. absurd (omega (arith, e))), ((λ e. absurd (omega (arith, e))), tt))))))) refl refl row big) in
-    omega (arith, all)
-
-list_why : (tab : ℤ) (term : List ℕ) (docid : ℤ) (list : List ℕ) (db : Trees) → IsSound store_schema db → HasOwnRowids (db 7) → find list_key_cmp (tab, term, docid) (value_of db).lists ≡ None
-    → (e : Error) → CantAdd e (posting_table 7) db (list_source tab term docid list ∷ []) → IsFull 1 (db 7) ⊎ IsTooBig 5 (length term + length list)
-list_why tab term docid list db sound own free e cant =
-    let id = next_rowid (db 7) in
-    let clash = no_clash list_key_cmp list_entry plain_order (1 ∷ 2 ∷ 3 ∷ []) IsListRow (Int id ∷ Int tab ∷ Text term ∷ Int docid ∷ Blob list ∷ []) id (db 7) refl (are_lists db sound) (list_agree id tab term docid list) (sym (find-keyed list_key_cmp list_key_total tied_list_keys (tab, term, docid) (map list_entry (db 7))) ∙ free) in
-    elim (one_why 7 _ _ _ _ _ _ _ (inr (inr (inr (inr (inl refl))))) db sound own (list_source tab term docid list) refl refl refl refl (rw clash refl) e cant) [
-      | inl full ↦ inl full
-      | inr big ↦ inr (list_big id tab term docid list big)
-    ]
-
-pub add_list_why : (tab : ℤ) (term : List ℕ) (docid : ℤ) (list : List ℕ) (old new : State) → (IsTrue old.is_open → find list_key_cmp (tab, term, docid) (value_of old.now.trees).lists ≡ None) → RunBlamed old new add_list_text (Int tab ∷ Text term ∷ Int docid ∷ Blob list ∷ []) (IsFull 1 (old.now.trees 7) ⊎ IsTooBig 5 (length term + length list))
-add_list_why tab term docid list old new free store (e, other, ran) =
-    elim (insert_blamed 7 _ _ _ _ _ _ _ old new add_list_text (Int tab ∷ Text term ∷ Int docid ∷ Blob list ∷ []) 4 add_list_terms 5 add_list_is add_list_plain add_list_whole refl (λ db e h. elim h [ inl bad ↦ true≢false bad.1 | inr limit ↦ true≢false (sym limit.1) ]) store e other ran) [
-      | inl blamed ↦ inl blamed
-      | inr cant ↦
-          let kept = store cant.0 in
-          inr (list_why tab term docid list old.now.trees (sound_of old kept) kept.numbered.1.1.1.1.0 (free cant.0) e (subst (CantAdd e (posting_table 7) old.now.trees) (list_made tab term docid list) cant.1))
-    ]
-
--- ---- the sizes of cells
-
-abbrev size_source : ℤ → ℤ → ℤ → ℤ → Row
-size_source tab docid at n = Null ∷ Int tab ∷ Int docid ∷ Int at ∷ Int n ∷ []
-
-size_made : (tab : ℤ) (docid : ℤ) (at : ℤ) (n : ℤ) → made_rows (sizes_table 9) add_size_terms 5 (Int tab ∷ Int docid ∷ Int at ∷ Int n ∷ []) ≡ size_source tab docid at n ∷ []
-size_made tab docid at n = rw (cast_null, cast_int tab, cast_int docid, cast_int at, cast_int n) refl
-
-pub add_size_grown : (tab : ℤ) (docid : ℤ) (at : ℤ) (n : ℤ) (old new : State) (count : ℕ) → IsStore old.now → Executes add_size_text (Int tab ∷ Int docid ∷ Int at ∷ Int n ∷ []) old new (Ok count) → AreGrown 1 old.now.trees new.now.trees
-add_size_grown tab docid at n old new count kept h =
-    insert_grown 9 _ _ _ _ _ _ _ old new add_size_text (Int tab ∷ Int docid ∷ Int at ∷ Int n ∷ []) 5 add_size_terms 5 (size_source tab docid at n ∷ []) count kept.schema add_size_is add_size_plain refl (size_made tab docid at n) (refl, tt) kept.numbered.1.1.1.1.1.0 h
-
-add_size_whole : is_whole add_size_text 4 (understood store_schema add_size_text) ≡ true
-unfolding understood everything
-add_size_whole = refl
-
-size_agree : (rowid : ℤ) (tab : ℤ) (docid : ℤ) (at : ℤ) (n : ℤ) (r : Row) → IsSizeRow r → agree plain_order (1 ∷ 2 ∷ 3 ∷ []) r (1 ∷ 2 ∷ 3 ∷ []) (Int rowid ∷ Int tab ∷ Int docid ∷ Int at ∷ Int n ∷ []) ≡ eq_by_cmp cell_key_cmp (tab, docid, at) (size_entry r).0
+skip_row : (tab at : ℤ) → AddsRow tables.skipped add_skip_text (Int tab ∷ Int at ∷ []) (tab, at) tt 3 0
 unfolding first_key
-size_agree rowid tab docid at n r typed = then_tie _ _ (turned _ _ _ _ typed.tab refl) (then_tie _ _ (turned _ _ _ _ typed.docid refl) (last_term (turned _ _ _ _ typed.at refl)))
+skip_row tab at = record {
+  terms = _;
+  width = 3;
+  row = Int tab ∷ Int at ∷ [];
+  means = add_skip_means;
+  made = rw (cast_null, cast_int tab, cast_int at) refl;
+  given = λ db e h. elim h [ inl bad ↦ true≢false bad.1 | inr limit ↦ true≢false (sym limit.1) ];
+  entry = λ id. refl;
+  agrees = λ id r h. then_tie _ _ (turned _ _ _ _ h.tab refl) (last_term (turned _ _ _ _ h.at refl));
+  typed = λ db id. refl;
+  present = λ db id. refl;
+  checked = λ db id. refl;
+  big = λ id over.
+      let all = oversized tables.skipped (Int id ∷ Int tab ∷ Int at ∷ []) refl refl (int_is_number id, (int_is_number tab, (int_is_number at, tt))) (int_is_number tab, (int_is_number at, (int_is_number id, tt))) (omega arith, omega arith) (omega arith, omega arith) (omega arith) over in omega (arith, all);
+}
 
-size_big : (rowid : ℤ) (tab : ℤ) (docid : ℤ) (at : ℤ) (n : ℤ) → IsOversized store_schema (sizes_table 9) (Int rowid ∷ Int tab ∷ Int docid ∷ Int at ∷ Int n ∷ []) → ⊥
-size_big rowid tab docid at n big =
-    let row = Int rowid ∷ Int tab ∷ Int docid ∷ Int at ∷ Int n ∷ [] in
-    let all = too_big row (entry_of (1 ∷ 2 ∷ 3 ∷ []) row) (int_is_number rowid, (int_is_number tab, (int_is_number docid, (int_is_number at, (int_is_number n, tt))))) (int_is_number tab, (int_is_number docid, (int_is_number at, (int_is_number rowid, tt)))) (omega arith, omega arith) (omega arith, omega arith) (omega arith)
-    (oversized_why (sizes_table 9) (1 ∷ 2 ∷ 3 ∷ []) ((λ e. absurd (omega (arith, e))), ((λ e. absurd (omega (arith, e))), ((λ e. absurd (omega (arith, e))), ((λ e. absurd (omega (arith, e))), ((λ e. refl), ((λ e. absurd (omega (arith, e))), ((λ e. absurd (omega (arith, e))), tt))))))) refl refl row big) in
-    omega (arith, all)
-
-size_why : (tab : ℤ) (docid : ℤ) (at : ℤ) (n : ℤ) (db : Trees) → IsSound store_schema db → HasOwnRowids (db 9) → find cell_key_cmp (tab, docid, at) (value_of db).sizes ≡ None
-    → (e : Error) → CantAdd e (sizes_table 9) db (size_source tab docid at n ∷ []) → IsFull 1 (db 9)
-size_why tab docid at n db sound own free e cant =
-    let id = next_rowid (db 9) in
-    let clash = no_clash cell_key_cmp size_entry plain_order (1 ∷ 2 ∷ 3 ∷ []) IsSizeRow (Int id ∷ Int tab ∷ Int docid ∷ Int at ∷ Int n ∷ []) id (db 9) refl (are_sizes db sound) (size_agree id tab docid at n) (sym (find-keyed cell_key_cmp cell_key_total tied_cell_keys (tab, docid, at) (map size_entry (db 9))) ∙ free) in
-    elim (one_why 9 _ _ _ _ _ _ _ (inr (inr (inr (inr (inr (inl refl)))))) db sound own (size_source tab docid at n) refl refl refl refl (rw clash refl) e cant) [
-      | inl full ↦ full
-      | inr big ↦ absurd (size_big id tab docid at n big)
-    ]
-
-pub add_size_why : (tab : ℤ) (docid : ℤ) (at : ℤ) (n : ℤ) (old new : State) → (IsTrue old.is_open → find cell_key_cmp (tab, docid, at) (value_of old.now.trees).sizes ≡ None) → RunBlamed old new add_size_text (Int tab ∷ Int docid ∷ Int at ∷ Int n ∷ []) (IsFull 1 (old.now.trees 9))
-add_size_why tab docid at n old new free store (e, other, ran) =
-    elim (insert_blamed 9 _ _ _ _ _ _ _ old new add_size_text (Int tab ∷ Int docid ∷ Int at ∷ Int n ∷ []) 5 add_size_terms 5 add_size_is add_size_plain add_size_whole refl (λ db e h. elim h [ inl bad ↦ true≢false bad.1 | inr limit ↦ true≢false (sym limit.1) ]) store e other ran) [
-      | inl blamed ↦ inl blamed
-      | inr cant ↦
-          let kept = store cant.0 in
-          inr (size_why tab docid at n old.now.trees (sound_of old kept) kept.numbered.1.1.1.1.1.0 (free cant.0) e (subst (CantAdd e (sizes_table 9) old.now.trees) (size_made tab docid at n) cant.1))
-    ]
-
--- ---- noted names
-
-abbrev note_source : List ℕ → Row
-note_source name = Null ∷ Text name ∷ []
-
-note_made : (name : List ℕ) → made_rows (noted_table 11) add_note_terms 2 (Text name ∷ []) ≡ note_source name ∷ []
-note_made name = rw cast_null refl
-
-pub add_note_grown : (name : List ℕ) (old new : State) (count : ℕ) → IsStore old.now → Executes add_note_text (Text name ∷ []) old new (Ok count) → AreGrown 1 old.now.trees new.now.trees
-add_note_grown name old new count kept h =
-    insert_grown 11 _ _ _ _ _ _ _ old new add_note_text (Text name ∷ []) 6 add_note_terms 2 (note_source name ∷ []) count kept.schema add_note_is add_note_plain refl (note_made name) (refl, tt) kept.numbered.1.1.1.1.1.1.0 h
-
-add_note_whole : is_whole add_note_text 1 (understood store_schema add_note_text) ≡ true
-unfolding understood everything
-add_note_whole = refl
-
-note_agree : (rowid : ℤ) (name : List ℕ) (r : Row) → IsNoteRow r → agree case_order (1 ∷ []) r (1 ∷ []) (Int rowid ∷ Text name ∷ []) ≡ eq_by_cmp name_cmp (without_case name) (note_entry r).0
+cell_row : (tab docid at : ℤ) (v : Cell) → cell_in (num_of v) (txt_of v) ≡ v → AddsRow tables.cells add_cell_text (Int tab ∷ Int docid ∷ Int at ∷ num_of v ∷ txt_of v ∷ []) (tab, docid, at) v 6 (length (bytes (txt_of v)))
 unfolding first_key
-note_agree rowid name r typed = last_term (turned_case _ _ _ _ typed.name refl)
+cell_row tab docid at v again = record {
+  terms = _;
+  width = 6;
+  row = Int tab ∷ Int docid ∷ Int at ∷ num_of v ∷ txt_of v ∷ [];
+  means = add_cell_means;
+  made = rw (cast_null, cast_int tab, cast_int docid, cast_int at, cast_num v, cast_txt v) refl;
+  given = cell_given tab docid at v;
+  entry = λ id. ap (λ c. ((tab, docid, at), c)) again;
+  agrees = λ id r h. then_tie _ _ (turned _ _ _ _ h.tab refl) (then_tie _ _ (turned _ _ _ _ h.docid refl) (last_term (turned _ _ _ _ h.at refl)));
+  typed = λ db id. cell_typed db id tab docid at v;
+  present = λ db id. refl;
+  checked = λ db id. cell_checked db id tab docid at v;
+  big = λ id over.
+      let all = oversized tables.cells (Int id ∷ Int tab ∷ Int docid ∷ Int at ∷ num_of v ∷ txt_of v ∷ []) refl refl (int_is_number id, (int_is_number tab, (int_is_number docid, (int_is_number at, (num_number v, (txt_number v, tt)))))) (int_is_number tab, (int_is_number docid, (int_is_number at, (int_is_number id, tt)))) (omega arith, omega arith) (omega arith, omega arith) (omega (arith, num_empty v)) over in (let none = num_empty v in omega (arith, all, none));
+}
 
-note_big : (rowid : ℤ) (name : List ℕ) → IsOversized store_schema (noted_table 11) (Int rowid ∷ Text name ∷ []) → IsTooBig 2 (length name)
-note_big rowid name big =
-    let row = Int rowid ∷ Text name ∷ [] in
-    let all = too_big row (entry_of (1 ∷ []) row) (int_is_number rowid, (zero_is_number, tt)) (zero_is_number, (int_is_number rowid, tt)) (omega arith, omega arith) (omega arith, omega arith) (omega arith)
-    (oversized_why (noted_table 11) (1 ∷ []) ((λ e. absurd (omega (arith, e))), ((λ e. absurd (omega (arith, e))), ((λ e. absurd (omega (arith, e))), ((λ e. absurd (omega (arith, e))), ((λ e. absurd (omega (arith, e))), ((λ e. refl), ((λ e. absurd (omega (arith, e))), tt))))))) refl refl row big) in
-    omega (arith, all)
+list_big : (id tab : ℤ) (term : List ℕ) (docid : ℤ) (list : List ℕ) → IsOversized store_schema (posting_table 7) (Int id ∷ Int tab ∷ Text term ∷ Int docid ∷ Blob list ∷ []) → IsTooBig 5 (length term + length list)
+list_big id tab term docid list over =
+    let all = oversized tables.lists (Int id ∷ Int tab ∷ Text term ∷ Int docid ∷ Blob list ∷ []) refl refl (int_is_number id, (int_is_number tab, (zero_is_number, (int_is_number docid, (zero_is_number, tt))))) (int_is_number tab, (zero_is_number, (int_is_number docid, (int_is_number id, tt)))) (omega arith, omega arith) (omega arith, omega arith) (omega arith) over in omega (arith, all)
 
-note_why : (name : List ℕ) (db : Trees) → IsSound store_schema db → HasOwnRowids (db 11) → find name_cmp (without_case name) (value_of db).noted ≡ None
-    → (e : Error) → CantAdd e (noted_table 11) db (note_source name ∷ []) → IsFull 1 (db 11) ⊎ IsTooBig 2 (length name)
-note_why name db sound own free e cant =
-    let id = next_rowid (db 11) in
-    let clash = no_clash name_cmp note_entry case_order (1 ∷ []) IsNoteRow (Int id ∷ Text name ∷ []) id (db 11) refl (are_notes db sound) (note_agree id name) (sym (find-keyed name_cmp name_total tied_names (without_case name) (map note_entry (db 11))) ∙ free) in
-    elim (one_why 11 _ _ _ _ _ _ _ (inr (inr (inr (inr (inr (inr (inl refl))))))) db sound own (note_source name) refl refl refl refl (rw clash refl) e cant) [
-      | inl full ↦ inl full
-      | inr big ↦ inr (note_big id name big)
-    ]
+list_adds : (tab : ℤ) (term : List ℕ) (docid : ℤ) (list : List ℕ) → AddsRow tables.lists add_list_text (Int tab ∷ Text term ∷ Int docid ∷ Blob list ∷ []) (tab, term, docid) (unwrap_or (spots_in list) []) 5 (length term + length list)
+unfolding first_key
+list_adds tab term docid list = record {
+  terms = _;
+  width = 5;
+  row = Int tab ∷ Text term ∷ Int docid ∷ Blob list ∷ [];
+  means = add_list_means;
+  made = rw (cast_null, cast_int tab, cast_int docid) refl;
+  given = λ db e h. elim h [ inl bad ↦ true≢false bad.1 | inr limit ↦ true≢false (sym limit.1) ];
+  entry = λ id. refl;
+  agrees = λ id r h. then_tie _ _ (turned _ _ _ _ h.tab refl) (then_tie _ _ (turned_text _ _ _ _ h.term refl) (last_term (turned _ _ _ _ h.docid refl)));
+  typed = λ db id. refl;
+  present = λ db id. refl;
+  checked = λ db id. refl;
+  big = λ id. list_big id tab term docid list;
+}
 
-pub add_note_why : (name : List ℕ) (old new : State) → (IsTrue old.is_open → find name_cmp (without_case name) (value_of old.now.trees).noted ≡ None) → RunBlamed old new add_note_text (Text name ∷ []) (IsFull 1 (old.now.trees 11) ⊎ IsTooBig 2 (length name))
-add_note_why name old new free store (e, other, ran) =
-    elim (insert_blamed 11 _ _ _ _ _ _ _ old new add_note_text (Text name ∷ []) 6 add_note_terms 2 add_note_is add_note_plain add_note_whole refl (λ db e h. elim h [ inl bad ↦ true≢false bad.1 | inr limit ↦ true≢false (sym limit.1) ]) store e other ran) [
-      | inl blamed ↦ inl blamed
-      | inr cant ↦
-          let kept = store cant.0 in
-          inr (note_why name old.now.trees (sound_of old kept) kept.numbered.1.1.1.1.1.1.0 (free cant.0) e (subst (CantAdd e (noted_table 11) old.now.trees) (note_made name) cant.1))
-    ]
+size_row : (tab docid at n : ℤ) → AddsRow tables.sizes add_size_text (Int tab ∷ Int docid ∷ Int at ∷ Int n ∷ []) (tab, docid, at) n 5 0
+unfolding first_key
+size_row tab docid at n = record {
+  terms = _;
+  width = 5;
+  row = Int tab ∷ Int docid ∷ Int at ∷ Int n ∷ [];
+  means = add_size_means;
+  made = rw (cast_null, cast_int tab, cast_int docid, cast_int at, cast_int n) refl;
+  given = λ db e h. elim h [ inl bad ↦ true≢false bad.1 | inr limit ↦ true≢false (sym limit.1) ];
+  entry = λ id. refl;
+  agrees = λ id r h. then_tie _ _ (turned _ _ _ _ h.tab refl) (then_tie _ _ (turned _ _ _ _ h.docid refl) (last_term (turned _ _ _ _ h.at refl)));
+  typed = λ db id. refl;
+  present = λ db id. refl;
+  checked = λ db id. refl;
+  big = λ id over.
+      let all = oversized tables.sizes (Int id ∷ Int tab ∷ Int docid ∷ Int at ∷ Int n ∷ []) refl refl (int_is_number id, (int_is_number tab, (int_is_number docid, (int_is_number at, (int_is_number n, tt))))) (int_is_number tab, (int_is_number docid, (int_is_number at, (int_is_number id, tt)))) (omega arith, omega arith) (omega arith, omega arith) (omega arith) over in omega (arith, all);
+}
+
+note_row : (name : List ℕ) → AddsRow tables.noted add_note_text (Text name ∷ []) (without_case name) name 2 (length name)
+unfolding first_key
+note_row name = record {
+  terms = _;
+  width = 2;
+  row = Text name ∷ [];
+  means = add_note_means;
+  made = rw (cast_null) refl;
+  given = λ db e h. elim h [ inl bad ↦ true≢false bad.1 | inr limit ↦ true≢false (sym limit.1) ];
+  entry = λ id. refl;
+  agrees = λ id r h. last_term (turned_case _ _ _ _ h.name refl);
+  typed = λ db id. refl;
+  present = λ db id. refl;
+  checked = λ db id. refl;
+  big = λ id over.
+      let all = oversized tables.noted (Int id ∷ Text name ∷ []) refl refl (int_is_number id, (zero_is_number, tt)) (zero_is_number, (int_is_number id, tt)) (omega arith, omega arith) (omega arith, omega arith) (omega arith) over in omega (arith, all);
+}
+
+module _ {S : Type 0} (g : Ghosts S) where
+  pub put_column : (tab at : ℤ) (name : List ℕ) → IsUtf8 name → ReplacesRow g drop_column_text add_column_text (Int tab ∷ Int at ∷ []) (Int tab ∷ Int at ∷ Text name ∷ []) 3 (λ v. record v { columns = put column_key_cmp (tab, at) name v.columns }) 4 (length name)
+  put_column tab at name text = replaces tables.columns add_column_text (Int tab ∷ Int at ∷ Text name ∷ []) (tab, at) name 4 (length name) (column_row tab at name text) g drop_column_text (Int tab ∷ Int at ∷ []) (drop_column g tab at) (λ a b h. h.0)
+
+  pub put_skip : (tab at : ℤ) → ReplacesRow g drop_skip_text add_skip_text (Int tab ∷ Int at ∷ []) (Int tab ∷ Int at ∷ []) 13 (λ v. record v { skipped = put column_key_cmp (tab, at) tt v.skipped }) 3 0
+  put_skip tab at = replaces tables.skipped add_skip_text (Int tab ∷ Int at ∷ []) (tab, at) tt 3 0 (skip_row tab at) g drop_skip_text (Int tab ∷ Int at ∷ []) (drop_skip g tab at) (λ a b h. h.1.1.1.1.1.0)
+
+  pub put_cell : (tab docid at : ℤ) (c : Cell) → cell_in (num_of c) (txt_of c) ≡ c → ReplacesRow g drop_cell_text add_cell_text (Int tab ∷ Int docid ∷ Int at ∷ []) (Int tab ∷ Int docid ∷ Int at ∷ num_of c ∷ txt_of c ∷ []) 5 (λ v. record v { cells = put cell_key_cmp (tab, docid, at) c v.cells }) 6 (length (bytes (txt_of c)))
+  put_cell tab docid at c again = replaces tables.cells add_cell_text (Int tab ∷ Int docid ∷ Int at ∷ num_of c ∷ txt_of c ∷ []) (tab, docid, at) c 6 (length (bytes (txt_of c))) (cell_row tab docid at c again) g drop_cell_text (Int tab ∷ Int docid ∷ Int at ∷ []) (drop_cell g tab docid at) (λ a b h. h.1.0)
+
+  pub put_list : (tab : ℤ) (term : List ℕ) (docid : ℤ) (list : List ℕ) → ReplacesRow g drop_list_text add_list_text (Int tab ∷ Text term ∷ Int docid ∷ []) (Int tab ∷ Text term ∷ Int docid ∷ Blob list ∷ []) 7 (λ v. record v { lists = put list_key_cmp (tab, term, docid) (unwrap_or (spots_in list) []) v.lists }) 5 (length term + length list)
+  put_list tab term docid list = replaces tables.lists add_list_text (Int tab ∷ Text term ∷ Int docid ∷ Blob list ∷ []) (tab, term, docid) (unwrap_or (spots_in list) []) 5 (length term + length list) (list_adds tab term docid list) g drop_list_text (Int tab ∷ Text term ∷ Int docid ∷ []) (drop_list g tab term docid) (λ a b h. h.1.1.0)
+
+  pub put_size : (tab docid at n : ℤ) → ReplacesRow g drop_size_text add_size_text (Int tab ∷ Int docid ∷ Int at ∷ []) (Int tab ∷ Int docid ∷ Int at ∷ Int n ∷ []) 9 (λ v. record v { sizes = put cell_key_cmp (tab, docid, at) n v.sizes }) 5 0
+  put_size tab docid at n = replaces tables.sizes add_size_text (Int tab ∷ Int docid ∷ Int at ∷ Int n ∷ []) (tab, docid, at) n 5 0 (size_row tab docid at n) g drop_size_text (Int tab ∷ Int docid ∷ Int at ∷ []) (drop_size g tab docid at) (λ a b h. h.1.1.1.0)
+
+  pub put_note : (name : List ℕ) → ReplacesRow g drop_note_text add_note_text (Text name ∷ []) (Text name ∷ []) 11 (λ v. record v { noted = put name_cmp (without_case name) name v.noted }) 2 (length name)
+  put_note name = replaces tables.noted add_note_text (Text name ∷ []) (without_case name) name 2 (length name) (note_row name) g drop_note_text (Text name ∷ []) (drop_note g name) (λ a b h. h.1.1.1.1.0)
 
 -- ---- eight lists that are added by one statement
 
-list_typed : (es : List Entry) (db : Trees) (rows : List Row) → list_all (passes Datatype store_schema db (posting_table 7)) (numbered Chosen rows (map list_row es)) ≡ true
+list_typed : (es : List PackedList) (db : Trees) (rows : List Row) → list_all (passes Datatype store_schema db (posting_table 7)) (numbered Chosen rows (map list_row es)) ≡ true
 list_typed [] db rows = refl
 list_typed (e ∷ es) db rows = list_typed es db _
 
-list_present : (es : List Entry) (db : Trees) (rows : List Row) → list_all (passes NotNull store_schema db (posting_table 7)) (numbered Chosen rows (map list_row es)) ≡ true
+list_present : (es : List PackedList) (db : Trees) (rows : List Row) → list_all (passes NotNull store_schema db (posting_table 7)) (numbered Chosen rows (map list_row es)) ≡ true
 list_present [] db rows = refl
 list_present (e ∷ es) db rows = list_present es db _
 
-list_checked : (es : List Entry) (db : Trees) (rows : List Row) → list_all (passes Check store_schema db (posting_table 7)) (numbered Chosen rows (map list_row es)) ≡ true
+list_checked : (es : List PackedList) (db : Trees) (rows : List Row) → list_all (passes Check store_schema db (posting_table 7)) (numbered Chosen rows (map list_row es)) ≡ true
 list_checked [] db rows = refl
 list_checked (e ∷ es) db rows = list_checked es db _
 
-list_bare : (es : List Entry) → AllByRecursion IsUnnumbered (map list_row es)
+list_bare : (es : List PackedList) → AllByRecursion IsUnnumbered (map list_row es)
 list_bare [] = tt
 list_bare (e ∷ es) = (refl, list_bare es)
 
-list_among : (es : List Entry) (rows : List Row) (row : Row) → Has (numbered Chosen rows (map list_row es)) row → (rowid : ℤ) × (e : Entry) × Has es e × (row ≡ Int rowid ∷ entry_values e)
+list_among : (es : List PackedList) (rows : List Row) (row : Row) → Has (numbered Chosen rows (map list_row es)) row → (rowid : ℤ) × (e : PackedList) × Has es e × (row ≡ Int rowid ∷ entry_values e)
 list_among [] rows row h = absurd h
 list_among (e ∷ es) rows row (inl same) = (next_rowid rows, e, inl refl, same)
 list_among (e ∷ es) rows row (inr later) = let found = list_among es _ row later in (found.0, found.1, inr found.2, found.3)
 
-add_lists_whole : is_whole add_lists_text 32 (understood store_schema add_lists_text) ≡ true
-unfolding understood everything
-add_lists_whole = refl
-
 any_had : {X : Type 0} (P : X → Type 0) (xs : List X) (x : X) → Has xs x → P x → Any P xs
 any_had P xs x has p = let at = contains_had xs x has in (at.0, x, at.1, at.2, p)
 
-module _ (a b c d e f g h : Entry) where
-  abbrev eight : List Entry
+module _ (a b c d e f g h : PackedList) where
+  abbrev eight : List PackedList
   eight = a ∷ b ∷ c ∷ d ∷ e ∷ f ∷ g ∷ h ∷ []
 
   eight_made : made_rows (posting_table 7) add_lists_terms 5 (flat_map entry_values eight) ≡ map list_row eight
@@ -452,19 +407,19 @@ module _ (a b c d e f g h : Entry) where
 
   eight_grown : (old new : State) (count : ℕ) → IsStore old.now → Executes add_lists_text (flat_map entry_values eight) old new (Ok count) → AreGrown 8 old.now.trees new.now.trees
   eight_grown old new count kept ran =
-      insert_grown 7 _ _ _ _ _ _ _ old new add_lists_text (flat_map entry_values eight) 4 add_lists_terms 5 (map list_row eight) count kept.schema add_lists_is add_lists_plain refl eight_made (list_bare eight) kept.numbered.1.1.1.1.0 ran
+      insert_grown (posting_table 7) old new add_lists_text (flat_map entry_values eight) 4 add_lists_terms 5 (map list_row eight) count kept.schema add_lists_means.is add_lists_means.plain refl eight_made (list_bare eight) kept.numbered.1.1.1.1.0 ran
 
   eight_why : (old new : State) → (IsTrue old.is_open → IsStore old.now) → (why : Error) → why ≢ SqliteFailure code.OutOfMemory → ((rule : Constraint) → why ≢ SqliteFailure (code.ConstraintViolation rule))
       → ExecutesInside 0 add_lists_text (flat_map entry_values eight) old new (Err why) → IsBlamed old new ⊎ (IsFull 8 (old.now.trees 7) ⊎ Any IsBigEntry eight)
   eight_why old new store why other unruled ran =
-      elim (insert_blamed 7 _ _ _ _ _ _ _ old new add_lists_text (flat_map entry_values eight) 4 add_lists_terms 5 add_lists_is add_lists_plain add_lists_whole refl (λ db x no. elim no [ inl bad ↦ true≢false bad.1 | inr limit ↦ true≢false (sym limit.1) ]) store why other ran) [
+      elim (insert_blamed (posting_table 7) old new add_lists_text (flat_map entry_values eight) 4 add_lists_terms 5 add_lists_means.is add_lists_means.plain add_lists_means.whole refl (λ db x no. elim no [ inl bad ↦ true≢false bad.1 | inr limit ↦ true≢false (sym limit.1) ]) store why other ran) [
         | inl blamed ↦ inl blamed
         | inr cant ↦ inr (by_cause (store cant.0) (subst (CantAdd why (posting_table 7) old.now.trees) eight_made cant.1))
       ]
     where
       by_cause : IsStore old.now → CantAdd why (posting_table 7) old.now.trees (map list_row eight) → IsFull 8 (old.now.trees 7) ⊎ Any IsBigEntry eight
       by_cause kept (inl refused) =
-          elim (refused_why 7 _ _ _ _ _ _ _ (inr (inr (inr (inr (inl refl))))) old.now.trees (sound_of old kept) kept.numbered.1.1.1.1.0 (map list_row eight) (list_bare eight)
+          elim (refused_why (posting_table 7) (inr (inr (inr (inr (inl refl))))) old.now.trees (sound_of old kept) kept.numbered.1.1.1.1.0 (map list_row eight) (list_bare eight)
           (list_typed eight old.now.trees (old.now.trees 7)) (list_present eight old.now.trees (old.now.trees 7)) (list_checked eight old.now.trees (old.now.trees 7)) refused.0 refused.1) [
             | inl full ↦ inl full
             | inr twice ↦ absurd (unruled Unique (refused.2 ∙ ap edit_error twice.0))
@@ -474,14 +429,14 @@ module _ (a b c d e f g h : Entry) where
           let it = found.1 in
           inr (any_had IsBigEntry eight it found.2 (list_big found.0 it.0.0 it.0.1 it.0.2 it.1 (subst (IsOversized store_schema (posting_table 7)) found.3 big)))
 
-pub adds_grown : (old new : State) (es : List Entry) (values : Row) (added : Bool) → length es ≡ 8 → values ≡ flat_map entry_values es → (IsTrue old.is_open → IsStore old.now)
+pub adds_grown : (old new : State) (es : List PackedList) (values : Row) (added : Bool) → length es ≡ 8 → values ≡ flat_map entry_values es → (IsTrue old.is_open → IsStore old.now)
     → MatchBool added ((count : ℕ) × ExecutesInside 0 add_lists_text values old new (Ok count)) (IsUnchanged old new) → AreGrown (if added then 8 else 0) old.now.trees new.now.trees
 adds_grown old new es values false len is kept same = trees_same 0 old.now.trees new.now.trees (ap (λ d. d.trees) same.0.now_is)
 adds_grown old new es values true len is kept ran =
     let e = all_eight es len in
     eight_grown e.0 e.1 e.2 e.3 e.4 e.5 e.6 e.7 old new ran.0 (kept ran.1.1.was_open) (subst (λ l. Executes add_lists_text l old new (Ok ran.0)) (is ∙ ap (flat_map entry_values) e.8) ran.1.0)
 
-pub adds_why : (old new : State) (es : List Entry) (values : Row) → length es ≡ 8 → values ≡ flat_map entry_values es → (IsTrue old.is_open → IsStore old.now)
+pub adds_why : (old new : State) (es : List PackedList) (values : Row) → length es ≡ 8 → values ≡ flat_map entry_values es → (IsTrue old.is_open → IsStore old.now)
     → (why : Error) × (why ≢ SqliteFailure code.OutOfMemory) × ((rule : Constraint) → why ≢ SqliteFailure (code.ConstraintViolation rule)) × ExecutesInside 0 add_lists_text values old new (Err why)
     → IsBlamed old new ⊎ (IsFull 8 (old.now.trees 7) ⊎ Any IsBigEntry es)
 adds_why old new es values len is kept why =

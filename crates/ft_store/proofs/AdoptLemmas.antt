@@ -7,10 +7,9 @@ use Rattle.sqlite.specs.declared.error.Error.{Error}
 use Rattle.sqlite.specs.Order.{Row}
 use Rattle.sqlite_schema.specs.declared.command.Returning.{Returning}
 use Rattle.sqlite.specs.Clock.{timed}
-use Rattle.sqlite.specs.State.{State, Shown, ShowsRows, IsUnchanged, IsRolledBack, KeepsCommit, FailsToQuery, IsTooLate}
+use Rattle.sqlite.specs.State.{State, Shown, ShowsRows, IsUnchanged, IsRolledBack, KeepsCommit, FailsToQuery, IsTooLate, HasCleanDisk}
 use Rattle.ft_store.specs.Calls.{IsPlainFault, Keeps}
 use Rattle.sqlite.specs.Schema.{Schema}
-use Rattle.sqlite.specs.State.{HasCleanDisk}
 use Rattle.sqlite.specs.Store.{Ghosts}
 use Rattle.sqlite.specs.Held.{Held, state}
 use Rattle.ft_store.specs.declared.fault.StoreFault.{StoreFault}
@@ -18,7 +17,7 @@ use Rattle.ft_store.specs.Tables.{no_schema}
 use Rattle.ft_store.specs.Older.{HasStoreTables}
 use Rattle.ft_store.specs.declared.fault.StoreFault.TheVariants as fault
 use Rattle.ft_store.specs.Blame.{IsBlamed, Blames}
-use Rattle.ft_store.specs.Adopted.{Gives, version_query, IsAdoptFault, IsRefusable, IsNotTaken}
+use Rattle.ft_store.specs.Adopted.{GivesVersion, version_query, IsAdoptFault, IsRefusable, IsNotTaken}
 use Rattle.ft_store.specs.Settled.{IsJudged}
 use Rattle.ft_store.proofs.CallLemmas.{refused_keeps}
 
@@ -40,13 +39,13 @@ shown_keeps_commit sql params old new rows inside h = go h.0.returning h.2
     go None shows = unchanged_keeps old new shows.3
     go (Some what) shows = record { was_open = λ _. shows.1.shown.was_open; committed = λ _. shows.1.shown.committed_is ∙ ap (λ b. cond b old.committed new.now) inside }
 
-gives_keeps : (old new : State) (result : Result (Vec Row Global) Error) → old.in_transaction ≡ true → Gives old new result → KeepsCommit old new
+gives_keeps : (old new : State) (result : Result (Vec Row Global) Error) → old.in_transaction ≡ true → GivesVersion old new result → KeepsCommit old new
 gives_keeps old new (Ok rows) inside h = shown_keeps_commit version_query _ old new rows.items inside h
 gives_keeps old new (Err e) inside (inl fails) = either_keeps old new (refused_keeps version_query _ old new e fails)
 gives_keeps old new (Err e) inside (inr late) = unchanged_keeps old new late.5
 
 pub undone_keeps : (old begun mid new : State) (result : Result (Vec Row Global) Error) → (IsTrue old.is_open → old.now ≡ old.committed) → (IsTrue begun.is_open → IsTrue old.is_open) → begun.committed ≡ old.committed → begun.in_transaction ≡ true
-    → Gives begun mid result → IsRolledBack mid new → Keeps old new
+    → GivesVersion begun mid result → IsRolledBack mid new → Keeps old new
 undone_keeps old begun mid new result settled was same inside gives back is_open =
     let keeps = gives_keeps begun mid result inside gives in
     let undone = back.undone is_open in
@@ -55,7 +54,7 @@ undone_keeps old begun mid new result settled was same inside gives back is_open
     let last = keeps.committed open_mid ∙ same in
     (undone.0 ∙ last ∙ sym (settled open_old), undone.1 ∙ last, open_old)
 
-pub gives_of : (old new : State) (result : Result (Vec Row Global) Error) → IfOk result (λ rows. Shown version_query [] old new rows.items) → IfErr result (λ e. FailsToQuery version_query [] old new e ⊎ IsTooLate version_query [] old new e) → Gives old new result
+pub gives_of : (old new : State) (result : Result (Vec Row Global) Error) → IfOk result (λ rows. Shown version_query [] old new rows.items) → IfErr result (λ e. FailsToQuery version_query [] old new e ⊎ IsTooLate version_query [] old new e) → GivesVersion old new result
 gives_of old new (Ok rows) ok err = ok
 gives_of old new (Err e) ok err = err
 

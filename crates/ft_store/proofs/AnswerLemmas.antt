@@ -33,14 +33,13 @@ use Rattle.ft_store.specs.Tables.{store_schema}
 use Rattle.ft_values.specs.Cells.{Cell}
 use Rattle.ft_rows.specs.Store.{ListKey, cell_key_cmp, list_key_cmp, column_key_cmp, name_cmp}
 use Rattle.ft_values.specs.Cells as cells
-use Rattle.ft_store.specs.Rows.{keyed, table_entry, column_entry, skip_entry, cell_entry, list_entry, size_entry, note_entry, value_of}
+use Rattle.ft_store.specs.Rows.{keyed, table_entry, column_entry, skip_entry, cell_entry, list_entry, size_entry, note_entry, value_of, num_of, txt_of}
 use Rattle.sqlite_rules.specs.Edit.{id_in}
-use Rattle.ft_store.specs.Rows.{num_of, txt_of}
 use Rattle.ft_store.specs.Found.{found_table, found_column, found_skip, found_cell, found_size, found_note, found_list, found_places, found_spots}
-use Rattle.ft_rows.specs.Shown.{bare_list, lists_of_term, lists_of_prefix}
+use Rattle.ft_rows.specs.Shown.{bare_list, lists_under_term, lists_of_prefix}
 use Rattle.ft_store.specs.Calls.{IsStore}
 use Rattle.ft_store.proofs.Texts.{names_text, columns_text, skips_text, cells_text, document_text, term_text, prefix_text, bare_prefix_text, lists_text, sizes_text, noted_text}
-use Rattle.ft_store.proofs.TextLemmas.{query_by, rising, no_limit, list_shown, bare_shown, list_order, cell_order, names_query, names_is, names_plain, names_unlisted, columns_query, columns_is, columns_plain, columns_unlisted, skips_query, skips_is, skips_plain, skips_unlisted, cells_query, cells_is, cells_plain, cells_unlisted, document_query, document_is, document_plain, document_unlisted, term_query, term_is, term_plain, term_unlisted, prefix_query, prefix_is, prefix_plain, prefix_unlisted, bare_prefix_query, bare_prefix_is, bare_prefix_plain, bare_prefix_unlisted, lists_query, lists_is, lists_plain, lists_unlisted, sizes_query, sizes_is, sizes_plain, sizes_unlisted, noted_query, noted_is, noted_plain, noted_unlisted}
+use Rattle.ft_store.proofs.TextLemmas.{query_by, rising, no_limit, list_shown, bare_shown, list_order, cell_order, names_query, names_means, columns_query, columns_means, skips_query, skips_means, cells_query, cells_means, document_query, document_means, term_query, term_means, prefix_query, prefix_means, bare_prefix_query, bare_prefix_means, lists_query, lists_means, sizes_query, sizes_means, noted_query, noted_means}
 use Rattle.ft_store.specs.Range.{after_last, limit_of}
 use Rattle.ft_store.proofs.RangeLemmas.{in_range, is_under}
 use Rattle.ft_store.proofs.SelectLemmas.{all_selected, permuted, still_sorted}
@@ -180,7 +179,7 @@ cells_shown tab old new rows if_open h =
     (λ r h. last_term (turned _ _ _ _ h.tab refl))
     (λ r h passed. ap (λ t. ((t, (cell_entry r).0.1, (cell_entry r).0.2), (cell_entry r).1)) (same_int tab (cell_entry r).0.0 passed))
     (λ a b p q. then_key (cmp_ints _ _ _ _ p.tab q.tab) (then_key (cmp_ints _ _ _ _ p.docid q.docid) (last_key (cmp_ints _ _ _ _ p.at q.at))))
-    rows ((reads_as cells_text (Int tab ∷ []) old new store_schema kept.schema _ cells_is cells_plain cells_unlisted rows h).answer Null)
+    rows ((reads_as cells_text (Int tab ∷ []) old new store_schema kept.schema _ cells_means.is cells_means.plain cells_means.unlisted rows h).answer Null)
 
 pub document_shown : (tab docid : ℤ) (old new : State) (rows : List Row) → (IsTrue old.is_open → IsStore old.now) → Shown document_text (Int tab ∷ Int docid ∷ []) old new rows
     → map (found_cell tab) rows ≡ where_key cell_key_cmp (λ k. int_eq tab k.0 && int_eq docid k.1) (value_of old.now.trees).cells
@@ -191,7 +190,7 @@ document_shown tab docid old new rows if_open h =
     (λ r h. then_term (turned _ _ _ _ h.tab refl) (last_term (turned _ _ _ _ h.docid refl)))
     (λ r h passed. ap (λ t. ((t, (cell_entry r).0.1, (cell_entry r).0.2), (cell_entry r).1)) (same_int tab (cell_entry r).0.0 (and_first _ _ passed)))
     (λ a b p q. then_key (cmp_ints _ _ _ _ p.tab q.tab) (then_key (cmp_ints _ _ _ _ p.docid q.docid) (last_key (cmp_ints _ _ _ _ p.at q.at))))
-    rows ((reads_as document_text (Int tab ∷ Int docid ∷ []) old new store_schema kept.schema _ document_is document_plain document_unlisted rows h).answer Null)
+    rows ((reads_as document_text (Int tab ∷ Int docid ∷ []) old new store_schema kept.schema _ document_means.is document_means.plain document_means.unlisted rows h).answer Null)
 
 pub sizes_shown : (tab : ℤ) (old new : State) (rows : List Row) → (IsTrue old.is_open → IsStore old.now) → Shown sizes_text (Int tab ∷ []) old new rows
     → map (found_size tab) rows ≡ where_key cell_key_cmp (λ k. int_eq tab k.0) (value_of old.now.trees).sizes
@@ -202,7 +201,7 @@ sizes_shown tab old new rows if_open h =
     (λ r h. last_term (turned _ _ _ _ h.tab refl))
     (λ r h passed. ap (λ t. ((t, (size_entry r).0.1, (size_entry r).0.2), (size_entry r).1)) (same_int tab (size_entry r).0.0 passed))
     (λ a b p q. then_key (cmp_ints _ _ _ _ p.tab q.tab) (then_key (cmp_ints _ _ _ _ p.docid q.docid) (last_key (cmp_ints _ _ _ _ p.at q.at))))
-    rows ((reads_as sizes_text (Int tab ∷ []) old new store_schema kept.schema _ sizes_is sizes_plain sizes_unlisted rows h).answer Null)
+    rows ((reads_as sizes_text (Int tab ∷ []) old new store_schema kept.schema _ sizes_means.is sizes_means.plain sizes_means.unlisted rows h).answer Null)
 
 pub columns_shown : (tab : ℤ) (old new : State) (rows : List Row) → (IsTrue old.is_open → IsStore old.now) → Shown columns_text (Int tab ∷ []) old new rows
     → map (found_column tab) rows ≡ where_key column_key_cmp (λ k. int_eq tab k.0) (value_of old.now.trees).columns
@@ -213,7 +212,7 @@ columns_shown tab old new rows if_open h =
     (λ r h. last_term (turned _ _ _ _ h.tab refl))
     (λ r h passed. ap (λ t. ((t, (column_entry r).0.1), (column_entry r).1)) (same_int tab (column_entry r).0.0 passed))
     (λ a b p q. then_key (cmp_ints _ _ _ _ p.tab q.tab) (last_key (cmp_ints _ _ _ _ p.at q.at)))
-    rows ((reads_as columns_text (Int tab ∷ []) old new store_schema kept.schema _ columns_is columns_plain columns_unlisted rows h).answer Null)
+    rows ((reads_as columns_text (Int tab ∷ []) old new store_schema kept.schema _ columns_means.is columns_means.plain columns_means.unlisted rows h).answer Null)
 
 pub skips_shown : (tab : ℤ) (old new : State) (rows : List Row) → (IsTrue old.is_open → IsStore old.now) → Shown skips_text (Int tab ∷ []) old new rows
     → map (found_skip tab) rows ≡ where_key column_key_cmp (λ k. int_eq tab k.0) (value_of old.now.trees).skipped
@@ -224,7 +223,7 @@ skips_shown tab old new rows if_open h =
     (λ r h. last_term (turned _ _ _ _ h.tab refl))
     (λ r h passed. ap (λ t. ((t, (skip_entry r).0.1), tt)) (same_int tab (skip_entry r).0.0 passed))
     (λ a b p q. then_key (cmp_ints _ _ _ _ p.tab q.tab) (last_key (cmp_ints _ _ _ _ p.at q.at)) ∙ alone (column_key_cmp (skip_entry a).0 (skip_entry b).0))
-    rows ((reads_as skips_text (Int tab ∷ []) old new store_schema kept.schema _ skips_is skips_plain skips_unlisted rows h).answer Null)
+    rows ((reads_as skips_text (Int tab ∷ []) old new store_schema kept.schema _ skips_means.is skips_means.plain skips_means.unlisted rows h).answer Null)
 
 pub names_shown : (old new : State) (rows : List Row) → (IsTrue old.is_open → IsStore old.now) → Shown names_text ([]) old new rows
     → map found_table rows ≡ where_key int_cmp (λ k. true) (value_of old.now.trees).tables
@@ -235,7 +234,7 @@ names_shown old new rows if_open h =
     (λ r h. refl)
     (λ r h passed. refl)
     (λ a b p q. then_key (cmp_ints _ _ _ _ p.id q.id) (last_key (cmp_texts _ _ _ _ p.name q.name)))
-    rows ((reads_as names_text ([]) old new store_schema kept.schema _ names_is names_plain names_unlisted rows h).answer Null)
+    rows ((reads_as names_text ([]) old new store_schema kept.schema _ names_means.is names_means.plain names_means.unlisted rows h).answer Null)
 
 pub noted_shown : (old new : State) (rows : List Row) → (IsTrue old.is_open → IsStore old.now) → Shown noted_text ([]) old new rows
     → map found_note rows ≡ where_key name_cmp (λ k. true) (value_of old.now.trees).noted
@@ -246,7 +245,7 @@ noted_shown old new rows if_open h =
     (λ r h. refl)
     (λ r h passed. refl)
     (λ a b p q. then_key (cmp_cases _ _ _ _ p.name q.name) (last_key (cmp_texts _ _ _ _ p.name q.name)))
-    rows ((reads_as noted_text ([]) old new store_schema kept.schema _ noted_is noted_plain noted_unlisted rows h).answer Null)
+    rows ((reads_as noted_text ([]) old new store_schema kept.schema _ noted_means.is noted_means.plain noted_means.unlisted rows h).answer Null)
 
 pub prefix_stored_shown : (tab : ℤ) (from : List ℕ) (old new : State) (rows : List Row) → (IsTrue old.is_open → IsStore old.now) → Shown prefix_text (Int tab ∷ Text from ∷ limit_of (after_last from) ∷ []) old new rows
     → map (found_list tab) rows ≡ where_key list_key_cmp (λ k. int_eq tab k.0 && starts_with nat_eq k.1 from) (keyed list_key_cmp (map stored_entry (old.now.trees 7)))
@@ -258,7 +257,7 @@ prefix_stored_shown tab from old new rows if_open h =
     (λ r h. then_term (turned _ _ _ _ h.tab refl) (then_term (test_texts Ge _ _ _ _ h.term refl) (last_term (test_limit _ _ from h.term))) ∙ ap (λ t. int_eq tab (stored_entry r).0.0 && t) (in_range from (stored_entry r).0.1))
     (λ r h passed. ap (λ t. ((t, (stored_entry r).0.1, (stored_entry r).0.2), (stored_entry r).1)) (same_int tab (stored_entry r).0.0 (and_first _ _ passed)))
     (λ a b p q. then_key (cmp_ints _ _ _ _ p.tab q.tab) (then_key (cmp_texts _ _ _ _ p.term q.term) (last_key (cmp_ints _ _ _ _ p.docid q.docid))))
-    rows ((reads_as prefix_text params old new store_schema kept.schema _ prefix_is prefix_plain prefix_unlisted rows h).answer Null)
+    rows ((reads_as prefix_text params old new store_schema kept.schema _ prefix_means.is prefix_means.plain prefix_means.unlisted rows h).answer Null)
 
 pub lists_stored_shown : (tab : ℤ) (old new : State) (rows : List Row) → (IsTrue old.is_open → IsStore old.now) → Shown lists_text (Int tab ∷ []) old new rows
     → map (found_list tab) rows ≡ where_key list_key_cmp (λ k. int_eq tab k.0) (keyed list_key_cmp (map stored_entry (old.now.trees 7)))
@@ -269,7 +268,7 @@ lists_stored_shown tab old new rows if_open h =
     (λ r h. last_term (turned _ _ _ _ h.tab refl))
     (λ r h passed. ap (λ t. ((t, (stored_entry r).0.1, (stored_entry r).0.2), (stored_entry r).1)) (same_int tab (stored_entry r).0.0 passed))
     (λ a b p q. then_key (cmp_ints _ _ _ _ p.tab q.tab) (then_key (cmp_texts _ _ _ _ p.term q.term) (last_key (cmp_ints _ _ _ _ p.docid q.docid))))
-    rows ((reads_as lists_text (Int tab ∷ []) old new store_schema kept.schema _ lists_is lists_plain lists_unlisted rows h).answer Null)
+    rows ((reads_as lists_text (Int tab ∷ []) old new store_schema kept.schema _ lists_means.is lists_means.plain lists_means.unlisted rows h).answer Null)
 
 -- ---- lists, with their places
 
@@ -316,13 +315,13 @@ bare_found tab old kept terms params p tests in_table rows answer =
     ∙ ap (map bare_list) (with_places old.now.trees p (map (with_term tab) answer.ordered) outputs)
 
 pub term_shown : (tab : ℤ) (term : List ℕ) (old new : State) (rows : List Row) → (IsTrue old.is_open → IsStore old.now) → Shown term_text (Int tab ∷ Text term ∷ []) old new rows
-    → map found_spots rows ≡ map bare_list (lists_of_term tab term (value_of old.now.trees))
+    → map found_spots rows ≡ map bare_list (lists_under_term tab term (value_of old.now.trees))
 term_shown tab term old new rows if_open h =
     let kept = if_open (shown_open _ _ old new rows h) in
     bare_found tab old kept term_query.filter (Int tab ∷ Text term ∷ []) (λ k. int_eq tab k.0 && is_eq (name_cmp term k.1))
     (λ r h. then_term (turned _ _ _ _ h.tab refl) (last_term (turned_text _ _ _ _ h.term refl)))
     (λ k passed. and_first _ _ passed)
-    rows ((reads_as term_text (Int tab ∷ Text term ∷ []) old new store_schema kept.schema _ term_is term_plain term_unlisted rows h).answer Null)
+    rows ((reads_as term_text (Int tab ∷ Text term ∷ []) old new store_schema kept.schema _ term_means.is term_means.plain term_means.unlisted rows h).answer Null)
 
 pub bare_prefix_shown : (tab : ℤ) (from : List ℕ) (old new : State) (rows : List Row) → (IsTrue old.is_open → IsStore old.now) → Shown bare_prefix_text (Int tab ∷ Text from ∷ limit_of (after_last from) ∷ []) old new rows
     → map found_spots rows ≡ map bare_list (lists_of_prefix tab from (value_of old.now.trees))
@@ -332,4 +331,4 @@ bare_prefix_shown tab from old new rows if_open h =
     bare_found tab old kept bare_prefix_query.filter params (λ k. int_eq tab k.0 && starts_with nat_eq k.1 from)
     (λ r h. then_term (turned _ _ _ _ h.tab refl) (then_term (test_texts Ge _ _ _ _ h.term refl) (last_term (test_limit _ _ from h.term))) ∙ ap (λ t. int_eq tab (stored_entry r).0.0 && t) (in_range from (stored_entry r).0.1))
     (λ k passed. and_first _ _ passed)
-    rows ((reads_as bare_prefix_text params old new store_schema kept.schema _ bare_prefix_is bare_prefix_plain bare_prefix_unlisted rows h).answer Null)
+    rows ((reads_as bare_prefix_text params old new store_schema kept.schema _ bare_prefix_means.is bare_prefix_means.plain bare_prefix_means.unlisted rows h).answer Null)

@@ -4,6 +4,7 @@ use Rattle.std.specs.List.{AllByRecursion}
 use Rattle.std.specs.Ordering.{eq_by_cmp, int_cmp}
 use Rattle.std.specs.Cmp.{tied_itself}
 use Rattle.std.specs.FinMap.Entries.{find}
+use Rattle.std.proofs.lemmas.Bool.{or_parts}
 use Rattle.std.proofs.lemmas.Cmp.{int_cmp_total, nat_list_cmp_total}
 use Rattle.sqlite.specs.declared.types.Value.{Value}
 use Rattle.sqlite.specs.declared.types.Value.TheVariants.{Int, Text}
@@ -34,14 +35,6 @@ use Rattle.ft_store.proofs.OrderLemmas.{tied_cell_keys, tied_list_keys, tied_col
 use Rattle.ft_store.proofs.TypedLemmas.{not_null, int_is, IsNameRow, IsColumnRow, IsSkipRow, IsCellRow, IsListRow, IsSizeRow, IsNoteRow, are_names, are_columns, are_skips, are_cells, are_lists, are_sizes, are_notes}
 use Rattle.ft_rows.proofs.ListLemmas.{and_first}
 
-or_first : (a b : Bool) → (a || b) ≡ false → a ≡ false
-or_first true b h = h
-or_first false b h = refl
-
-or_second : (a b : Bool) → (a || b) ≡ false → b ≡ false
-or_second true b h = absurd (true≢false h)
-or_second false b h = h
-
 and_one : (a b : Bool) → (a && b) ≡ false → b ≡ true → a ≡ false
 and_one true b h t = absurd (true≢false (sym t ∙ h))
 and_one false b h t = refl
@@ -60,15 +53,15 @@ module _ {K X : Type 0} (R : K → K → Ordering) (order : Order) (places : Lis
       → clashes order places rows r ≡ false → find R (entry r).0 (map entry rows) ≡ None
   none_found r [] p int ps ints less free = refl
   none_found r (s ∷ rows) p int ps ints less free =
-      let apart = and_one _ _ (or_first _ _ free) (differs (rowid r) (rowid s) _ _ (int_is _ int) (int_is _ ints.0) less.0) in
+      let apart = and_one _ _ (or_parts _ _ free).0 (differs (rowid r) (rowid s) _ _ (int_is _ int) (int_is _ ints.0) less.0) in
       none_from (eq_by_cmp R (entry r).0 (entry s).0) (entry s).1 (find R (entry r).0 (map entry rows)) (false_unless _ _ (agrees r s p ps.0) apart)
-      (none_found r rows p int ps.1 ints.1 less.1 (or_second _ _ free))
+      (none_found r rows p int ps.1 ints.1 less.1 (or_parts _ _ free).1)
 
   pub apart : (rows : List Row) → IsAscending DifferIn rows → AllByRecursion IsInt rows → AllByRecursion P rows → AllByRecursion (λ r. clashes order places rows r ≡ false) rows → AreApart R (map entry rows)
   apart [] up ints ps free = tt
   apart (r ∷ rows) up ints ps free = (
-    none_found r rows ps.0 ints.0 ps.1 ints.1 up.0 (or_second _ _ free.0),
-    apart rows up.1 ints.1 ps.1 (all_weaker (λ s. clashes order places (r ∷ rows) s ≡ false) (λ s. clashes order places rows s ≡ false) (λ s h. or_second _ _ h) rows free.1),
+    none_found r rows ps.0 ints.0 ps.1 ints.1 up.0 (or_parts _ _ free.0).1,
+    apart rows up.1 ints.1 ps.1 (all_weaker (λ s. clashes order places (r ∷ rows) s ≡ false) (λ s. clashes order places rows s ≡ false) (λ s h. (or_parts _ _ h).1) rows free.1),
   )
 
 -- ---- columns that are equal agree

@@ -1,11 +1,11 @@
 -- A query of a store is refused only by what lies outside it.
-use Rattle.std.proofs.Common.{cond, ◌≡◌, ◌≢◌, ◌∙◌, ◌⊎◌, ◌++◌, ◌∷◌, ◌<◌, ℕ, ℤ, Bool, true, false, not, List, [], length, map, Option, Some, None, Ok, inl, inr, refl, sym, ap, subst, arith, IsTrue, true≢false, append-nil, All}
-use Rattle.std.specs.Prelude.{IsSome, unwrap_or}
+use Rattle.std.proofs.Common.{cond, ◌≡◌, ◌≢◌, ◌∙◌, ◌⊎◌, ◌++◌, ◌∷◌, ◌<◌, ℕ, ℤ, Bool, true, false, List, [], length, map, Option, Some, None, Ok, inl, inr, refl, sym, ap, subst, arith, IsTrue, true≢false, append-nil, All, Equal, Ordering}
+use Rattle.std.specs.Prelude.{IsSome, unwrap_or, IsUtf8}
 use Rattle.std.specs.List.{AllByRecursion, list_all}
 use Rattle.std.proofs.lemmas.Bool.{eqb-true, ltb-false}
 use Rattle.std.proofs.lemmas.List.{length-append, get_or_append_left, get_or_push}
 use Rattle.sqlite.specs.declared.types.Value.TheVariants.{Null, Int, Text}
-use Rattle.std.proofs.lemmas.List.Elements.{All-from_recursion, All-take, All-drop, All-map, All-weaker}
+use Rattle.std.proofs.lemmas.List.Elements.{All-from_recursion, All-take, All-drop, All-map, All-weaker, recursion_from_All}
 use Rattle.std.proofs.lemmas.List.Sorted.{All-permutation}
 use Rattle.sqlite.specs.Order.{Row, column}
 use Rattle.sqlite.specs.Schema.{Schema}
@@ -28,13 +28,11 @@ pub use Rattle.ft_store.specs.Made.{is_whole, IsTypedIn}
 use Rattle.sqlite_value.specs.declared.keys.Key.{Key}
 use Rattle.sqlite_keyed.proofs.ListLemmas.{all_map, all-filter, all_weaker, all_both, all_unmap}
 use Rattle.sqlite_keyed.proofs.SortLemmas.{IsPermutation-sort_by}
-use Rattle.std.proofs.Common.{Equal}
 use Rattle.std.specs.Cmp.{IsTotalOrder}
-use Rattle.std.proofs.lemmas.List.Elements.{recursion_from_All}
 use Rattle.ft_rows.proofs.ListLemmas.{and_first, and_second}
 use Rattle.ft_store.specs.Tables.{store_schema}
 use Rattle.ft_store.specs.Blame.{IsBlamed, IsUnasked, GivesUntaken, IsListRow, IsTermRow, AreTableTexts, AreNotedTexts}
-use Rattle.ft_store.proofs.TextLemmas.{table_query, bare_shown, list_shown, list_order, term_query, term_is, term_plain, term_unlisted, prefix_query, prefix_is, prefix_plain, prefix_unlisted, bare_prefix_query, bare_prefix_is, bare_prefix_plain, bare_prefix_unlisted, lists_query, lists_is, lists_plain, lists_unlisted, columns_query, columns_is, columns_plain, columns_unlisted, skips_query, skips_is, skips_plain, skips_unlisted, names_query, names_is, names_plain, names_unlisted, query_by, last_query, last_is, last_plain, last_unlisted, noted_query, noted_is, noted_plain, noted_unlisted, no_limit, has_document_query, has_document_is, has_document_plain, has_document_unlisted, docids_query, docids_is, docids_plain, docids_unlisted, cells_query, cells_is, cells_plain, cells_unlisted, document_query, document_is, document_plain, document_unlisted, sizes_query, sizes_is, sizes_plain, sizes_unlisted}
+use Rattle.ft_store.proofs.TextLemmas.{table_query, bare_shown, list_shown, list_order, term_query, term_means, prefix_query, prefix_means, bare_prefix_query, bare_prefix_means, lists_query, lists_means, columns_query, columns_means, skips_query, skips_means, names_query, names_means, query_by, last_query, last_means, noted_query, noted_means, no_limit, has_document_query, has_document_means, docids_query, docids_means, cells_query, cells_means, document_query, document_means, sizes_query, sizes_means}
 use Rattle.ft_store.proofs.Texts.{term_text, prefix_text, bare_prefix_text, lists_text, columns_text, skips_text, names_text, last_text, noted_text, has_document_text, docids_text, cells_text, document_text, sizes_text}
 use Rattle.ft_store.proofs.TypedLemmas.{IsCellRow, are_cells, are_lists, IsColumnRow, are_columns, IsSkipRow, are_skips, IsNameRow, are_names, IsNoteRow, are_notes, IsSizeRow, are_sizes}
 use Rattle.ft_store.proofs.TypedLemmas as stored
@@ -49,16 +47,10 @@ use Rattle.ft_store.proofs.KeyedLemmas.{AreApart, whole_cmp, whole_total, sorted
 use Rattle.ft_store.proofs.OrderLemmas.{tied_ints, tied_names, name_total}
 use Rattle.ft_store.proofs.ApartLemmas.{names_apart, notes_apart}
 use Rattle.sqlite_value.specs.Order.{bytes}
-use Rattle.std.specs.Prelude.{IsUtf8}
-use Rattle.std.proofs.Common.{Ordering}
 use Rattle.sqlite_tied.specs.Compute.{everything}
 use Rattle.sqlite.specs.Values.{IsInt}
 use Rattle.sqlite_rules.specs.Edit.{id_in}
 use Rattle.ft_store.proofs.SelectLemmas.{arranged}
-
-not_true : (b : Bool) → not b ≡ true → b ≡ false
-not_true true h = sym h
-not_true false h = refl
 
 -- the text is a statement of a store
 pub is_statement : {schema : Schema} (old : State) (sql : List ℕ) (params : Row) → old.now.schema ≡ schema → IsPlain (understood schema sql) → is_whole sql (length params) (understood schema sql) ≡ true
@@ -68,7 +60,7 @@ is_statement old sql params has plain whole e (inr (c, known, why)) =
     let here = sym (ap (λ s. understood s sql) has) ∙ known in
     let tells = subst (λ r. is_whole sql (length params) r ≡ true) here whole in
     elim why [
-      | inl tail ↦ let long = ltb-false c.tail (length sql) (not_true _ (and_first _ _ tells)) in tail.0 (omega (arith, long))
+      | inl tail ↦ let long = ltb-false c.tail (length sql) (stored.not_null _ (and_first _ _ tells)) in tail.0 (omega (arith, long))
       | inr (inl given) ↦ given.0 (eqb-true _ _ (and_second _ _ tells))
       | inr (inr clock) ↦ clock.0 (subst IsPlain here plain).1
     ]
@@ -169,58 +161,34 @@ module _ (old new : State) (store : IsTrue old.is_open → IsStore old.now) (sql
 
 -- ---- the queries
 
-last_whole : is_whole last_text 1 (understood store_schema last_text) ≡ true
-unfolding understood everything
-last_whole = refl
-
 pub last_blamed : (tab : ℤ) (old new : State) → OnlyBlamed old new last_text (Int tab ∷ []) (λ row. (0 < length row) × IsInt (column row 0))
 last_blamed tab old new store =
-    query_only old new store last_text (Int tab ∷ []) _ 5 last_query.filter (2 ∷ 3 ∷ []) last_query.order last_query.limit last_query.offset last_is last_plain last_unlisted last_whole (λ db has no. true≢false (rw has at no))
+    query_only old new store last_text (Int tab ∷ []) _ 5 last_query.filter (2 ∷ 3 ∷ []) last_query.order last_query.limit last_query.offset last_means.is last_means.plain last_means.unlisted last_means.whole (λ db has no. true≢false (rw has at no))
     IsCellRow (λ kept. are_cells old.now.trees (sound_of old kept)) _ (λ r typed. (omega arith, (id_in (column r 2), typed.docid)))
-
-has_document_whole : is_whole has_document_text 2 (understood store_schema has_document_text) ≡ true
-unfolding understood everything
-has_document_whole = refl
 
 pub has_document_blamed : (tab : ℤ) (docid : ℤ) (old new : State) → OnlyBlamed old new has_document_text (Int tab ∷ Int docid ∷ []) (λ row. (0 < length row) × IsInt (column row 0))
 has_document_blamed tab docid old new store =
-    query_only old new store has_document_text (Int tab ∷ Int docid ∷ []) _ 5 has_document_query.filter (2 ∷ []) has_document_query.order has_document_query.limit has_document_query.offset has_document_is has_document_plain has_document_unlisted has_document_whole (λ db has no. true≢false (rw has at no))
+    query_only old new store has_document_text (Int tab ∷ Int docid ∷ []) _ 5 has_document_query.filter (2 ∷ []) has_document_query.order has_document_query.limit has_document_query.offset has_document_means.is has_document_means.plain has_document_means.unlisted has_document_means.whole (λ db has no. true≢false (rw has at no))
     IsCellRow (λ kept. are_cells old.now.trees (sound_of old kept)) _ (λ r typed. (omega arith, (id_in (column r 2), typed.docid)))
-
-docids_whole : is_whole docids_text 3 (understood store_schema docids_text) ≡ true
-unfolding understood everything
-docids_whole = refl
 
 pub docids_blamed : (tab : ℤ) (most : ℤ) (offset : ℤ) (old new : State) → OnlyBlamed old new docids_text (Int tab ∷ Int most ∷ Int offset ∷ []) (λ row. (0 < length row) × IsInt (column row 0))
 docids_blamed tab most offset old new store =
-    query_only old new store docids_text (Int tab ∷ Int most ∷ Int offset ∷ []) _ 5 docids_query.filter (2 ∷ []) docids_query.order docids_query.limit docids_query.offset docids_is docids_plain docids_unlisted docids_whole (λ db has no. true≢false (rw has at no))
+    query_only old new store docids_text (Int tab ∷ Int most ∷ Int offset ∷ []) _ 5 docids_query.filter (2 ∷ []) docids_query.order docids_query.limit docids_query.offset docids_means.is docids_means.plain docids_means.unlisted docids_means.whole (λ db has no. true≢false (rw has at no))
     IsCellRow (λ kept. are_cells old.now.trees (sound_of old kept)) _ (λ r typed. (omega arith, (id_in (column r 2), typed.docid)))
-
-cells_whole : is_whole cells_text 1 (understood store_schema cells_text) ≡ true
-unfolding understood everything
-cells_whole = refl
 
 pub cells_blamed : (tab : ℤ) (old new : State) → OnlyBlamed old new cells_text (Int tab ∷ []) (λ row. (3 < length row) × IsInt (column row 0) × IsInt (column row 1))
 cells_blamed tab old new store =
-    query_only old new store cells_text (Int tab ∷ []) _ 5 cells_query.filter (2 ∷ 3 ∷ 4 ∷ 5 ∷ []) cells_query.order cells_query.limit cells_query.offset cells_is cells_plain cells_unlisted cells_whole (λ db has no. true≢false (rw has at no))
+    query_only old new store cells_text (Int tab ∷ []) _ 5 cells_query.filter (2 ∷ 3 ∷ 4 ∷ 5 ∷ []) cells_query.order cells_query.limit cells_query.offset cells_means.is cells_means.plain cells_means.unlisted cells_means.whole (λ db has no. true≢false (rw has at no))
     IsCellRow (λ kept. are_cells old.now.trees (sound_of old kept)) _ (λ r typed. (omega arith, (id_in (column r 2), typed.docid), (id_in (column r 3), typed.at)))
-
-document_whole : is_whole document_text 2 (understood store_schema document_text) ≡ true
-unfolding understood everything
-document_whole = refl
 
 pub document_blamed : (tab : ℤ) (docid : ℤ) (old new : State) → OnlyBlamed old new document_text (Int tab ∷ Int docid ∷ []) (λ row. (3 < length row) × IsInt (column row 0) × IsInt (column row 1))
 document_blamed tab docid old new store =
-    query_only old new store document_text (Int tab ∷ Int docid ∷ []) _ 5 document_query.filter (2 ∷ 3 ∷ 4 ∷ 5 ∷ []) document_query.order document_query.limit document_query.offset document_is document_plain document_unlisted document_whole (λ db has no. true≢false (rw has at no))
+    query_only old new store document_text (Int tab ∷ Int docid ∷ []) _ 5 document_query.filter (2 ∷ 3 ∷ 4 ∷ 5 ∷ []) document_query.order document_query.limit document_query.offset document_means.is document_means.plain document_means.unlisted document_means.whole (λ db has no. true≢false (rw has at no))
     IsCellRow (λ kept. are_cells old.now.trees (sound_of old kept)) _ (λ r typed. (omega arith, (id_in (column r 2), typed.docid), (id_in (column r 3), typed.at)))
-
-sizes_whole : is_whole sizes_text 1 (understood store_schema sizes_text) ≡ true
-unfolding understood everything
-sizes_whole = refl
 
 pub sizes_blamed : (tab : ℤ) (old new : State) → OnlyBlamed old new sizes_text (Int tab ∷ []) (λ row. (2 < length row) × IsInt (column row 0) × IsInt (column row 1) × IsInt (column row 2))
 sizes_blamed tab old new store =
-    query_only old new store sizes_text (Int tab ∷ []) _ 9 sizes_query.filter (2 ∷ 3 ∷ 4 ∷ []) sizes_query.order sizes_query.limit sizes_query.offset sizes_is sizes_plain sizes_unlisted sizes_whole (λ db has no. true≢false (rw has at no))
+    query_only old new store sizes_text (Int tab ∷ []) _ 9 sizes_query.filter (2 ∷ 3 ∷ 4 ∷ []) sizes_query.order sizes_query.limit sizes_query.offset sizes_means.is sizes_means.plain sizes_means.unlisted sizes_means.whole (λ db has no. true≢false (rw has at no))
     IsSizeRow (λ kept. are_sizes old.now.trees (sound_of old kept)) _ (λ r typed. (omega arith, (id_in (column r 2), typed.docid), (id_in (column r 3), typed.at), (id_in (column r 4), typed.n)))
 
 -- what a range ends at is a text or a blob
@@ -230,58 +198,34 @@ range_typed true tab begin (b ∷ ends) db has untyped = true≢false (rw has at
 range_typed false tab begin [] db has untyped = true≢false (rw has at untyped)
 range_typed false tab begin (b ∷ ends) db has untyped = true≢false (rw has at untyped)
 
-term_whole : is_whole term_text 2 (understood store_schema term_text) ≡ true
-unfolding understood everything
-term_whole = refl
-
 pub term_blamed : (tab : ℤ) (term : List ℕ) (old new : State) → OnlyBlamed old new term_text (Int tab ∷ Text term ∷ []) IsListRow
 term_blamed tab term old new store =
-    query_only old new store term_text (Int tab ∷ Text term ∷ []) _ 7 term_query.filter bare_shown term_query.order term_query.limit term_query.offset term_is term_plain term_unlisted term_whole (λ db has no. true≢false (rw has at no))
+    query_only old new store term_text (Int tab ∷ Text term ∷ []) _ 7 term_query.filter bare_shown term_query.order term_query.limit term_query.offset term_means.is term_means.plain term_means.unlisted term_means.whole (λ db has no. true≢false (rw has at no))
     stored.IsListRow (λ kept. are_lists old.now.trees (sound_of old kept)) _ (λ r typed. (omega arith, (id_in (column r 3), typed.docid), (bytes (column r 4), typed.list)))
-
-bare_prefix_whole : is_whole bare_prefix_text 3 (understood store_schema bare_prefix_text) ≡ true
-unfolding understood everything
-bare_prefix_whole = refl
 
 pub bare_prefix_blamed : (tab : ℤ) (begin : List ℕ) (ends : List ℕ) (old new : State) → OnlyBlamed old new bare_prefix_text (Int tab ∷ Text begin ∷ limit_of ends ∷ []) IsListRow
 bare_prefix_blamed tab begin ends old new store =
-    query_only old new store bare_prefix_text (Int tab ∷ Text begin ∷ limit_of ends ∷ []) _ 7 bare_prefix_query.filter bare_shown bare_prefix_query.order bare_prefix_query.limit bare_prefix_query.offset bare_prefix_is bare_prefix_plain bare_prefix_unlisted bare_prefix_whole (range_typed true tab begin ends)
+    query_only old new store bare_prefix_text (Int tab ∷ Text begin ∷ limit_of ends ∷ []) _ 7 bare_prefix_query.filter bare_shown bare_prefix_query.order bare_prefix_query.limit bare_prefix_query.offset bare_prefix_means.is bare_prefix_means.plain bare_prefix_means.unlisted bare_prefix_means.whole (range_typed true tab begin ends)
     stored.IsListRow (λ kept. are_lists old.now.trees (sound_of old kept)) _ (λ r typed. (omega arith, (id_in (column r 3), typed.docid), (bytes (column r 4), typed.list)))
-
-prefix_whole : is_whole prefix_text 3 (understood store_schema prefix_text) ≡ true
-unfolding understood everything
-prefix_whole = refl
 
 pub prefix_blamed : (tab : ℤ) (begin : List ℕ) (ends : List ℕ) (old new : State) → OnlyBlamed old new prefix_text (Int tab ∷ Text begin ∷ limit_of ends ∷ []) IsTermRow
 prefix_blamed tab begin ends old new store =
-    query_only old new store prefix_text (Int tab ∷ Text begin ∷ limit_of ends ∷ []) _ 7 prefix_query.filter list_shown prefix_query.order prefix_query.limit prefix_query.offset prefix_is prefix_plain prefix_unlisted prefix_whole (range_typed false tab begin ends)
+    query_only old new store prefix_text (Int tab ∷ Text begin ∷ limit_of ends ∷ []) _ 7 prefix_query.filter list_shown prefix_query.order prefix_query.limit prefix_query.offset prefix_means.is prefix_means.plain prefix_means.unlisted prefix_means.whole (range_typed false tab begin ends)
     stored.IsListRow (λ kept. are_lists old.now.trees (sound_of old kept)) _ (λ r typed. ((omega arith, (id_in (column r 3), typed.docid), (bytes (column r 4), typed.list)), omega arith, (bytes (column r 2), typed.term)))
-
-lists_whole : is_whole lists_text 1 (understood store_schema lists_text) ≡ true
-unfolding understood everything
-lists_whole = refl
 
 pub lists_blamed : (tab : ℤ) (old new : State) → OnlyBlamed old new lists_text (Int tab ∷ []) IsTermRow
 lists_blamed tab old new store =
-    query_only old new store lists_text (Int tab ∷ []) _ 7 lists_query.filter list_shown lists_query.order lists_query.limit lists_query.offset lists_is lists_plain lists_unlisted lists_whole (λ db has no. true≢false (rw has at no))
+    query_only old new store lists_text (Int tab ∷ []) _ 7 lists_query.filter list_shown lists_query.order lists_query.limit lists_query.offset lists_means.is lists_means.plain lists_means.unlisted lists_means.whole (λ db has no. true≢false (rw has at no))
     stored.IsListRow (λ kept. are_lists old.now.trees (sound_of old kept)) _ (λ r typed. ((omega arith, (id_in (column r 3), typed.docid), (bytes (column r 4), typed.list)), omega arith, (bytes (column r 2), typed.term)))
-
-columns_whole : is_whole columns_text 1 (understood store_schema columns_text) ≡ true
-unfolding understood everything
-columns_whole = refl
 
 pub columns_blamed : (tab : ℤ) (old new : State) → OnlyBlamed old new columns_text (Int tab ∷ []) (λ row. (1 < length row) × IsInt (column row 0) × ((t : List ℕ) × (column row 1 ≡ Text t)))
 columns_blamed tab old new store =
-    query_only old new store columns_text (Int tab ∷ []) _ 3 columns_query.filter (2 ∷ 3 ∷ []) columns_query.order columns_query.limit columns_query.offset columns_is columns_plain columns_unlisted columns_whole (λ db has no. true≢false (rw has at no))
+    query_only old new store columns_text (Int tab ∷ []) _ 3 columns_query.filter (2 ∷ 3 ∷ []) columns_query.order columns_query.limit columns_query.offset columns_means.is columns_means.plain columns_means.unlisted columns_means.whole (λ db has no. true≢false (rw has at no))
     IsColumnRow (λ kept. are_columns old.now.trees (sound_of old kept)) _ (λ r typed. (omega arith, (id_in (column r 2), typed.at), (bytes (column r 3), typed.name)))
-
-skips_whole : is_whole skips_text 1 (understood store_schema skips_text) ≡ true
-unfolding understood everything
-skips_whole = refl
 
 pub skips_blamed : (tab : ℤ) (old new : State) → OnlyBlamed old new skips_text (Int tab ∷ []) (λ row. (0 < length row) × IsInt (column row 0))
 skips_blamed tab old new store =
-    query_only old new store skips_text (Int tab ∷ []) _ 13 skips_query.filter (2 ∷ []) skips_query.order skips_query.limit skips_query.offset skips_is skips_plain skips_unlisted skips_whole (λ db has no. true≢false (rw has at no))
+    query_only old new store skips_text (Int tab ∷ []) _ 13 skips_query.filter (2 ∷ []) skips_query.order skips_query.limit skips_query.offset skips_means.is skips_means.plain skips_means.unlisted skips_means.whole (λ db has no. true≢false (rw has at no))
     IsSkipRow (λ kept. are_skips old.now.trees (sound_of old kept)) _ (λ r typed. (omega arith, (id_in (column r 2), typed.at)))
 
 -- ---- no statement
@@ -305,10 +249,6 @@ nothing_blamed old new store e other (inl none) = by_open old.is_open refl
 
 -- ---- the noted names
 
-noted_whole : is_whole noted_text 0 (understood store_schema noted_text) ≡ true
-unfolding understood everything
-noted_whole = refl
-
 -- what all rows under their keys have, all rows have
 kept_in : {K X : Type 0} (R : K → K → Ordering) (total : IsTotalOrder R) (tie : (x y : K) → R x y ≡ Equal → x ≡ y) (V : X → X → Ordering) (v_total : IsTotalOrder V) (v_tie : (x y : X) → V x y ≡ Equal → x ≡ y) (Q : K × X → Type 0) (es : List (K × X)) → AreApart R es
     → AllByRecursion Q (keyed R es) → AllByRecursion Q es
@@ -326,14 +266,10 @@ are_text_notes s kept texts =
 
 pub noted_blamed : (old new : State) → AreNotedTexts (value_of old.now.trees) → OnlyBlamed old new noted_text [] (λ row. (0 < length row) × ((t : List ℕ) × (column row 0 ≡ Text t) × IsUtf8 t))
 noted_blamed old new texts store =
-    query_only old new store noted_text [] _ 11 [] (1 ∷ []) noted_query.order no_limit noted_query.offset noted_is noted_plain noted_unlisted noted_whole (λ db has no. true≢false (rw has at no))
+    query_only old new store noted_text [] _ 11 [] (1 ∷ []) noted_query.order no_limit noted_query.offset noted_means.is noted_means.plain noted_means.unlisted noted_means.whole (λ db has no. true≢false (rw has at no))
     IsTextNote (λ kept. are_text_notes old kept texts) _ (λ r typed. (omega arith, (bytes (column r 1), typed.0.name, typed.1)))
 
 -- ---- the names of tables
-
-names_whole : is_whole names_text 0 (understood store_schema names_text) ≡ true
-unfolding understood everything
-names_whole = refl
 
 abbrev IsTextName : Row → Type 0
 IsTextName r = IsNameRow r × IsUtf8 (table_entry r).1
@@ -345,5 +281,5 @@ are_text_names s kept texts =
 
 pub names_blamed : (old new : State) → AreTableTexts (value_of old.now.trees) → OnlyBlamed old new names_text [] (λ row. (1 < length row) × IsInt (column row 0) × ((t : List ℕ) × (column row 1 ≡ Text t) × IsUtf8 t))
 names_blamed old new texts store =
-    query_only old new store names_text [] _ 1 [] (0 ∷ 2 ∷ []) names_query.order no_limit names_query.offset names_is names_plain names_unlisted names_whole (λ db has no. true≢false (rw has at no))
+    query_only old new store names_text [] _ 1 [] (0 ∷ 2 ∷ []) names_query.order no_limit names_query.offset names_means.is names_means.plain names_means.unlisted names_means.whole (λ db has no. true≢false (rw has at no))
     IsTextName (λ kept. are_text_names old kept texts) _ (λ r typed. (omega arith, (id_in (column r 0), typed.0.id), (bytes (column r 2), typed.0.name, typed.1)))

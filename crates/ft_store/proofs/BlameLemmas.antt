@@ -1,6 +1,6 @@
 -- Why the database refuses a call.
 use Rattle.std.proofs.Common.{◌≡◌, ◌≢◌, ◌⊎◌, ◌∙◌, ℕ, Bool, true, false, List, Option, Some, None, Ok, Err, inl, inr, refl, sym, ap, subst, arith, IsTrue, true≢false}
-use Rattle.std.specs.Prelude.{IsSome}
+use Rattle.std.specs.Prelude.{IsSome, Result, IfOk, IfErr, option_copied}
 use Rattle.sqlite.specs.Order.{Row}
 use Rattle.sqlite.specs.Effect.{Database, RefusesToRead}
 use Rattle.sqlite.specs.Clock.{timed}
@@ -10,7 +10,6 @@ use Rattle.sqlite.specs.Held.{Held, state}
 use Rattle.sqlite.specs.Next.{HasMoved}
 use Rattle.sqlite.specs.declared.rows.stream.Rows.{Rows}
 use Rattle.sqlite.proofs.Callers.{given_begin}
-use Rattle.std.specs.Prelude.{Result, IfOk, IfErr, option_copied}
 use Rattle.std.specs.Borrow.{Bor}
 use Rattle.ft_store.specs.Streamed.{Gathering}
 use Rattle.ft_store.specs.declared.fault.StoreFault.TheVariants as fault

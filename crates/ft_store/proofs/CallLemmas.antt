@@ -1,9 +1,8 @@
 -- What follows from a call of the connection, whatever its text is.
-use Rattle.std.proofs.Common.{◌≡◌, ℕ, ◌+◌, ◌<◌, List, [], ◌∷◌, ◌++◌, map, length, get_or, take, arith, Option, Some, None, sym, ap, ap₂, ◌∙◌, subst, Result, refl, Ok, Err, inl, inr, ◌⊎◌, IsTrue}
+use Rattle.std.proofs.Common.{◌≡◌, ℕ, ◌+◌, ◌<◌, List, [], ◌∷◌, ◌++◌, map, length, get_or, take, arith, Option, Some, None, sym, ap, ap₂, ◌∙◌, Result, refl, Ok, Err, inl, inr, ◌⊎◌, IsTrue}
 use Rattle.std.specs.Prelude.{Bool, true, false, MatchBool}
 use Rattle.std.proofs.lemmas.List.{take_more, map-append}
 use Rattle.sqlite.specs.Order.{Row}
-use Rattle.sqlite.specs.Schema.{Schema}
 use Rattle.sqlite_schema.specs.declared.command.Returning.{Returning}
 use Rattle.sqlite.specs.Clock.{timed}
 use Rattle.sqlite.specs.Listing.{understood}

@@ -1,44 +1,30 @@
 -- Why changes are refused, told by the rows that there were before all of them.
-use Rattle.std.proofs.Common.{◌≡◌, ◌∙◌, ◌∷◌, ◌++◌, ◌⊎◌, ◌≤◌, ◌<◌, ◌+◌, ℕ, Bool, true, false, List, [], length, map, take, drop, get_or, All, Result, Ok, inl, inr, refl, sym, ap, subst, arith, append_assoc, true≢false}
+use Rattle.std.proofs.Common.{◌≡◌, ◌∙◌, ◌∷◌, ◌++◌, ◌⊎◌, ◌≤◌, ◌<◌, ◌+◌, ℕ, Bool, true, false, List, [], length, map, take, drop, get_or, All, inl, inr, refl, sym, ap, subst, arith, append_assoc, true≢false}
 use Rattle.std.specs.Prelude.{Any, String, string_bytes}
 use Rattle.std.specs.List.{AllByRecursion, sum_by, between}
-use Rattle.std.specs.Borrow.{MutBor}
 use Rattle.std.specs.declared.alloc.Global.{Global}
 use Rattle.std.proofs.lemmas.List.{length-map, get_or-map, length-take-le, take_more, map-append, take-append-drop}
 use Rattle.std.proofs.lemmas.List.Elements.{recursion_from_All}
 use Rattle.std.proofs.lemmas.List.Sums.{sum_by-append, sum_by-cons, sum_by_push}
-use Rattle.std.proofs.lemmas.Result.{on_ok_weaker}
 use Rattle.sqlite.specs.Tree.{Trees}
 use Rattle.sqlite.specs.State.{State, HasCleanDisk, Survives}
-use Rattle.sqlite.specs.Store.{Ghosts}
-use Rattle.sqlite.specs.Held.{Held, state}
 use Rattle.sqlite_rules.specs.Lists.{Has}
 use Rattle.sqlite_rules.proofs.ListLemmas.{any_has}
 use Rattle.ft_values.specs.declared.rows.RowChange.{RowChange}
 use Rattle.ft_values.specs.declared.rows.RowChange.TheVariants as row
 use Rattle.ft_rows.specs.Store.{StoreValue, Change, AddTable, PutCell, PutEntries, PutSize, Note, all_applied}
 use Rattle.ft_rows.specs.Changes.{shown_change}
-use Rattle.ft_store.specs.declared.fault.StoreFault.{StoreFault}
 use Rattle.ft_store.specs.Rows.{value_of}
 use Rattle.ft_store.specs.Calls.{Goes}
-use Rattle.ft_store.specs.Inside.{StepsInside}
-use Rattle.ft_store.specs.Groups.{Entry, PutsList, entry_put}
+use Rattle.ft_store.specs.Groups.{PackedList, PutsList, entry_put}
 use Rattle.ft_store.specs.Blame.{IsBlamed, TakesOut}
-use Rattle.ft_store.specs.Puts.{IsFull, AreGrown, IsTooBig, IsBigEntry, rows_of, CantPut, CantPutAll, GrowsOnOk}
+use Rattle.ft_store.specs.Puts.{IsFull, AreGrown, IsTooBig, IsBigEntry, rows_put, CantPut, CantPutAll}
 use Rattle.ft_store.proofs.BlameLemmas.{blamed_on, blamed_then}
 use Rattle.ft_store.proofs.GroupLemmas.{applied-append, front}
-use Rattle.ft_store.proofs.RiseLemmas.{full_since, full_more, trees_then}
+use Rattle.ft_store.proofs.RiseLemmas.{full_since, full_more}
 
 pub grown_count : (n m : ℕ) (a b : Trees) → n ≡ m → AreGrown n a b → AreGrown m a b
 grown_count n m a b same = subst (λ k. AreGrown k a b) same
-
--- one step of a transaction after the other
-pub grows_then : {S : Type 0} (g : Ghosts S) (a b c : MutBor (Held S)) (two : Result (Unit {0}) StoreFault) (f h : StoreValue → StoreValue) (n m : ℕ) → StepsInside g a b (Ok tt) f → StepsInside g b c two h
-    → GrowsOnOk {X = Unit {0}} g a.now b.now (Ok tt) n → GrowsOnOk g b.now c.now two m → GrowsOnOk g a.now c.now two (n + m)
-grows_then g a b c two f h n m first second one next clean inside kept =
-    let clean_mid : HasCleanDisk (state g b.now) = omega (arith, second.stays.survives.clean, clean) in
-    let step = first.steps clean_mid inside kept in
-    on_ok_weaker two (λ more. trees_then n m (state g a.now).now.trees (state g b.now).now.trees (state g c.now).now.trees (one clean_mid inside kept) more) (next clean step.shown.mode (λ is_open. step.store))
 
 -- ---- one change
 
@@ -70,13 +56,13 @@ cant_more n m db v _ le none = absurd none
 
 -- ---- several changes
 
-pub cant_one : (db : Trees) (c : Change) → CantPut (rows_of c) db (value_of db) c → CantPutAll db (c ∷ [])
+pub cant_one : (db : Trees) (c : Change) → CantPut (rows_put c) db (value_of db) c → CantPutAll db (c ∷ [])
 cant_one db c why = record {
   done = [];
   change = c;
   left = [];
   are = refl;
-  why = cant_more (rows_of c) (sum_by rows_of (c ∷ [])) db (value_of db) c (let e = sum_by-cons rows_of c [] in omega (arith, e)) why;
+  why = cant_more (rows_put c) (sum_by rows_put (c ∷ [])) db (value_of db) c (let e = sum_by-cons rows_put c [] in omega (arith, e)) why;
 }
 
 cant_first : (db : Trees) (xs ys : List Change) → CantPutAll db xs → CantPutAll db (xs ++ ys)
@@ -85,23 +71,23 @@ cant_first db xs ys it = record {
   change = it.change;
   left = it.left ++ ys;
   are = ap (λ l. l ++ ys) it.are ∙ append_assoc it.done (it.change ∷ it.left) ys;
-  why = cant_more (sum_by rows_of xs) (sum_by rows_of (xs ++ ys)) db (all_applied it.done (value_of db)) it.change (let e = sum_by-append rows_of xs ys in omega (arith, e)) it.why;
+  why = cant_more (sum_by rows_put xs) (sum_by rows_put (xs ++ ys)) db (all_applied it.done (value_of db)) it.change (let e = sum_by-append rows_put xs ys in omega (arith, e)) it.why;
 }
 
-cant_later : (a b : Trees) (xs ys : List Change) → AreGrown (sum_by rows_of xs) a b → value_of b ≡ all_applied xs (value_of a) → CantPutAll b ys → CantPutAll a (xs ++ ys)
+cant_later : (a b : Trees) (xs ys : List Change) → AreGrown (sum_by rows_put xs) a b → value_of b ≡ all_applied xs (value_of a) → CantPutAll b ys → CantPutAll a (xs ++ ys)
 cant_later a b xs ys grown is it = record {
   done = xs ++ it.done;
   change = it.change;
   left = it.left;
   are = ap (λ l. xs ++ l) it.are ∙ sym (append_assoc xs it.done (it.change ∷ it.left));
-  why = subst (λ n. CantPut n a (all_applied (xs ++ it.done) (value_of a)) it.change) (sym (sum_by-append rows_of xs ys))
-      (subst (λ v. CantPut (sum_by rows_of xs + sum_by rows_of ys) a v it.change) (ap (all_applied it.done) is ∙ sym (applied-append xs it.done (value_of a)))
-      (cant_since (sum_by rows_of xs) (sum_by rows_of ys) a b (all_applied it.done (value_of b)) it.change grown it.why));
+  why = subst (λ n. CantPut n a (all_applied (xs ++ it.done) (value_of a)) it.change) (sym (sum_by-append rows_put xs ys))
+      (subst (λ v. CantPut (sum_by rows_put xs + sum_by rows_put ys) a v it.change) (ap (all_applied it.done) is ∙ sym (applied-append xs it.done (value_of a)))
+      (cant_since (sum_by rows_put xs) (sum_by rows_put ys) a b (all_applied it.done (value_of b)) it.change grown it.why));
 }
 
 -- some of them, after those before them
 pub part_why : (old was new : State) (C D : _) (done part rest whole : List Change) → whole ≡ (done ++ part) ++ rest → HasCleanDisk was → Survives old was C → Survives was new D → Goes old was (all_applied done (value_of old.now.trees))
-    → AreGrown (sum_by rows_of done) old.now.trees was.now.trees → IsBlamed was new ⊎ CantPutAll was.now.trees part → IsBlamed old new ⊎ CantPutAll old.now.trees whole
+    → AreGrown (sum_by rows_put done) old.now.trees was.now.trees → IsBlamed was new ⊎ CantPutAll was.now.trees part → IsBlamed old new ⊎ CantPutAll old.now.trees whole
 part_why old was new C D done part rest whole is clean one two goes grown why = by_open old.is_open refl why
   where
     by_open : (o : Bool) → old.is_open ≡ o → IsBlamed was new ⊎ CantPutAll was.now.trees part → IsBlamed old new ⊎ CantPutAll old.now.trees whole
@@ -119,16 +105,16 @@ full_entry : (c : RowChange) → PutsList c → (n : ℕ) (db : Trees) (v : Stor
 full_entry (row.PutEntries tab term docid spots) puts n db v full = inl full
 full_entry _ puts n db v full = absurd puts
 
-one_row : (c : RowChange) → PutsList c → rows_of (shown_change c) ≡ 1
+one_row : (c : RowChange) → PutsList c → rows_put (shown_change c) ≡ 1
 one_row (row.PutEntries tab term docid spots) puts = refl
 one_row _ puts = absurd puts
 
-pub count_rows : (changes : List RowChange) → AllByRecursion PutsList changes → sum_by rows_of (map shown_change changes) ≡ length changes
+pub count_rows : (changes : List RowChange) → AllByRecursion PutsList changes → sum_by rows_put (map shown_change changes) ≡ length changes
 count_rows [] all = refl
-count_rows (c ∷ changes) all = let e = sum_by-cons rows_of (shown_change c) (map shown_change changes) in let one = one_row c all.0 in let more = count_rows changes all.1 in omega (arith, e, one, more)
+count_rows (c ∷ changes) all = let e = sum_by-cons rows_put (shown_change c) (map shown_change changes) in let one = one_row c all.0 in let more = count_rows changes all.1 in omega (arith, e, one, more)
 
 -- one of them is too big
-big_at : (changes : List RowChange) → AllByRecursion PutsList changes → (e : Entry) → Has (map entry_put changes) e → IsBigEntry e
+big_at : (changes : List RowChange) → AllByRecursion PutsList changes → (e : PackedList) → Has (map entry_put changes) e → IsBigEntry e
     → (done : List Change) × (change : Change) × (left : List Change) × (map shown_change changes ≡ done ++ change ∷ left) × ((n : ℕ) (db : Trees) (v : StoreValue) → CantPut n db v change)
 big_at [] all e has big = absurd has
 big_at (c ∷ changes) all e (inl same) big = ([], shown_change c, map shown_change changes, refl, big_entry c all.0 (subst IsBigEntry same big))
@@ -142,7 +128,7 @@ group_why db (c ∷ changes) all some (inl full) = record {
   change = shown_change c;
   left = map shown_change changes;
   are = refl;
-  why = full_entry c all.0 (sum_by rows_of (map shown_change (c ∷ changes))) db (value_of db) (subst (λ n. IsFull n (db 7)) (sym (count_rows (c ∷ changes) all)) full);
+  why = full_entry c all.0 (sum_by rows_put (map shown_change (c ∷ changes))) db (value_of db) (subst (λ n. IsFull n (db 7)) (sym (count_rows (c ∷ changes) all)) full);
 }
 group_why db (c ∷ changes) all some (inr big) =
     let found = any_has IsBigEntry (map entry_put (c ∷ changes)) big in
@@ -170,8 +156,8 @@ one_more_shown changes i change inside is =
     ap (map shown_change) (take_more changes i change inside ∙ ap (λ c. take i changes ++ c ∷ []) (sym is)) ∙ map-append shown_change (take i changes) (change ∷ [])
 
 pub one_more_rows : (changes : List RowChange) (i : ℕ) (change : RowChange) → i < length changes → change ≡ get_or changes i change
-    → sum_by rows_of (map shown_change (take i changes)) + rows_of (shown_change change) ≡ sum_by rows_of (map shown_change (take (i + 1) changes))
-one_more_rows changes i change inside is = sym (ap (sum_by rows_of) (one_more_shown changes i change inside is) ∙ sum_by_push rows_of (map shown_change (take i changes)) (shown_change change))
+    → sum_by rows_put (map shown_change (take i changes)) + rows_put (shown_change change) ≡ sum_by rows_put (map shown_change (take (i + 1) changes))
+one_more_rows changes i change inside is = sym (ap (sum_by rows_put) (one_more_shown changes i change inside is) ∙ sum_by_push rows_put (map shown_change (take i changes)) (shown_change change))
 
 pub split_one : (changes : List RowChange) (i : ℕ) (change : RowChange) → i < length changes → change ≡ get_or changes i change
     → map shown_change changes ≡ (map shown_change (take i changes) ++ shown_change change ∷ []) ++ map shown_change (drop (i + 1) changes)
@@ -183,8 +169,8 @@ module _ (changes : List RowChange) (at end : ℕ) (le : at ≤ end) where
   more_shown : map shown_change (take end changes) ≡ map shown_change (take at changes) ++ map shown_change (between at end changes)
   more_shown = ap (map shown_change) (front changes at end le) ∙ map-append shown_change (take at changes) (between at end changes)
 
-  pub more_rows : sum_by rows_of (map shown_change (take at changes)) + sum_by rows_of (map shown_change (between at end changes)) ≡ sum_by rows_of (map shown_change (take end changes))
-  more_rows = sym (ap (sum_by rows_of) more_shown ∙ sum_by-append rows_of (map shown_change (take at changes)) (map shown_change (between at end changes)))
+  pub more_rows : sum_by rows_put (map shown_change (take at changes)) + sum_by rows_put (map shown_change (between at end changes)) ≡ sum_by rows_put (map shown_change (take end changes))
+  more_rows = sym (ap (sum_by rows_put) more_shown ∙ sum_by-append rows_put (map shown_change (take at changes)) (map shown_change (between at end changes)))
 
   pub split_part : map shown_change changes ≡ (map shown_change (take at changes) ++ map shown_change (between at end changes)) ++ map shown_change (drop end changes)
   split_part =
@@ -225,4 +211,4 @@ never_at (d ∷ done) c left all = never_at done c left all.1
 
 pub nothing_put : (db : Trees) (changes : List RowChange) → All TakesOut changes → CantPutAll db (map shown_change changes) → ⊥
 nothing_put db changes takes it =
-    never_at it.done it.change it.left (subst (AllByRecursion NeverRefused) it.are (all_never changes (recursion_from_All TakesOut changes takes))) (sum_by rows_of (map shown_change changes)) db (all_applied it.done (value_of db)) it.why
+    never_at it.done it.change it.left (subst (AllByRecursion NeverRefused) it.are (all_never changes (recursion_from_All TakesOut changes takes))) (sum_by rows_put (map shown_change changes)) db (all_applied it.done (value_of db)) it.why

@@ -6,7 +6,7 @@ use Rattle.std.specs.Prelude.{IfErr, OnOk}
 use Rattle.sqlite.specs.Store.{Ghosts}
 use Rattle.sqlite.specs.Held.{Held}
 use Rattle.ft_store.specs.declared.fault.StoreFault.{StoreFault}
-use Rattle.ft_store.specs.Calls.{IsStore, IsStoreIfOpen, IsPlainFault, Keeps, Reads}
+use Rattle.ft_store.specs.Calls.{IsStore, IsStoreIfOpen, IsPlainFault, Keeps, ReadsOnly}
 
 pub kept_store : (old new : State) (C : _) → (HasCleanDisk new → Keeps old new) → Survives old new C → IsStoreIfOpen old → IsStoreIfOpen new
 kept_store old new C kept s store clean is_open =
@@ -64,5 +64,5 @@ ok_too : {A E K : Type 0} (r : Result A E) → K → OnOk r K
 ok_too (Ok a) k = k
 ok_too (Err e) k = tt
 
-pub reads_on : {S X Y : Type 0} (g : Ghosts S) (old new : Held S) (x : X) (result : Result Y StoreFault) → Reads g old new (Ok x) IsPlainFault → IfErr result IsPlainFault → Reads g old new result IsPlainFault
+pub reads_on : {S X Y : Type 0} (g : Ghosts S) (old new : Held S) (x : X) (result : Result Y StoreFault) → ReadsOnly g old new (Ok x) IsPlainFault → IfErr result IsPlainFault → ReadsOnly g old new result IsPlainFault
 reads_on g old new x result it fault = record { kept = it.kept; live = λ clean. ok_too result (it.live clean); mode = it.mode; survives = it.survives; fault = fault }

@@ -1,5 +1,5 @@
 -- What DELETE and INSERT make of the rows of a table.
-use Rattle.std.proofs.Common.{◌≡◌, ◌≢◌, ◌⊎◌, inl, inr, ℕ, ◌/◌, length, ℤ, Bool, true, false, not, ◌&&◌, ◌||◌, cond, List, [], ◌∷◌, map, filter, slice_get, Option, Some, None, Ok, Err, Result, refl, sym, ap, ◌∙◌, subst, is_eq, IsPermutation, IsTrue}
+use Rattle.std.proofs.Common.{◌≡◌, ◌≢◌, ◌⊎◌, inl, inr, ℕ, ◌/◌, length, ℤ, Bool, true, false, not, ◌&&◌, ◌||◌, cond, List, [], ◌∷◌, map, filter, slice_get, Some, None, Ok, Err, Result, refl, sym, ap, ◌∙◌, subst, is_eq, IsPermutation, IsTrue}
 use Rattle.std.specs.List.{AllByRecursion, list_any, list_all}
 use Rattle.std.proofs.lemmas.Cmp.{tied_itself}
 use Rattle.std.proofs.lemmas.List.Sorted.{list_any-IsPermutation, IsPermutation-map}
@@ -34,8 +34,6 @@ use Rattle.sqlite.specs.State.{State, Executes, mode_of}
 use Rattle.sqlite.proofs.Callers.{IsPlain, command_of, statement_of, runs_as, one_step}
 use Rattle.sqlite_keyed.proofs.ListLemmas.{all_both, all_weaker, filter_all, all_of, map-map}
 use Rattle.ft_store.specs.Tables.{store_schema, a_table}
-use Rattle.sqlite_schema.specs.declared.schema.Column.{Column}
-use Rattle.sqlite_value.specs.declared.keys.Order.{Order}
 use Rattle.ft_store.proofs.TextLemmas.{table_query, no_limit}
 use Rattle.ft_store.proofs.SelectLemmas.{arranged}
 
@@ -73,7 +71,7 @@ found_again p (y ∷ ys) up ints = (go (p y) refl, later (p y) (found_again p ys
         all_both (λ r. same y r ≡ false) (λ r. list_any (λ x. same x r) (filter p ys) ≡ p r) (λ r. list_any (λ x. same x r) (y ∷ filter p ys) ≡ p r) (λ r apart e. rw apart e) ys
         (all_both (DifferIn y) IsInt (λ r. same y r ≡ false) (λ r apart int. not_same y r ints.0 int apart) ys up.0 ints.1) h
 
-filter_twice : {X : Type 0} (p q : X → Bool) (xs : List X) → filter p (filter q xs) ≡ filter (λ x. q x && p x) xs
+pub filter_twice : {X : Type 0} (p q : X → Bool) (xs : List X) → filter p (filter q xs) ≡ filter (λ x. q x && p x) xs
 filter_twice p q [] = refl
 filter_twice p q (x ∷ xs) =
     elim (q x) as (λ b. filter p (cond b (x ∷ filter q xs) (filter q xs)) ≡ cond (b && p x) (x ∷ filter (λ y. q y && p y) xs) (filter (λ y. q y && p y) xs)) [
@@ -114,12 +112,16 @@ ids_found db tree terms params rows answer =
     (subst (IsPermutation (map back _)) (sym (ap ids_of answer.shown ∙ map-map (λ r. id_in (rowid r)) (λ (o : Output). o.1) answer.ordered)) (IsPermutation-map back _ _ (arranged db tree terms (0 ∷ []) [] no_limit params rows answer)))
 
 -- a part that gave a value did not stop on the way
-went : {B E R : Type 0} {b : B} {Stops : E → Type 0} → ((stop : E) × Stops stop × (Ok b ≡ Err stop)) ⊎ R → R
+pub went : {B E R : Type 0} {b : B} {Stops : E → Type 0} → ((stop : E) × Stops stop × (Ok b ≡ Err stop)) ⊎ R → R
 went (inl stopped) = absurd (let e = stopped.2 in cc)
 went (inr on) = on
 
-same_value : {B E : Type 0} {a b : B} → ◌≡◌ {A = Result B E} (Ok a) (Ok b) → a ≡ b
+pub same_value : {B E : Type 0} {a b : B} → ◌≡◌ {A = Result B E} (Ok a) (Ok b) → a ≡ b
 same_value e = cc
+
+-- a table as those of a store are: it has no references, and nothing of it is computed or counted
+abbrev pub bare_table : Table → Table
+bare_table a = a_table a.tree a.name a.columns a.key a.primary a.uniques a.orders a.checks
 
 -- what a write to one table leaves alone
 abbrev pub KeepsOthers : ℕ → Trees → Trees → Type 0
@@ -163,13 +165,13 @@ deletes old new text params at table terms count has is plain found here shaped 
 
 -- ---- the rows that an INSERT adds
 
-pub inserts_all : (old new : State) (text : List ℕ) (params : Row) (at tree : ℕ) (name : List ℕ) (columns : List Column) (key : Option ℕ) (primary : List ℕ) (uniques : List (List ℕ)) (orders : List Order) (checks : List Term)
+pub inserts_all : (old new : State) (text : List ℕ) (params : Row) (at : ℕ) (a : Table)
     (terms : List Term) (width : ℕ) (rows : List Row) (count : ℕ) → old.now.schema ≡ store_schema
-    → command_of (understood store_schema text) ≡ Insert at (Values terms width) → IsPlain (understood store_schema text) → slice_get store_schema.tables at ≡ Some (a_table tree name columns key primary uniques orders checks)
-    → (edit_of old.now.trees (a_table tree name columns key primary uniques orders checks) [] Chosen 0 (value_rows (stamped (a_table tree name columns key primary uniques orders checks) params) width (length terms / width) terms)).news ≡ rows → Executes text params old new (Ok count)
-    → Wrote tree old new (put_all (old.now.trees tree) rows) × (are_fresh (old.now.trees tree) rows ≡ true)
-inserts_all old new text params at tree name columns key primary uniques orders checks terms width rows count has is plain found makes h =
-    let table = a_table tree name columns key primary uniques orders checks in
+    → command_of (understood store_schema text) ≡ Insert at (Values terms width) → IsPlain (understood store_schema text) → slice_get store_schema.tables at ≡ Some (bare_table a)
+    → (edit_of old.now.trees (bare_table a) [] Chosen 0 (value_rows (stamped (bare_table a) params) width (length terms / width) terms)).news ≡ rows → Executes text params old new (Ok count)
+    → Wrote a.tree old new (put_all (old.now.trees a.tree) rows) × (are_fresh (old.now.trees a.tree) rows ≡ true)
+inserts_all old new text params at a terms width rows count has is plain found makes h =
+    let table = bare_table a in
     let db = old.now.trees in
     let command = Insert at (Values terms width) in
     let w = runs_as text params old new store_schema has command is plain count h in
@@ -198,13 +200,13 @@ inserts_all old new text params at tree name columns key primary uniques orders 
     (wrote, subst (λ l. are_fresh (db table.tree) l ≡ true) news applies.fresh)
 
 -- one row
-pub inserts : (old new : State) (text : List ℕ) (params : Row) (at tree : ℕ) (name : List ℕ) (columns : List Column) (key : Option ℕ) (primary : List ℕ) (uniques : List (List ℕ)) (orders : List Order) (checks : List Term)
+pub inserts : (old new : State) (text : List ℕ) (params : Row) (at : ℕ) (a : Table)
     (terms : List Term) (width : ℕ) (row : Row) (count : ℕ) → old.now.schema ≡ store_schema
-    → command_of (understood store_schema text) ≡ Insert at (Values terms width) → IsPlain (understood store_schema text) → slice_get store_schema.tables at ≡ Some (a_table tree name columns key primary uniques orders checks)
-    → (edit_of old.now.trees (a_table tree name columns key primary uniques orders checks) [] Chosen 0 (value_rows (stamped (a_table tree name columns key primary uniques orders checks) params) width (length terms / width) terms)).news ≡ row ∷ [] → Executes text params old new (Ok count)
-    → Wrote tree old new (put_row row (old.now.trees tree)) × (is_taken (old.now.trees tree) row ≡ false)
-inserts old new text params at tree name columns key primary uniques orders checks terms width row count has is plain found makes h =
-    let made = inserts_all old new text params at tree name columns key primary uniques orders checks terms width (row ∷ []) count has is plain found makes h in (made.0, fresh_first _ _ made.1)
+    → command_of (understood store_schema text) ≡ Insert at (Values terms width) → IsPlain (understood store_schema text) → slice_get store_schema.tables at ≡ Some (bare_table a)
+    → (edit_of old.now.trees (bare_table a) [] Chosen 0 (value_rows (stamped (bare_table a) params) width (length terms / width) terms)).news ≡ row ∷ [] → Executes text params old new (Ok count)
+    → Wrote a.tree old new (put_row row (old.now.trees a.tree)) × (is_taken (old.now.trees a.tree) row ≡ false)
+inserts old new text params at a terms width row count has is plain found makes h =
+    let made = inserts_all old new text params at a terms width (row ∷ []) count has is plain found makes h in (made.0, fresh_first _ _ made.1)
 
 -- ---- what a column makes of the value that is written to it
 

@@ -23,7 +23,7 @@ use Rattle.ft_store.specs.Rows.{keyed, cell_key, cell_entry, value_of}
 use Rattle.ft_store.specs.Docids.{docids_in, cut_to}
 use Rattle.ft_store.specs.Calls.{IsStore}
 use Rattle.ft_store.proofs.Texts.{docids_text, has_document_text}
-use Rattle.ft_store.proofs.TextLemmas.{rising, no_limit, no_offset, cell_order, docid_query, docids_query, docids_is, docids_plain, docids_unlisted, has_document_query, has_document_is, has_document_plain, has_document_unlisted}
+use Rattle.ft_store.proofs.TextLemmas.{rising, no_limit, no_offset, cell_order, docid_query, docids_query, docids_means, has_document_query, has_document_means}
 use Rattle.ft_store.proofs.OrderLemmas.{tied_cell_keys, cell_key_total}
 use Rattle.ft_store.proofs.TypedLemmas.{IsCellRow, are_cells}
 use Rattle.ft_store.proofs.ApartLemmas.{cells_apart}
@@ -95,7 +95,7 @@ docids_shown tab limit offset most is old new rows if_open h =
     let params = Int tab ∷ Int limit ∷ Int (pos offset) ∷ [] in
     docids_given docids_query.filter docids_query.limit docids_query.offset params (λ k. int_eq tab k.0 && int_eq (pos 0) k.2)
     (λ r h. then_term (turned _ _ _ _ h.tab refl) (last_term (turned _ _ _ _ h.at refl)))
-    old kept rows ((reads_as docids_text params old new store_schema kept.schema _ docids_is docids_plain docids_unlisted rows h).answer Null) most offset is refl
+    old kept rows ((reads_as docids_text params old new store_schema kept.schema _ docids_means.is docids_means.plain docids_means.unlisted rows h).answer Null) most offset is refl
 
 -- ---- whether there is one
 
@@ -120,5 +120,5 @@ document_found tab docid old new rows if_open h =
     sym (some_mapped docid_of rows)
     ∙ ap (λ (ds : List ℤ). is_some (slice_get ds 0)) (docids_given has_document_query.filter has_document_query.limit has_document_query.offset params (λ k. int_eq tab k.0 && int_eq docid k.1)
     (λ r h. then_term (turned _ _ _ _ h.tab refl) (last_term (turned _ _ _ _ h.docid refl)))
-    old kept rows ((reads_as has_document_text params old new store_schema kept.schema _ has_document_is has_document_plain has_document_unlisted rows h).answer Null) (Some 1) 0 refl refl)
+    old kept rows ((reads_as has_document_text params old new store_schema kept.schema _ has_document_means.is has_document_means.plain has_document_means.unlisted rows h).answer Null) (Some 1) 0 refl refl)
     ∙ some_taken (map docid_in cells) ∙ some_mapped docid_in cells

@@ -1,5 +1,5 @@
 -- How tables are dropped.
-use Rattle.std.proofs.Common.{Option, Some, None, Bool, true, false, not, ◌||◌, ◌≡◌, ◌≢◌, ◌⊎◌, inl, inr, ℕ, ◌+◌, ◌<◌, ◌≤◌, List, [], ◌∷◌, Ok, Err, Result, refl, sym, ap, subst, ◌∙◌, arith, IsTrue}
+use Rattle.std.proofs.Common.{Option, Some, None, Bool, true, false, not, ◌||◌, ◌≡◌, ◌≢◌, inl, inr, ℕ, ◌+◌, ◌<◌, ◌≤◌, List, [], ◌∷◌, Ok, Err, refl, sym, ap, subst, ◌∙◌, arith, IsTrue}
 use Rattle.std.specs.List.{AllByRecursion, list_all}
 use Rattle.sqlite.specs.Schema.{Schema}
 use Rattle.sqlite.specs.Table.{Table}
@@ -27,14 +27,8 @@ use Rattle.ft_store.specs.Blame.{IsBlamed}
 use Rattle.ft_store.specs.Made.{first_tables}
 use Rattle.ft_store.specs.Anew.{HasFirst, DropsLast, DropsNext}
 use Rattle.ft_store.proofs.Texts.{drop_cell_table, drop_posting_table, drop_sizes_table, drop_noted_table, drop_skip_table}
+use Rattle.ft_store.proofs.ChangeLemmas.{went, same_value}
 use Rattle.ft_store.proofs.RefusedLemmas.{write_refused_as}
-
-went : {B E R : Type 0} {b : B} {Stops : E → Type 0} → ((stop : E) × Stops stop × (Ok b ≡ Err stop)) ⊎ R → R
-went (inl stopped) = absurd (let e = stopped.2 in cc)
-went (inr on) = on
-
-same_value : {B E : Type 0} {a b : B} → ◌≡◌ {A = Result B E} (Ok a) (Ok b) → a ≡ b
-same_value e = cc
 
 off : (X Y : Type 0) (b : Bool) → b ≡ false → MatchBool b X Y → Y
 off X Y b is h = subst (λ c. MatchBool c X Y) is h

@@ -8,9 +8,8 @@ use Rattle.sqlite.specs.Order.{Row}
 use Rattle.sqlite_typed.proofs.TestLemmas.{same_bytes}
 use Rattle.ft_values.specs.declared.rows.Spot.{Spot}
 use Rattle.ft_rows.specs.Store.{ListKey, list_key_cmp, name_cmp}
-use Rattle.ft_rows.specs.Shown.{Entry, bare_list, entries_with, entries_of, AreWhole}
-use Rattle.ft_rows.proofs.ListLemmas.{and_second}
-use Rattle.ft_rows.proofs.ListLemmas.{flat_more}
+use Rattle.ft_rows.specs.Shown.{StoredEntry, bare_list, entries_with, entries_of, AreWhole}
+use Rattle.ft_rows.proofs.ListLemmas.{and_second, flat_more}
 
 -- rows of lists, each with such a property, and one row more
 module _ {X : Type 0} (Is : X → Type 0) (found : Row → X) (row : Row) where
@@ -29,7 +28,7 @@ module _ {X : Type 0} (Is : X → Type 0) (found : Row → X) (row : Row) where
   other_last rows other all = other (were_all rows all).1
 
 module _ {K : Type 0} (found : Row → K × List Spot) (row : Row) where
-  pub entries_more : (f : K × List Spot → List Entry) (rows : List Row) (old new : List Entry) → new ≡ old ++ f (found row) → old ≡ flat_map f (map found rows) → new ≡ flat_map f (map found (rows ++ row ∷ []))
+  pub entries_more : (f : K × List Spot → List StoredEntry) (rows : List Row) (old new : List StoredEntry) → new ≡ old ++ f (found row) → old ≡ flat_map f (map found rows) → new ≡ flat_map f (map found (rows ++ row ∷ []))
   entries_more f rows old new added before = added ∙ ap (λ es. es ++ f (found row)) before ∙ sym (flat_more f (map found rows) (found row)) ∙ ap (flat_map f) (sym (map-append found rows (row ∷ [])))
 
 -- ---- lists without their tables and terms

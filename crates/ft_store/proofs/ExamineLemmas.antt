@@ -35,7 +35,7 @@ use Rattle.ft_store.specs.Tables.{meta_table}
 use Rattle.ft_store.specs.Older.{schema_of, tables_of}
 use Rattle.ft_store.specs.Made.{is_whole, IsTypedIn}
 use Rattle.ft_store.specs.Scan.{Scans, tree_at, AreRising, IsOneOf}
-use Rattle.ft_store.specs.Calls.{HasOwnRowids, AreNumbered}
+use Rattle.ft_store.specs.Calls.{HasOwnRowids, HaveOwnRowids}
 use Rattle.ft_store.specs.Blame.{IsBlamed, IsUnasked, GivesUntaken}
 use Rattle.ft_store.proofs.TextLemmas.{rising, no_limit, no_offset}
 use Rattle.ft_store.proofs.AskedLemmas.{query_refused}
@@ -149,13 +149,13 @@ last_there (r ∷ rows) row = inr (last_there rows row)
 -- ---- a read that is refused behind others
 
 pub looked_refused : (layout : Layout) (at : ℕ) → at < tables_of layout → (old was now : State) → Looking old was → (C : _) → Survives was now C → HasCleanDisk now
-    → IsBlamed was now ⊎ ¬ HasOwnRowids (was.now.trees (tree_at at)) → IsBlamed old now ⊎ ¬ AreNumbered (schema_of layout).tables old.now.trees
+    → IsBlamed was now ⊎ ¬ HasOwnRowids (was.now.trees (tree_at at)) → IsBlamed old now ⊎ ¬ HaveOwnRowids (schema_of layout).tables old.now.trees
 looked_refused layout at below old was now look C s clean why = by_open old.is_open refl
   where
     before : HasCleanDisk was
     before = omega (arith, s.clean, clean)
 
-    by_open : (o : Bool) → old.is_open ≡ o → IsBlamed old now ⊎ ¬ AreNumbered (schema_of layout).tables old.now.trees
+    by_open : (o : Bool) → old.is_open ≡ o → IsBlamed old now ⊎ ¬ HaveOwnRowids (schema_of layout).tables old.now.trees
     by_open false shut = inl (inr (inl shut))
     by_open true is_open = elim why [
       | inl blamed ↦ inl (blamed_then old was now _ _ before look.survives s blamed)

@@ -8,7 +8,7 @@ use Rattle.ft_values.specs.declared.rows.Spot.{Spot}
 use Rattle.ft_rows.specs.declared.terms.Posting.{Posting}
 use Rattle.ft_rows.specs.declared.terms.TermLists.{TermLists}
 use Rattle.ft_rows.specs.Store.{ListKey}
-use Rattle.ft_rows.specs.Terms.{spot_of, joined, lists_of_postings, AreFirstList, lists_by_terms}
+use Rattle.ft_rows.specs.Terms.{spot_of, joined_posting, lists_of_postings, AreFirstList, lists_by_terms}
 use Rattle.ft_store.specs.Found.{found_places}
 use Rattle.ft_store.specs.Expected.{left_under, left_of, HasMore, IsList}
 
@@ -40,7 +40,7 @@ next_list tab ts i n t p ps count h is rest first =
     ap (λ us. left_of tab us n) here ∙ ap (λ ls. ls ++ lists_by_terms tab (drop (i + 1) ts)) under ∙ ap (λ us. list ∷ left_of tab us (n + count)) (sym here)
 
 -- where postings are left, lists are
-some_joined : (p : Posting) (ls : List (ℤ × List Spot)) → joined p ls ≡ [] → ⊥
+some_joined : (p : Posting) (ls : List (ℤ × List Spot)) → joined_posting p ls ≡ [] → ⊥
 some_joined p [] e = cc
 some_joined p (l ∷ ls) e = go (int_eq p.docid l.0) e
   where

@@ -25,7 +25,7 @@ use Rattle.sqlite_store.specs.Listing.{all_shapes, all_reals}
 use Rattle.sqlite_store.specs.Listed.{catalog_rows, is_listed}
 use Rattle.sqlite_store.proofs.ListingLemmas.{all_ordered}
 use Rattle.sqlite.specs.Files.{AreFoundIn}
-use Rattle.ft_store.specs.Calls.{HasOwnRowids, AreNumbered}
+use Rattle.ft_store.specs.Calls.{HasOwnRowids, HaveOwnRowids}
 
 differ : (a b : Row) → value_cmp (rowid a) (rowid b) ≡ Less → rowid a ≢ rowid b
 differ a b lower same = let tied = ap (value_cmp (rowid a)) (sym same) ∙ tied_itself value_cmp_total (rowid a) in let both = sym lower ∙ tied in cc
@@ -38,14 +38,14 @@ module _ (schema : Schema) (db : Trees) (shapes : ℕ → Shape) (reals : ℕ �
   rows : (tree : ℕ) → shapes tree ≡ shape.Table → IsShaped shape.Table (db tree)
   rows tree is = subst (λ s. IsShaped s (db tree)) is (ordered tree)
 
-  numbered : AreNumbered schema.tables db
+  numbered : HaveOwnRowids schema.tables db
   numbered = all_from (λ t. HasOwnRowids (db t.tree)) schema.tables (λ t has. own (db t.tree) (rows t.tree (table_shape listed (rows catalog_tree listed.itself.0).0 sound.lists.listed t has).0))
 
-none : (tables : List Table) (db : Trees) → AllZip IsTableRow [] tables → AreNumbered tables db
+none : (tables : List Table) (db : Trees) → AllZip IsTableRow [] tables → HaveOwnRowids tables db
 none [] db h = tt
 none (t ∷ tables) db h = absurd h
 
-pub found_numbered : (image : Image) (schema : Schema) (db : Trees) → AreFoundIn image db → IsSound schema db → AreNumbered schema.tables db
+pub found_numbered : (image : Image) (schema : Schema) (db : Trees) → AreFoundIn image db → IsSound schema db → HaveOwnRowids schema.tables db
 found_numbered image schema db (inl (size, pages, wanted, adopts, ours, is)) sound =
     numbered schema db (all_shapes wanted) (all_reals wanted)
     (subst (λ d. IsListed (d catalog_tree) (all_shapes wanted) (all_reals wanted)) (sym is) (rw (catalog_rows size wanted _) (is_listed wanted)))

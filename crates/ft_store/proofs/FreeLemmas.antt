@@ -14,7 +14,7 @@ use Rattle.sqlite.specs.Program.{overlay}
 use Rattle.sqlite.specs.State.{State, Shown}
 use Rattle.sqlite.proofs.Callers.{reads_as}
 use Rattle.ft_store.specs.Tables.{store_schema}
-use Rattle.ft_store.specs.Anew.{IsProbe, IsFree, number_bound, probe_tree, probe_term}
+use Rattle.ft_store.specs.Anew.{IsProbe, IsFree, IsNear, probe_tree, probe_term}
 use Rattle.ft_store.proofs.SelectLemmas.{arranged}
 use Rattle.ft_store.proofs.TextLemmas.{query_by}
 
@@ -41,10 +41,10 @@ overlay_bare : (db : Trees) (t : ℕ) → overlay db [] t ≡ db t
 overlay_bare db t = elim (nat_le (2 ^ 31) t) as (λ b. unwrap_or (if b then slice_get [] (t - 2 ^ 31) else None) (db t) ≡ db t) [ true ↦ refl | false ↦ refl ]
 
 -- a probe that gives no row
-pub free_of : (at : ℕ) (text : List ℕ) (tab : ℤ) (old new : State) (rows : List Row) → IsProbe at text → old.now.schema ≡ store_schema → rows ≡ [] → Shown text (Int (number_bound at tab) ∷ []) old new rows → IsFree at tab old.now.trees
-free_of at text tab old new rows probe has none h =
-    let params = Int (number_bound at tab) ∷ [] in
-    let it = probe (number_bound at tab) in
+pub free_of : (at : ℕ) (text : List ℕ) (tab n : ℤ) (old new : State) (rows : List Row) → IsProbe at text → IsNear at tab n → old.now.schema ≡ store_schema → rows ≡ [] → Shown text (Int n ∷ []) old new rows → IsFree at tab old.now.trees
+free_of at text tab n old new rows probe near has none h =
+    let params = Int n ∷ [] in
+    let it = probe n in
     let tree = probe_tree at in
     let terms = probe_term at ∷ [] in
     let db = overlay old.now.trees [] in
@@ -56,8 +56,8 @@ free_of at text tab old new rows probe has none h =
     let count = length-map answer.ordered (λ (o : Output). o.1) in
     let here = length-map (filter (λ r. list_all (holds (params ∷ r ∷ [])) terms) (db tree)) (λ r. output (query_by tree terms it.show it.order (lit (Int (pos 1)))) (params ∷ r ∷ [])) in
     let gone = ap length empty in
-    subst (AllByRecursion (λ r. list_all (holds (params ∷ r ∷ [])) terms ≡ false)) (overlay_bare old.now.trees tree)
-    (none_pass (λ r. list_all (holds (params ∷ r ∷ [])) terms) (db tree) (none_left _ (omega (arith, size, count, here, gone))))
+    let all = none_pass (λ r. list_all (holds (params ∷ r ∷ [])) terms) (db tree) (none_left _ (omega (arith, size, count, here, gone))) in
+    (n, near, subst (AllByRecursion (λ r. list_all (holds (params ∷ r ∷ [])) terms ≡ false)) (overlay_bare old.now.trees tree) all)
 
 less_of : (i at : ℕ) → i < at + 1 → i ≢ at → i < at
 less_of i at high other = grind (arith, high, other)

@@ -1,25 +1,37 @@
 -- What the statements that take rows out leave room for, and why they are refused.
-use Rattle.std.proofs.Common.{◌≡◌, ◌≢◌, ◌∷◌, ℕ, ℤ, Bool, true, false, not, nat_eq, List, [], Some, Ok, inl, inr, refl, sym, subst, true≢false, slice_get}
+use Rattle.std.proofs.Common.{◌≡◌, ◌≢◌, ◌∷◌, ℕ, ℤ, Bool, true, false, not, nat_eq, List, [], refl, sym, subst, true≢false, ◌&&◌, ◌∙◌, ap, length}
 use Rattle.std.specs.List.{list_all}
 use Rattle.std.proofs.lemmas.Bool.{eqb-true, eqb-false}
 use Rattle.sqlite.specs.declared.types.Value.TheVariants.{Int, Text}
 use Rattle.sqlite.specs.Order.{Row}
-use Rattle.sqlite.specs.Table.{Table}
 use Rattle.sqlite.specs.Term.{Term, holds}
-use Rattle.sqlite.specs.Program.{overlay}
-use Rattle.sqlite.specs.Command.TheVariants.{Delete}
-use Rattle.sqlite.specs.Listing.{understood}
-use Rattle.sqlite.specs.State.{State, Executes}
-use Rattle.sqlite.proofs.Callers.{IsPlain, command_of}
-use Rattle.sqlite_tied.specs.Compute.{everything}
-use Rattle.ft_store.specs.Tables.{store_schema, tab_table, col_table, cell_table, posting_table, sizes_table, noted_table, skip_table}
-use Rattle.ft_store.specs.Calls.{IsStore, HasOwnRowids}
-use Rattle.ft_store.specs.Puts.{IsGrown, AreGrown}
-use Rattle.ft_store.proofs.Texts.{drop_name_text, drop_columns_text, drop_column_text, drop_skips_text, drop_skip_text, drop_contents_text, drop_cells_text, drop_cell_text, drop_lists_text, drop_list_text, drop_sizes_text, drop_size_text, drop_note_text}
-use Rattle.ft_store.proofs.TextLemmas.{table_query, drop_name_terms, drop_name_is, drop_name_plain, drop_columns_terms, drop_columns_is, drop_columns_plain, drop_column_terms, drop_column_is, drop_column_plain, drop_skips_terms, drop_skips_is, drop_skips_plain, drop_skip_terms, drop_skip_is, drop_skip_plain, drop_contents_terms, drop_contents_is, drop_contents_plain, drop_cells_terms, drop_cells_is, drop_cells_plain, drop_cell_terms, drop_cell_is, drop_cell_plain, drop_lists_terms, drop_lists_is, drop_lists_plain, drop_list_terms, drop_list_is, drop_list_plain, drop_sizes_terms, drop_sizes_is, drop_sizes_plain, drop_size_terms, drop_size_is, drop_size_plain, drop_note_terms, drop_note_is, drop_note_plain}
-use Rattle.ft_store.proofs.AskedLemmas.{is_whole}
-use Rattle.ft_store.proofs.ChangeLemmas.{Wrote, deletes}
-use Rattle.ft_store.proofs.RefusedLemmas.{RunOnlyBlamed, delete_blamed}
+use Rattle.sqlite.specs.State.{State}
+use Rattle.ft_store.specs.Puts.{IsGrown, AreGrown, KeepsRest, chosen_trees}
+use Rattle.ft_store.proofs.Texts.{drop_name_text, drop_columns_text, drop_column_text, drop_skips_text, drop_skip_text, drop_contents_text, drop_cells_text, drop_cell_text, drop_lists_text, drop_list_text, drop_lists_from_text, drop_sizes_text, drop_size_text, drop_note_text}
+use Rattle.ft_store.proofs.TextLemmas.{table_query, IsDeletion, drop_name_means, drop_columns_means, drop_column_means, drop_skips_means, drop_skip_means, drop_contents_means, drop_cells_means, drop_cell_means, drop_lists_means, drop_list_means, drop_lists_from_means, drop_sizes_means, drop_size_means, drop_note_means}
+use Rattle.ft_store.proofs.AskedLemmas.{IsTyped}
+use Rattle.ft_store.proofs.ChangeLemmas.{Wrote, KeepsOthers, bare_table, deletes}
+use Rattle.ft_store.proofs.StepLemmas.{deleted}
+use Rattle.ft_store.proofs.StoreTables.{StoreTable}
+use Rattle.ft_store.proofs.StoreTables as tables
+use Rattle.ft_store.proofs.WriteLemmas.{turned, turned_text, turned_case, then_tie}
+use Rattle.sqlite_typed.proofs.TestLemmas.{at_texts, then_term, last_term}
+use Rattle.sqlite_keyed.proofs.ListLemmas.{all_both}
+use Rattle.sqlite.specs.declared.types.Value.{Value}
+use Rattle.sqlite_sql.specs.Ops.{is_true, binary}
+use Rattle.sqlite_sql.specs.declared.ops.BinaryOp.TheVariants.{Compare}
+use Rattle.sqlite_sql.specs.declared.ops.CompareOp.TheVariants.{Ge}
+use Rattle.sqlite.specs.Collation.TheVariants.{Binary}
+use Rattle.sqlite_value.specs.Keys.{without_case}
+use Rattle.sqlite.specs.Store.{Ghosts}
+use Rattle.sqlite.specs.Held.{state}
+use Rattle.sqlite.specs.Tree.{Trees}
+use Rattle.std.specs.Ordering.{int_eq, is_le, eq_by_cmp}
+use Rattle.std.specs.FinMap.Entries.{where_key}
+use Rattle.ft_rows.specs.Store.{without_key, cell_key_cmp, list_key_cmp, column_key_cmp, name_cmp}
+use Rattle.ft_store.specs.Changes.{TakesRows}
+use Rattle.ft_store.specs.Inside.{without_name, without_columns, without_skips, without_contents, without_lists, without_sizes}
+use Rattle.ft_store.proofs.RefusedLemmas.{delete_blamed}
 use Rattle.ft_store.proofs.RiseLemmas.{grown_filter, grown_same}
 
 -- ---- how tables grow
@@ -35,95 +47,73 @@ wrote_grown tree count old new rows wrote grown =
         by true e = subst (λ n. IsGrown count (old.now.trees n) (new.now.trees n)) (sym (eqb-true t tree e)) (subst (IsGrown count (old.now.trees tree)) (sym wrote.written) grown)
         by false e = grown_same count _ _ (other (eqb-false t tree e))
 
-pub delete_grown : (old new : State) (text : List ℕ) (params : Row) (at : ℕ) (table : Table) (terms : List Term) (count : ℕ) → old.now.schema ≡ store_schema
-    → command_of (understood store_schema text) ≡ Delete at (record { lets = []; body = table_query table.tree terms (0 ∷ []) [] }) → IsPlain (understood store_schema text)
-    → slice_get store_schema.tables at ≡ Some table → (overlay old.now.trees [] table.tree ≡ old.now.trees table.tree) → HasOwnRowids (old.now.trees table.tree) → Executes text params old new (Ok count)
-    → AreGrown 0 old.now.trees new.now.trees
-delete_grown old new text params at table terms count has is plain found same own h =
-    wrote_grown table.tree 0 old new _ (deletes old new text params at table terms count has is plain found same own h) (grown_filter (λ r. not (list_all (holds (params ∷ r ∷ [])) terms)) (old.now.trees table.tree) own.1)
+-- the other tables keep their rows
+pub rest_of : (tree : ℕ) (old new : Trees) → KeepsOthers tree old new → KeepsRest tree old new
+rest_of tree old new o = (o.1.1.0, (o.1.1.1.0, (o.1.1.1.1.0, (o.1.1.1.1.1.0, (o.1.1.1.1.1.1.0, (o.1.1.1.1.1.1.1.0, tt))))))
+
+pub rest_then : (tree : ℕ) (a b c : Trees) → KeepsRest tree a b → KeepsRest tree b c → KeepsRest tree a c
+rest_then tree a b c = all_both (λ t. t ≢ tree → b t ≡ a t) (λ t. t ≢ tree → c t ≡ b t) (λ t. t ≢ tree → c t ≡ a t) (λ t one two other. two other ∙ one other) chosen_trees
 
 -- ---- the deletions
 
-pub drop_name_grown : (tab : ℤ) (old new : State) (count : ℕ) → IsStore old.now → Executes drop_name_text (Int tab ∷ []) old new (Ok count) → AreGrown 0 old.now.trees new.now.trees
-drop_name_grown tab old new count kept h =
-    delete_grown old new drop_name_text (Int tab ∷ []) 1 (tab_table 1) drop_name_terms count kept.schema drop_name_is drop_name_plain refl refl kept.numbered.1.0 h
+module _ {S : Type 0} (g : Ghosts S) {K X : Type 0} {P : Row → Type 0} (t : StoreTable K X P) (terms : List Term) (text : List ℕ) (params : Row) (p : K → Bool) (means : IsDeletion t.at t.table.tree terms text (length params)) where
+  takes : IsTyped (table_query t.table.tree terms (0 ∷ []) []) params → ((r : Row) → P r → list_all (holds (params ∷ r ∷ [])) terms ≡ p (t.entry r).0)
+      → TakesRows g text params t.table.tree (λ v. t.with_rows (where_key t.cmp (λ k. not (p k)) (t.rows v)) v)
+  takes typed tests = record {
+    done = λ old new count kept ran.
+        let from = state g old in
+        let to = state g new in
+        let own = t.own from.now.trees kept.numbered in
+        let wrote = deletes from to text params t.at (bare_table t.table) terms count kept.schema means.is means.plain t.found (t.here from.now.trees) own ran.0 in (
+          deleted from to kept ran.1 t params terms p tests wrote,
+          wrote_grown t.table.tree 0 from to _ wrote (grown_filter (λ r. not (list_all (holds (params ∷ r ∷ [])) terms)) (from.now.trees t.table.tree) own.1),
+          rest_of t.table.tree from.now.trees to.now.trees wrote.others,
+        );
+    refused = λ old new. delete_blamed (state g old) (state g new) text params t.at (bare_table t.table) terms means.is means.plain means.whole t.found t.listed t.unique typed;
+  }
 
-pub drop_columns_grown : (tab : ℤ) (old new : State) (count : ℕ) → IsStore old.now → Executes drop_columns_text (Int tab ∷ []) old new (Ok count) → AreGrown 0 old.now.trees new.now.trees
-drop_columns_grown tab old new count kept h =
-    delete_grown old new drop_columns_text (Int tab ∷ []) 2 (col_table 3) drop_columns_terms count kept.schema drop_columns_is drop_columns_plain refl refl kept.numbered.1.1.0 h
+reaches : (v : Value) (s t : List ℕ) → v ≡ Text s → is_true (binary (Compare Ge Binary) v (Text t)) ≡ is_le (name_cmp t s)
+reaches v s t is = ap (λ w. is_true (binary (Compare Ge Binary) w (Text t))) is ∙ at_texts false Ge s t
 
-drop_column_whole : is_whole drop_column_text 2 (understood store_schema drop_column_text) ≡ true
-unfolding understood everything
-drop_column_whole = refl
+module _ {S : Type 0} (g : Ghosts S) where
+  pub drop_name : (tab : ℤ) → TakesRows g drop_name_text (Int tab ∷ []) 1 (without_name tab)
+  drop_name tab = takes g tables.names _ drop_name_text (Int tab ∷ []) (λ k. int_eq tab k) drop_name_means (λ db has no. true≢false (rw has at no)) (λ r h. last_term (turned _ _ _ _ h.id refl))
 
-pub drop_column_blamed : (tab : ℤ) (at : ℤ) (old new : State) → RunOnlyBlamed old new drop_column_text (Int tab ∷ Int at ∷ [])
-drop_column_blamed tab at old new =
-    delete_blamed old new drop_column_text (Int tab ∷ Int at ∷ []) 2 (col_table 3) drop_column_terms drop_column_is drop_column_plain drop_column_whole refl (inr (inr (inl refl))) (λ db. refl) (λ db has no. true≢false (rw has at no))
+  pub drop_columns : (tab : ℤ) → TakesRows g drop_columns_text (Int tab ∷ []) 3 (without_columns tab)
+  drop_columns tab = takes g tables.columns _ drop_columns_text (Int tab ∷ []) (λ k. int_eq tab k.0) drop_columns_means (λ db has no. true≢false (rw has at no)) (λ r h. last_term (turned _ _ _ _ h.tab refl))
 
-pub drop_column_grown : (tab : ℤ) (at : ℤ) (old new : State) (count : ℕ) → IsStore old.now → Executes drop_column_text (Int tab ∷ Int at ∷ []) old new (Ok count) → AreGrown 0 old.now.trees new.now.trees
-drop_column_grown tab at old new count kept h =
-    delete_grown old new drop_column_text (Int tab ∷ Int at ∷ []) 2 (col_table 3) drop_column_terms count kept.schema drop_column_is drop_column_plain refl refl kept.numbered.1.1.0 h
+  pub drop_skips : (tab : ℤ) → TakesRows g drop_skips_text (Int tab ∷ []) 13 (without_skips tab)
+  drop_skips tab = takes g tables.skipped _ drop_skips_text (Int tab ∷ []) (λ k. int_eq tab k.0) drop_skips_means (λ db has no. true≢false (rw has at no)) (λ r h. last_term (turned _ _ _ _ h.tab refl))
 
-pub drop_skips_grown : (tab : ℤ) (old new : State) (count : ℕ) → IsStore old.now → Executes drop_skips_text (Int tab ∷ []) old new (Ok count) → AreGrown 0 old.now.trees new.now.trees
-drop_skips_grown tab old new count kept h =
-    delete_grown old new drop_skips_text (Int tab ∷ []) 7 (skip_table 13) drop_skips_terms count kept.schema drop_skips_is drop_skips_plain refl refl kept.numbered.1.1.1.1.1.1.1.0 h
+  pub drop_contents : (tab : ℤ) → TakesRows g drop_contents_text (Int tab ∷ []) 5 (without_contents tab)
+  drop_contents tab = takes g tables.cells _ drop_contents_text (Int tab ∷ []) (λ k. int_eq tab k.0) drop_contents_means (λ db has no. true≢false (rw has at no)) (λ r h. last_term (turned _ _ _ _ h.tab refl))
 
-drop_skip_whole : is_whole drop_skip_text 2 (understood store_schema drop_skip_text) ≡ true
-unfolding understood everything
-drop_skip_whole = refl
+  pub drop_lists : (tab : ℤ) → TakesRows g drop_lists_text (Int tab ∷ []) 7 (without_lists tab)
+  drop_lists tab = takes g tables.lists _ drop_lists_text (Int tab ∷ []) (λ k. int_eq tab k.0) drop_lists_means (λ db has no. true≢false (rw has at no)) (λ r h. last_term (turned _ _ _ _ h.tab refl))
 
-pub drop_skip_blamed : (tab : ℤ) (at : ℤ) (old new : State) → RunOnlyBlamed old new drop_skip_text (Int tab ∷ Int at ∷ [])
-drop_skip_blamed tab at old new =
-    delete_blamed old new drop_skip_text (Int tab ∷ Int at ∷ []) 7 (skip_table 13) drop_skip_terms drop_skip_is drop_skip_plain drop_skip_whole refl (inr (inr (inr (inr (inr (inr (inr (inl refl)))))))) (λ db. refl) (λ db has no. true≢false (rw has at no))
+  pub drop_sizes : (tab : ℤ) → TakesRows g drop_sizes_text (Int tab ∷ []) 9 (without_sizes tab)
+  drop_sizes tab = takes g tables.sizes _ drop_sizes_text (Int tab ∷ []) (λ k. int_eq tab k.0) drop_sizes_means (λ db has no. true≢false (rw has at no)) (λ r h. last_term (turned _ _ _ _ h.tab refl))
 
-pub drop_skip_grown : (tab : ℤ) (at : ℤ) (old new : State) (count : ℕ) → IsStore old.now → Executes drop_skip_text (Int tab ∷ Int at ∷ []) old new (Ok count) → AreGrown 0 old.now.trees new.now.trees
-drop_skip_grown tab at old new count kept h =
-    delete_grown old new drop_skip_text (Int tab ∷ Int at ∷ []) 7 (skip_table 13) drop_skip_terms count kept.schema drop_skip_is drop_skip_plain refl refl kept.numbered.1.1.1.1.1.1.1.0 h
+  pub drop_column : (tab : ℤ) (at : ℤ) → TakesRows g drop_column_text (Int tab ∷ Int at ∷ []) 3 (λ v. record v { columns = without_key column_key_cmp (tab, at) v.columns })
+  drop_column tab at = takes g tables.columns _ drop_column_text (Int tab ∷ Int at ∷ []) (λ k. eq_by_cmp column_key_cmp (tab, at) k) drop_column_means (λ db has no. true≢false (rw has at no)) (λ r h. then_tie _ _ (turned _ _ _ _ h.tab refl) (last_term (turned _ _ _ _ h.at refl)))
 
-pub drop_contents_grown : (tab : ℤ) (old new : State) (count : ℕ) → IsStore old.now → Executes drop_contents_text (Int tab ∷ []) old new (Ok count) → AreGrown 0 old.now.trees new.now.trees
-drop_contents_grown tab old new count kept h =
-    delete_grown old new drop_contents_text (Int tab ∷ []) 3 (cell_table 5) drop_contents_terms count kept.schema drop_contents_is drop_contents_plain refl refl kept.numbered.1.1.1.0 h
+  pub drop_skip : (tab : ℤ) (at : ℤ) → TakesRows g drop_skip_text (Int tab ∷ Int at ∷ []) 13 (λ v. record v { skipped = without_key column_key_cmp (tab, at) v.skipped })
+  drop_skip tab at = takes g tables.skipped _ drop_skip_text (Int tab ∷ Int at ∷ []) (λ k. eq_by_cmp column_key_cmp (tab, at) k) drop_skip_means (λ db has no. true≢false (rw has at no)) (λ r h. then_tie _ _ (turned _ _ _ _ h.tab refl) (last_term (turned _ _ _ _ h.at refl)))
 
-pub drop_cells_grown : (tab : ℤ) (docid : ℤ) (old new : State) (count : ℕ) → IsStore old.now → Executes drop_cells_text (Int tab ∷ Int docid ∷ []) old new (Ok count) → AreGrown 0 old.now.trees new.now.trees
-drop_cells_grown tab docid old new count kept h =
-    delete_grown old new drop_cells_text (Int tab ∷ Int docid ∷ []) 3 (cell_table 5) drop_cells_terms count kept.schema drop_cells_is drop_cells_plain refl refl kept.numbered.1.1.1.0 h
+  pub drop_cells : (tab : ℤ) (docid : ℤ) → TakesRows g drop_cells_text (Int tab ∷ Int docid ∷ []) 5 (λ v. record v { cells = where_key cell_key_cmp (λ k. not (int_eq tab k.0 && int_eq docid k.1)) v.cells })
+  drop_cells tab docid = takes g tables.cells _ drop_cells_text (Int tab ∷ Int docid ∷ []) (λ k. int_eq tab k.0 && int_eq docid k.1) drop_cells_means (λ db has no. true≢false (rw has at no)) (λ r h. then_term (turned _ _ _ _ h.tab refl) (last_term (turned _ _ _ _ h.docid refl)))
 
-drop_cell_whole : is_whole drop_cell_text 3 (understood store_schema drop_cell_text) ≡ true
-unfolding understood everything
-drop_cell_whole = refl
+  pub drop_cell : (tab : ℤ) (docid : ℤ) (at : ℤ) → TakesRows g drop_cell_text (Int tab ∷ Int docid ∷ Int at ∷ []) 5 (λ v. record v { cells = without_key cell_key_cmp (tab, docid, at) v.cells })
+  drop_cell tab docid at = takes g tables.cells _ drop_cell_text (Int tab ∷ Int docid ∷ Int at ∷ []) (λ k. eq_by_cmp cell_key_cmp (tab, docid, at) k) drop_cell_means (λ db has no. true≢false (rw has at no)) (λ r h. then_tie _ _ (turned _ _ _ _ h.tab refl) (then_tie _ _ (turned _ _ _ _ h.docid refl) (last_term (turned _ _ _ _ h.at refl))))
 
-pub drop_cell_blamed : (tab : ℤ) (docid : ℤ) (at : ℤ) (old new : State) → RunOnlyBlamed old new drop_cell_text (Int tab ∷ Int docid ∷ Int at ∷ [])
-drop_cell_blamed tab docid at old new =
-    delete_blamed old new drop_cell_text (Int tab ∷ Int docid ∷ Int at ∷ []) 3 (cell_table 5) drop_cell_terms drop_cell_is drop_cell_plain drop_cell_whole refl (inr (inr (inr (inl refl)))) (λ db. refl) (λ db has no. true≢false (rw has at no))
+  pub drop_size : (tab : ℤ) (docid : ℤ) (at : ℤ) → TakesRows g drop_size_text (Int tab ∷ Int docid ∷ Int at ∷ []) 9 (λ v. record v { sizes = without_key cell_key_cmp (tab, docid, at) v.sizes })
+  drop_size tab docid at = takes g tables.sizes _ drop_size_text (Int tab ∷ Int docid ∷ Int at ∷ []) (λ k. eq_by_cmp cell_key_cmp (tab, docid, at) k) drop_size_means (λ db has no. true≢false (rw has at no)) (λ r h. then_tie _ _ (turned _ _ _ _ h.tab refl) (then_tie _ _ (turned _ _ _ _ h.docid refl) (last_term (turned _ _ _ _ h.at refl))))
 
-pub drop_cell_grown : (tab : ℤ) (docid : ℤ) (at : ℤ) (old new : State) (count : ℕ) → IsStore old.now → Executes drop_cell_text (Int tab ∷ Int docid ∷ Int at ∷ []) old new (Ok count) → AreGrown 0 old.now.trees new.now.trees
-drop_cell_grown tab docid at old new count kept h =
-    delete_grown old new drop_cell_text (Int tab ∷ Int docid ∷ Int at ∷ []) 3 (cell_table 5) drop_cell_terms count kept.schema drop_cell_is drop_cell_plain refl refl kept.numbered.1.1.1.0 h
+  pub drop_list : (tab : ℤ) (term : List ℕ) (docid : ℤ) → TakesRows g drop_list_text (Int tab ∷ Text term ∷ Int docid ∷ []) 7 (λ v. record v { lists = without_key list_key_cmp (tab, term, docid) v.lists })
+  drop_list tab term docid = takes g tables.lists _ drop_list_text (Int tab ∷ Text term ∷ Int docid ∷ []) (λ k. eq_by_cmp list_key_cmp (tab, term, docid) k) drop_list_means (λ db has no. true≢false (rw has at no)) (λ r h. then_tie _ _ (turned _ _ _ _ h.tab refl) (then_tie _ _ (turned_text _ _ _ _ h.term refl) (last_term (turned _ _ _ _ h.docid refl))))
 
-pub drop_lists_grown : (tab : ℤ) (old new : State) (count : ℕ) → IsStore old.now → Executes drop_lists_text (Int tab ∷ []) old new (Ok count) → AreGrown 0 old.now.trees new.now.trees
-drop_lists_grown tab old new count kept h =
-    delete_grown old new drop_lists_text (Int tab ∷ []) 4 (posting_table 7) drop_lists_terms count kept.schema drop_lists_is drop_lists_plain refl refl kept.numbered.1.1.1.1.0 h
+  pub drop_lists_from : (tab : ℤ) (from : List ℕ) → TakesRows g drop_lists_from_text (Int tab ∷ Text from ∷ []) 7 (λ v. record v { lists = where_key list_key_cmp (λ k. not (int_eq tab k.0 && is_le (name_cmp from k.1))) v.lists })
+  drop_lists_from tab from = takes g tables.lists _ drop_lists_from_text (Int tab ∷ Text from ∷ []) (λ k. int_eq tab k.0 && is_le (name_cmp from k.1)) drop_lists_from_means (λ db has no. true≢false (rw has at no)) (λ r h. then_term (turned _ _ _ _ h.tab refl) (last_term (reaches _ _ _ h.term)))
 
-pub drop_list_grown : (tab : ℤ) (term : List ℕ) (docid : ℤ) (old new : State) (count : ℕ) → IsStore old.now → Executes drop_list_text (Int tab ∷ Text term ∷ Int docid ∷ []) old new (Ok count) → AreGrown 0 old.now.trees new.now.trees
-drop_list_grown tab term docid old new count kept h =
-    delete_grown old new drop_list_text (Int tab ∷ Text term ∷ Int docid ∷ []) 4 (posting_table 7) drop_list_terms count kept.schema drop_list_is drop_list_plain refl refl kept.numbered.1.1.1.1.0 h
-
-pub drop_sizes_grown : (tab : ℤ) (old new : State) (count : ℕ) → IsStore old.now → Executes drop_sizes_text (Int tab ∷ []) old new (Ok count) → AreGrown 0 old.now.trees new.now.trees
-drop_sizes_grown tab old new count kept h =
-    delete_grown old new drop_sizes_text (Int tab ∷ []) 5 (sizes_table 9) drop_sizes_terms count kept.schema drop_sizes_is drop_sizes_plain refl refl kept.numbered.1.1.1.1.1.0 h
-
-pub drop_size_grown : (tab : ℤ) (docid : ℤ) (at : ℤ) (old new : State) (count : ℕ) → IsStore old.now → Executes drop_size_text (Int tab ∷ Int docid ∷ Int at ∷ []) old new (Ok count) → AreGrown 0 old.now.trees new.now.trees
-drop_size_grown tab docid at old new count kept h =
-    delete_grown old new drop_size_text (Int tab ∷ Int docid ∷ Int at ∷ []) 5 (sizes_table 9) drop_size_terms count kept.schema drop_size_is drop_size_plain refl refl kept.numbered.1.1.1.1.1.0 h
-
-drop_note_whole : is_whole drop_note_text 1 (understood store_schema drop_note_text) ≡ true
-unfolding understood everything
-drop_note_whole = refl
-
-pub drop_note_blamed : (name : List ℕ) (old new : State) → RunOnlyBlamed old new drop_note_text (Text name ∷ [])
-drop_note_blamed name old new =
-    delete_blamed old new drop_note_text (Text name ∷ []) 6 (noted_table 11) drop_note_terms drop_note_is drop_note_plain drop_note_whole refl (inr (inr (inr (inr (inr (inr (inl refl))))))) (λ db. refl) (λ db has no. true≢false (rw has at no))
-
-pub drop_note_grown : (name : List ℕ) (old new : State) (count : ℕ) → IsStore old.now → Executes drop_note_text (Text name ∷ []) old new (Ok count) → AreGrown 0 old.now.trees new.now.trees
-drop_note_grown name old new count kept h =
-    delete_grown old new drop_note_text (Text name ∷ []) 6 (noted_table 11) drop_note_terms count kept.schema drop_note_is drop_note_plain refl refl kept.numbered.1.1.1.1.1.1.0 h
+  pub drop_note : (name : List ℕ) → TakesRows g drop_note_text (Text name ∷ []) 11 (λ v. record v { noted = without_key name_cmp (without_case name) v.noted })
+  drop_note name = takes g tables.noted _ drop_note_text (Text name ∷ []) (λ k. eq_by_cmp name_cmp (without_case name) k) drop_note_means (λ db has no. true≢false (rw has at no)) (λ r h. last_term (turned_case _ _ _ _ h.name refl))

@@ -15,7 +15,7 @@ use Rattle.ft_rows.specs.Store.{StoreValue, Change, list_key_cmp, all_applied}
 use Rattle.ft_store.specs.Rows.{value_of}
 use Rattle.ft_rows.specs.Changes.{shown_change, CanApply}
 use Rattle.ft_store.specs.Calls.{IsStore, Steps, Goes}
-use Rattle.ft_store.specs.Groups.{Entry, entry_values, with_entries, entry_put, PutsList}
+use Rattle.ft_store.specs.Groups.{PackedList, entry_values, with_lists, entry_put, PutsList}
 use Rattle.ft_store.proofs.Texts.{add_lists_text}
 use Rattle.ft_store.proofs.WriteLemmas.{does_add_eight}
 use Rattle.ft_store.proofs.PutLemmas.{packed_back}
@@ -26,8 +26,8 @@ first_of : {X : Type 0} (n : ℕ) (xs : List X) → length xs ≡ suc n → (x :
 first_of n [] len = absurd (omega (arith, len))
 first_of n (x ∷ xs) len = (x, xs, refl, omega (arith, len))
 
-pub all_eight : (es : List Entry) → length es ≡ 8
-    → (a : Entry) × (b : Entry) × (c : Entry) × (d : Entry) × (e : Entry) × (f : Entry) × (g : Entry) × (h : Entry) × (es ≡ a ∷ b ∷ c ∷ d ∷ e ∷ f ∷ g ∷ h ∷ [])
+pub all_eight : (es : List PackedList) → length es ≡ 8
+    → (a : PackedList) × (b : PackedList) × (c : PackedList) × (d : PackedList) × (e : PackedList) × (f : PackedList) × (g : PackedList) × (h : PackedList) × (es ≡ a ∷ b ∷ c ∷ d ∷ e ∷ f ∷ g ∷ h ∷ [])
 all_eight es len =
     let a = first_of 7 es len in
     let b = first_of 6 a.1 a.3 in
@@ -48,11 +48,11 @@ all_eight es len =
       a.2 ∙ ap (λ l. a.0 ∷ l) (b.2 ∙ ap (λ l. b.0 ∷ l) (c.2 ∙ ap (λ l. c.0 ∷ l) (d.2 ∙ ap (λ l. d.0 ∷ l) (e.2 ∙ ap (λ l. e.0 ∷ l) (f.2 ∙ ap (λ l. f.0 ∷ l) (g.2 ∙ ap (λ l. g.0 ∷ l) (h.2 ∙ ap (λ l. h.0 ∷ l) (nil_from_length h.1 h.3)))))))),
     )
 
-does_add_lists : (old new : State) → IsStore old.now → Shows old new new.now old.committed true → (es : List Entry) → length es ≡ 8 → (values : Row) → values ≡ flat_map entry_values es
-    → (count : ℕ) → Executes add_lists_text values old new (Ok count) → Steps old new (with_entries es (value_of old.now.trees))
+does_add_lists : (old new : State) → IsStore old.now → Shows old new new.now old.committed true → (es : List PackedList) → length es ≡ 8 → (values : Row) → values ≡ flat_map entry_values es
+    → (count : ℕ) → Executes add_lists_text values old new (Ok count) → Steps old new (with_lists es (value_of old.now.trees))
 does_add_lists old new kept shown es len values is count ran =
     let e = all_eight es len in
-    subst (λ l. Steps old new (with_entries l (value_of old.now.trees))) (sym e.8)
+    subst (λ l. Steps old new (with_lists l (value_of old.now.trees))) (sym e.8)
     (does_add_eight old new kept shown e.0 e.1 e.2 e.3 e.4 e.5 e.6 e.7 count (subst (λ l. Executes add_lists_text l old new (Ok count)) (is ∙ ap (flat_map entry_values) e.8) ran))
 
 -- ---- what steps make
@@ -79,28 +79,28 @@ goes_then a b c v f one two = record {
 }
 
 -- the statement that adds eight lists
-pub adds_eight : (old new : State) (es : List Entry) (values : Row) (added : Bool) → length es ≡ 8 → values ≡ flat_map entry_values es → IsTrue old.in_transaction → (IsTrue old.is_open → IsStore old.now)
-    → MatchBool added ((count : ℕ) × ExecutesInside 0 add_lists_text values old new (Ok count)) (IsUnchanged old new) → Goes old new (if added then with_entries es (value_of old.now.trees) else value_of old.now.trees)
+pub adds_eight : (old new : State) (es : List PackedList) (values : Row) (added : Bool) → length es ≡ 8 → values ≡ flat_map entry_values es → IsTrue old.in_transaction → (IsTrue old.is_open → IsStore old.now)
+    → MatchBool added ((count : ℕ) × ExecutesInside 0 add_lists_text values old new (Ok count)) (IsUnchanged old new) → Goes old new (if added then with_lists es (value_of old.now.trees) else value_of old.now.trees)
 adds_eight old new es values true len is inside kept ran = goes_of old new _ (does_add_lists old new (kept ran.1.1.was_open) ran.1.1 es len values is ran.0 ran.1.0)
 adds_eight old new es values false len is inside kept same = goes_nowhere old new same inside kept
 
 -- ---- changes that put lists
 
-each_puts : (changes : List RowChange) → All PutsList changes → (v : StoreValue) → with_entries (map entry_put changes) v ≡ all_applied (map shown_change changes) v
+each_puts : (changes : List RowChange) → All PutsList changes → (v : StoreValue) → with_lists (map entry_put changes) v ≡ all_applied (map shown_change changes) v
 each_puts [] all v = refl
 each_puts (change ∷ changes) all v = go change (all 0 change (omega arith)) (each_puts changes (λ i d low. all (suc i) d (omega (arith, low))))
   where
-    go : (c : RowChange) → PutsList c → ((w : StoreValue) → with_entries (map entry_put changes) w ≡ all_applied (map shown_change changes) w)
-        → with_entries (map entry_put (c ∷ changes)) v ≡ all_applied (map shown_change (c ∷ changes)) v
+    go : (c : RowChange) → PutsList c → ((w : StoreValue) → with_lists (map entry_put changes) w ≡ all_applied (map shown_change changes) w)
+        → with_lists (map entry_put (c ∷ changes)) v ≡ all_applied (map shown_change (c ∷ changes)) v
     go (row.PutEntries tab term docid spots) can more =
-        ap (λ l. with_entries (map entry_put changes) (record v { lists = put list_key_cmp (entry_put (row.PutEntries tab term docid spots)).0 l v.lists })) (packed_back spots.items can) ∙ more _
+        ap (λ l. with_lists (map entry_put changes) (record v { lists = put list_key_cmp (entry_put (row.PutEntries tab term docid spots)).0 l v.lists })) (packed_back spots.items can) ∙ more _
     go _ can more = absurd can
 
 can_put : (c : RowChange) → PutsList c → CanApply c
 can_put (row.PutEntries tab term docid spots) can = can
 can_put _ can = absurd can
 
-pub adds_all : (old new : State) (changes : List RowChange) (added : Bool) → All PutsList changes → Goes old new (if added then with_entries (map entry_put changes) (value_of old.now.trees) else value_of old.now.trees)
+pub adds_all : (old new : State) (changes : List RowChange) (added : Bool) → All PutsList changes → Goes old new (if added then with_lists (map entry_put changes) (value_of old.now.trees) else value_of old.now.trees)
     → Goes old new (if added then all_applied (map shown_change changes) (value_of old.now.trees) else value_of old.now.trees)
 adds_all old new changes true all goes = subst (Goes old new) (each_puts changes all _) goes
 adds_all old new changes false all goes = goes

@@ -34,7 +34,6 @@ use Rattle.sqlite.specs.declared.error.Error.TheVariants.{SqliteFailure}
 use Rattle.sqlite.specs.declared.error.ErrorCode.TheVariants as code
 use Rattle.ft_store.specs.Blame.{IsBlamed}
 use Rattle.sqlite.specs.declared.error.Error.{Error}
-use Rattle.sqlite_schema.specs.declared.schema.Column.{Column}
 use Rattle.sqlite_schema.specs.declared.schema.Constraint.TheVariants.{Datatype, NotNull, Check, PrimaryKey, Unique, ForeignKey}
 use Rattle.sqlite_schema.specs.declared.schema.Keys.TheVariants.{Enforced}
 use Rattle.sqlite_schema.specs.Rules.{agree, clashes, differ, passes}
@@ -51,7 +50,8 @@ use Rattle.sqlite_rules.proofs.ListLemmas.{some_has, all_has}
 use Rattle.sqlite_rules.proofs.TableLemmas.{put_has, put_all_has, put_all_keeps, put_all_adds}
 use Rattle.sqlite_catalog.specs.Listing.{IsSound}
 use Rattle.sqlite_typed.proofs.TestLemmas.{at_ints}
-use Rattle.ft_store.specs.Tables.{store_schema, a_table}
+use Rattle.ft_store.specs.Tables.{store_schema}
+use Rattle.ft_store.proofs.ChangeLemmas.{bare_table}
 use Rattle.ft_store.specs.Calls.{IsStore, HasOwnRowids}
 use Rattle.ft_store.specs.Puts.{IsFull}
 use Rattle.ft_store.proofs.KeyedLemmas.{some_first}
@@ -82,9 +82,9 @@ pub never_bad : (adds : Bool) → ((not adds || true) && true) ≡ false → ⊥
 never_bad true h = true≢false h
 never_bad false h = true≢false h
 
-module _ (tree : ℕ) (name : List ℕ) (columns : List Column) (key : Option ℕ) (primary : List ℕ) (uniques : List (List ℕ)) (orders : List Order) (checks : List Term) where
+module _ (a : Table) where
   abbrev the_table : Table
-  the_table = a_table tree name columns key primary uniques orders checks
+  the_table = bare_table a
 
   told_by : (e : Error) (stop : Option Error) (why : Option Refusal) (reason : Refusal) → (stop ≡ None) ⊎ (stop ≡ Some e) → stop ≡ option_map edit_error why → ◌≡◌ {A = End} (Err why) (Err (Some reason)) → e ≡ edit_error reason
   told_by e stop why reason (inl none) is same = absurd cc
@@ -163,29 +163,29 @@ module _ (tree : ℕ) (name : List ℕ) (columns : List Column) (key : Option �
 
   -- the rows are put beside those that are there
   module _ (listed : Has store_schema.tables the_table) (db : Trees) (news : List Row) where
-    here : (es : List Row) → with_tree db tree es tree ≡ es
-    here es = rw (eq-eqb tree tree refl) refl
+    here : (es : List Row) → with_tree db a.tree es a.tree ≡ es
+    here es = rw (eq-eqb a.tree a.tree refl) refl
 
-    pub turned : are_fresh (db tree) news ≡ true → Turns store_schema db (with_tree db tree (put_all (db tree) news)) the_table (db tree) [] news
+    pub turned : are_fresh (db a.tree) news ≡ true → Turns store_schema db (with_tree db a.tree (put_all (db a.tree) news)) the_table (db a.tree) [] news
     turned fresh = record {
       apart = apart;
       listed = listed;
-      others = λ t known other. rw (ne_eqb t.tree tree other) refl;
-      from = λ r h. put_all_has news (db tree) r (subst (λ l. Has l r) (here _) h);
-      stays = λ r h. subst (λ l. Has l r) (sym (here _)) (put_all_keeps news (db tree) r fresh h);
-      added = λ r h. subst (λ l. Has l r) (sym (here _)) (put_all_adds news (db tree) r fresh h);
+      others = λ t known other. rw (ne_eqb t.tree a.tree other) refl;
+      from = λ r h. put_all_has news (db a.tree) r (subst (λ l. Has l r) (here _) h);
+      stays = λ r h. subst (λ l. Has l r) (sym (here _)) (put_all_keeps news (db a.tree) r fresh h);
+      added = λ r h. subst (λ l. Has l r) (sym (here _)) (put_all_adds news (db a.tree) r fresh h);
       was = λ r h. h;
       split = λ r h. inl h;
     }
 
   -- ---- which rules the rows break
 
-  module _ (listed : Has store_schema.tables the_table) (db : Trees) (sound : IsSound store_schema db) (own : HasOwnRowids (db tree)) (sources : List Row) (bare : AllByRecursion IsUnnumbered sources) where
+  module _ (listed : Has store_schema.tables the_table) (db : Trees) (sound : IsSound store_schema db) (own : HasOwnRowids (db a.tree)) (sources : List Row) (bare : AllByRecursion IsUnnumbered sources) where
     abbrev pub news : List Row
-    news = numbered Chosen (db tree) sources
+    news = numbered Chosen (db a.tree) sources
 
     abbrev pub next : Trees
-    next = with_tree db tree (put_all (db tree) news)
+    next = with_tree db a.tree (put_all (db a.tree) news)
 
     int_each : (es : List Row) → AllByRecursion IsInt es → have_rowids es ≡ true
     int_each [] all = refl
@@ -193,23 +193,23 @@ module _ (tree : ℕ) (name : List ℕ) (columns : List Column) (key : Option �
 
     module _ (typed : list_all (passes Datatype store_schema db the_table) news ≡ true) (present : list_all (passes NotNull store_schema db the_table) news ≡ true) (checked : list_all (passes Check store_schema db the_table) news ≡ true) where
       -- the table is full, or a key comes twice
-      pub refused_why : (why : Refusal) → IsRefused store_schema Enforced db (put_in the_table db sources) why → IsFull (length sources) (db tree) ⊎ ((why ≡ Violates Unique) × (are_unique store_schema.indexes next the_table news ≡ false))
+      pub refused_why : (why : Refusal) → IsRefused store_schema Enforced db (put_in the_table db sources) why → IsFull (length sources) (db a.tree) ⊎ ((why ≡ Violates Unique) × (are_unique store_schema.indexes next the_table news ≡ false))
       refused_why (Violates Datatype) h = absurd (both_ways _ h typed)
       refused_why (Violates NotNull) h = absurd (both_ways _ h present)
       refused_why (Violates Check) h = absurd (both_ways _ h checked)
-      refused_why (Violates PrimaryKey) h = inl (stale_full sources (db tree) own.1 bare h)
-      refused_why (Violates Unique) h = by_fresh (are_fresh (db tree) news) refl
+      refused_why (Violates PrimaryKey) h = inl (stale_full sources (db a.tree) own.1 bare h)
+      refused_why (Violates Unique) h = by_fresh (are_fresh (db a.tree) news) refl
         where
-          by_unique : are_fresh (db tree) news ≡ true → (b : Bool) → are_unique store_schema.indexes next the_table news ≡ b → IsFull (length sources) (db tree) ⊎ ((Violates Unique ≡ Violates Unique) × (are_unique store_schema.indexes next the_table news ≡ false))
+          by_unique : are_fresh (db a.tree) news ≡ true → (b : Bool) → are_unique store_schema.indexes next the_table news ≡ b → IsFull (length sources) (db a.tree) ⊎ ((Violates Unique ≡ Violates Unique) × (are_unique store_schema.indexes next the_table news ≡ false))
           by_unique fresh true is = absurd (h (unique_kept store_schema db next the_table _ _ news (turned listed db news fresh) is (sound.obeys.rules Unique)))
           by_unique fresh false is = inr (refl, is)
 
-          by_fresh : (b : Bool) → are_fresh (db tree) news ≡ b → IsFull (length sources) (db tree) ⊎ ((Violates Unique ≡ Violates Unique) × (are_unique store_schema.indexes next the_table news ≡ false))
+          by_fresh : (b : Bool) → are_fresh (db a.tree) news ≡ b → IsFull (length sources) (db a.tree) ⊎ ((Violates Unique ≡ Violates Unique) × (are_unique store_schema.indexes next the_table news ≡ false))
           by_fresh true is = by_unique is (are_unique store_schema.indexes next the_table news) refl
-          by_fresh false is = inl (stale_full sources (db tree) own.1 bare is)
+          by_fresh false is = inl (stale_full sources (db a.tree) own.1 bare is)
       refused_why (Violates ForeignKey) h = absurd h
-      refused_why Mismatch h = absurd (both_ways _ h (int_each news (numbered_ints sources (db tree) bare)))
-      refused_why NoRowid h = inl (unfit_full sources (db tree) own.1 bare h)
+      refused_why Mismatch h = absurd (both_ways _ h (int_each news (numbered_ints sources (db a.tree) bare)))
+      refused_why NoRowid h = inl (unfit_full sources (db a.tree) own.1 bare h)
       refused_why BadReference h = absurd (never_bad (nat_lt 0 (length news)) h)
       refused_why TooDeep h = absurd h
 

@@ -1,19 +1,32 @@
 -- Calls in one transaction, one after the other.
-use Rattle.std.proofs.Common.{◌∙◌, Result, Ok, arith, inl}
+use Rattle.std.proofs.Common.{◌≡◌, ◌⊎◌, ◌+◌, ◌∙◌, ℕ, List, IsTrue, Result, Ok, Err, arith, inl, inr, refl, sym, subst, ◌<◌, ℤ, pos, map, take, length, get_or}
+use Rattle.std.specs.Prelude.{OnOk, String, string_bytes}
+use Rattle.sqlite.specs.Tree.{Trees}
+use Rattle.ft_store.specs.declared.fault.StoreFault.TheVariants as fault
+use Rattle.ft_store.specs.Rows.{value_of}
+use Rattle.ft_store.specs.Puts.{AreGrown, IsFull, IsTooBig, KeepsRest, KeepsRestOnOk}
+use Rattle.ft_store.specs.Changes.{ReplacesRow, Changes, ChangesIfOpen, Drops}
+use Rattle.ft_store.proofs.RiseLemmas.{trees_same, trees_then}
 use Rattle.std.proofs.lemmas.Result.{IfErr-weaker, on_ok_weaker}
 use Rattle.std.specs.Borrow.{MutBor}
 use Rattle.sqlite.specs.Store.{Ghosts}
 use Rattle.sqlite.specs.Held.{Held, state}
-use Rattle.sqlite.specs.State.{HasCleanDisk}
+use Rattle.sqlite.specs.State.{State, HasCleanDisk, Survives, ExecutesInside}
 use Rattle.sqlite.proofs.StateLemmas.{survives_then}
 use Rattle.ft_store.specs.declared.fault.StoreFault.{StoreFault}
-use Rattle.ft_store.specs.Calls.{StaysInside, StaysUncommitted, IsChangeFault, IsPlainFault}
-use Rattle.ft_store.specs.Blame.{BlamesOutside}
-use Rattle.ft_store.specs.Inside.{StepsInside}
-use Rattle.ft_rows.specs.Store.{StoreValue}
+use Rattle.ft_store.specs.Calls.{IsStore, Steps, StaysInside, StaysUncommitted, IsChangeFault, IsPlainFault}
+use Rattle.ft_store.specs.Blame.{IsBlamed, RefusesRun, BlamesOutside}
+use Rattle.ft_store.specs.Inside.{DoneInside, RunsOnOk}
+use Rattle.ft_store.proofs.GoneLemmas.{rest_then}
+use Rattle.sqlite.specs.Order.{Row}
+use Rattle.ft_rows.specs.Store.{StoreValue, column_key_cmp, with_columns, with_skipped}
 use Rattle.ft_store.proofs.BlameLemmas.{blamed_then}
-use Rattle.ft_store.proofs.CallLemmas.{keeps_then}
-use Rattle.ft_store.proofs.PutLemmas.{then_step}
+use Rattle.ft_store.proofs.CallLemmas.{keeps_same, keeps_then}
+use Rattle.ft_store.proofs.PutLemmas.{then_step, no_step, column_more, skip_more}
+use Rattle.ft_store.proofs.CantLemmas.{take_one}
+use Rattle.std.specs.List.{enumerate_from}
+use Rattle.std.specs.declared.alloc.Global.{Global}
+use Rattle.std.specs.FinMap.Entries.{put}
 
 pub stays_then : {S X Y : Type 0} (g : Ghosts S) (IsFault : StoreFault → Type 0) (a b c : MutBor (Held S)) (one : Result X StoreFault) (two : Result Y StoreFault) → StaysInside g a b one IsFault → StaysInside g b c two IsFault → StaysInside g a c two IsFault
 stays_then g IsFault a b c one two first second = record {
@@ -27,18 +40,171 @@ stays_then g IsFault a b c one two first second = record {
 pub changed_only : {S X : Type 0} (g : Ghosts S) (a b : MutBor (Held S)) (result : Result X StoreFault) (CanBeMade : Type 0) → StaysUncommitted g a b result → StaysInside g a b result (IsChangeFault CanBeMade)
 changed_only g a b result CanBeMade it = record { same_reference = it.same_reference; kept = it.kept; survives = it.survives; fault = IfErr-weaker result _ _ (λ e plain. inl plain) it.fault }
 
+-- a function that gives up made nothing
+pub gives_up : {S : Type 0} (g : Ghosts S) (a b : MutBor (Held S)) (one two : Result (Unit {0}) StoreFault) (e : StoreFault) (f h : StoreValue → StoreValue) (n k : ℕ) (One Why : Trees → Type 0) → one ≡ Err e → two ≡ Err e → Changes g a b one f n One
+    → ((db : Trees) → One db → Why db) → Changes g a b two h k Why
+gives_up g a b one two e f h n k One Why is same it why = subst (λ r. Changes g a b r h k Why) (sym same) (record {
+  done = record { steps = λ clean inside kept. tt; stays = subst (λ r. StaysUncommitted g a b r) is it.done.stays };
+  grown = λ clean inside kept. tt;
+  refused = λ clean inside kept told. elim (it.refused clean inside kept (is ∙ told)) [ inl blamed ↦ inl blamed | inr one ↦ inr (why _ one) ];
+})
+
+pub stops : {S : Type 0} (g : Ghosts S) (a b : MutBor (Held S)) (one two : Result (Unit {0}) StoreFault) (e : StoreFault) (f h : StoreValue → StoreValue) (n k : ℕ) (Why : Trees → Type 0) → one ≡ Err e → two ≡ Err e → ChangesIfOpen g a b one f n Why
+    → ChangesIfOpen g a b two h k Why
+stops g a b one two e f h n k Why is same it = subst (λ r. ChangesIfOpen g a b r h k Why) (sym same) (record {
+  done = record { steps = λ clean inside is_open store. tt; stays = subst (λ r. StaysUncommitted g a b r) is it.done.stays };
+  grown = λ clean inside is_open store. tt;
+  refused = λ clean inside is_open store told. it.refused clean inside is_open store (is ∙ told);
+})
+
+-- a value that is the same
+pub becomes : {S : Type 0} (g : Ghosts S) (a b : MutBor (Held S)) (result : Result (Unit {0}) StoreFault) (f h : StoreValue → StoreValue) (n : ℕ) (Why : Trees → Type 0) → ChangesIfOpen g a b result f n Why → ((v : StoreValue) → f v ≡ h v) → ChangesIfOpen g a b result h n Why
+becomes g a b result f h n Why it same = subst (λ (l : StoreValue → StoreValue). ChangesIfOpen g a b result l n Why) (λ i v. same v i) it
+
+-- rows that are taken out have no reason of their own to be refused
+pub only : {S : Type 0} (g : Ghosts S) (a b : MutBor (Held S)) (result : Result (Unit {0}) StoreFault) (f : StoreValue → StoreValue) → Drops g a b result f → BlamesOutside g a.now b.now result
+only g a b result f it clean inside kept is = elim (it.refused clean inside kept is) [ inl blamed ↦ blamed | inr none ↦ absurd none ]
+
+-- a reason is weaker
+pub for_reasons : {S : Type 0} (g : Ghosts S) (a b : MutBor (Held S)) (result : Result (Unit {0}) StoreFault) (f : StoreValue → StoreValue) (n : ℕ) (One Why : Trees → Type 0) → Changes g a b result f n One
+    → ((db : Trees) → One db → Why db) → Changes g a b result f n Why
+for_reasons g a b result f n One Why it why = record {
+  done = it.done;
+  grown = it.grown;
+  refused = λ clean inside kept same. elim (it.refused clean inside kept same) [ inl blamed ↦ inl blamed | inr one ↦ inr (why _ one) ];
+}
+
+-- what is done in a store is done in an open one
+pub if_open : {S : Type 0} (g : Ghosts S) (a b : MutBor (Held S)) (result : Result (Unit {0}) StoreFault) (f : StoreValue → StoreValue) (n : ℕ) (Why : Trees → Type 0) → Changes g a b result f n Why → ChangesIfOpen g a b result f n Why
+if_open g a b result f n Why it = record {
+  done = record { steps = λ clean inside is_open store. it.done.steps clean inside (λ _. store); stays = it.done.stays };
+  grown = λ clean inside is_open store. it.grown clean inside (λ _. store);
+  refused = λ clean inside is_open store. it.refused clean inside (λ _. store);
+}
+
+-- one that goes on had no reason to stop
+pub open_on : {S : Type 0} (g : Ghosts S) (a b : MutBor (Held S)) (f : StoreValue → StoreValue) (n : ℕ) (One : Trees → Type 0) → ChangesIfOpen g a b (Ok tt) f n One → ChangesIfOpen g a b (Ok tt) f n (λ _. ⊥)
+open_on g a b f n One it = record { done = it.done; grown = it.grown; refused = λ clean inside is_open store is. absurd (let no = is in cc) }
+
+pub went_on : {S : Type 0} (g : Ghosts S) (a b : MutBor (Held S)) (f : StoreValue → StoreValue) (n : ℕ) (One : Trees → Type 0) → Changes g a b (Ok tt) f n One → ChangesIfOpen g a b (Ok tt) f n (λ _. ⊥)
+went_on g a b f n One it = open_on g a b f n One (if_open g a b (Ok tt) f n One it)
+
+-- nothing is done yet
+pub nothing_done : {S : Type 0} (g : Ghosts S) (a : MutBor (Held S)) → ChangesIfOpen g a a (Ok tt) (λ v. v) 0 (λ _. ⊥)
+nothing_done g a = record {
+  done = record {
+    steps = λ clean inside is_open store. no_step (state g a.now) inside is_open store;
+    stays = record {
+      same_reference = refl;
+      kept = λ clean. keeps_same (state g a.now);
+      survives = record { clean = omega arith; shield = λ h. h; counts = omega arith; limit = refl; closes = λ clean h. inl h; crash = λ clean db h. inl h };
+      fault = tt;
+    };
+  };
+  grown = λ clean inside is_open store. trees_same 0 (state g a.now).now.trees (state g a.now).now.trees refl;
+  refused = λ clean inside is_open store is. absurd (let no = is in cc);
+}
+
 -- one step of a transaction after the other
-module _ {S : Type 0} (g : Ghosts S) (a b c : MutBor (Held S)) (two : Result (Unit {0}) StoreFault) (f h : StoreValue → StoreValue) (first : StepsInside g a b (Ok tt) f) (second : StepsInside g b c two h) where
-  pub inside_then : StepsInside g a c two (λ v. h (f v))
-  inside_then = record {
-    steps = λ clean inside kept.
-        let one = first.steps (omega (arith, second.stays.survives.clean)) inside kept in
-        on_ok_weaker two (λ next. then_step (state g a.now) (state g b.now) (state g c.now) _ h one next) (second.steps clean one.shown.mode (λ is_open. one.store));
-    stays = stays_then g IsPlainFault a b c (Ok tt) two first.stays second.stays;
+module _ {S : Type 0} (g : Ghosts S) (a b c : MutBor (Held S)) (two : Result (Unit {0}) StoreFault) (f h : StoreValue → StoreValue) (n m k : ℕ) (One Two Why : Trees → Type 0) (second : ChangesIfOpen g b c two h m Two) (sum : n + m ≡ k)
+    (why : Steps (state g a.now) (state g b.now) (f (value_of (state g a.now).now.trees)) → AreGrown n (state g a.now).now.trees (state g b.now).now.trees → Two (state g b.now).now.trees → Why (state g a.now).now.trees) where
+  was_clean : HasCleanDisk (state g c.now) → HasCleanDisk (state g b.now)
+  was_clean clean = omega (arith, second.done.stays.survives.clean, clean)
+
+  abbrev First : Type 0
+  First = Steps (state g a.now) (state g b.now) (f (value_of (state g a.now).now.trees))
+
+  steps_on : HasCleanDisk (state g c.now) → First → OnOk two (Steps (state g a.now) (state g c.now) (h (f (value_of (state g a.now).now.trees))))
+  steps_on clean one = on_ok_weaker two (λ next. then_step (state g a.now) (state g b.now) (state g c.now) _ h one next) (second.done.steps clean one.shown.mode one.shown.is_open one.store)
+
+  grows_on : HasCleanDisk (state g c.now) → First → AreGrown n (state g a.now).now.trees (state g b.now).now.trees → OnOk two (AreGrown k (state g a.now).now.trees (state g c.now).now.trees)
+  grows_on clean one grown =
+      on_ok_weaker two (λ more. subst (λ l. AreGrown l (state g a.now).now.trees (state g c.now).now.trees) sum (trees_then n m (state g a.now).now.trees (state g b.now).now.trees (state g c.now).now.trees grown more))
+      (second.grown clean one.shown.mode one.shown.is_open one.store)
+
+  blames_on : Survives (state g a.now) (state g b.now) (λ _. ⊥) → HasCleanDisk (state g c.now) → First → AreGrown n (state g a.now).now.trees (state g b.now).now.trees → two ≡ Err fault.Refused
+      → IsBlamed (state g a.now) (state g c.now) ⊎ Why (state g a.now).now.trees
+  blames_on past clean one grown is = elim (second.refused clean one.shown.mode one.shown.is_open one.store is) [
+    | inl blamed ↦ inl (blamed_then (state g a.now) (state g b.now) (state g c.now) _ _ (was_clean clean) past second.done.stays.survives blamed)
+    | inr other ↦ inr (why one grown other)
+  ]
+
+  pub changes_then : Changes g a b (Ok tt) f n One → Changes g a c two (λ v. h (f v)) k Why
+  changes_then first = record {
+    done = record {
+      steps = λ clean inside kept. steps_on clean (first.done.steps (was_clean clean) inside kept);
+      stays = stays_then g IsPlainFault a b c (Ok tt) two first.done.stays second.done.stays;
+    };
+    grown = λ clean inside kept. grows_on clean (first.done.steps (was_clean clean) inside kept) (first.grown (was_clean clean) inside kept);
+    refused = λ clean inside kept. blames_on first.done.stays.survives clean (first.done.steps (was_clean clean) inside kept) (first.grown (was_clean clean) inside kept);
   }
 
-  pub blames_then : BlamesOutside g b.now c.now two → BlamesOutside g a.now c.now two
-  blames_then blamed clean inside kept is =
-      let clean_mid : HasCleanDisk (state g b.now) = omega (arith, second.stays.survives.clean, clean) in
-      let one = first.steps clean_mid inside kept in
-      blamed_then (state g a.now) (state g b.now) (state g c.now) _ _ clean_mid first.stays.survives second.stays.survives (blamed clean one.shown.mode (λ is_open. one.store) is)
+  pub open_then : ChangesIfOpen g a b (Ok tt) f n One → ChangesIfOpen g a c two (λ v. h (f v)) k Why
+  open_then first = record {
+    done = record {
+      steps = λ clean inside is_open store. steps_on clean (first.done.steps (was_clean clean) inside is_open store);
+      stays = stays_then g IsPlainFault a b c (Ok tt) two first.done.stays second.done.stays;
+    };
+    grown = λ clean inside is_open store. grows_on clean (first.done.steps (was_clean clean) inside is_open store) (first.grown (was_clean clean) inside is_open store);
+    refused = λ clean inside is_open store. blames_on first.done.stays.survives clean (first.done.steps (was_clean clean) inside is_open store) (first.grown (was_clean clean) inside is_open store);
+  }
+
+-- one deletion after the other
+pub drops_then : {S : Type 0} (g : Ghosts S) (a b c : MutBor (Held S)) (two : Result (Unit {0}) StoreFault) (f h : StoreValue → StoreValue) → Drops g a b (Ok tt) f → Drops g b c two h → Drops g a c two (λ v. h (f v))
+drops_then g a b c two f h first second = changes_then g a b c two f h 0 0 0 (λ _. ⊥) (λ _. ⊥) (λ _. ⊥) (if_open g b c two h 0 (λ _. ⊥) second) refl (λ _ _ none. none) first
+
+-- a row that is replaced by two statements
+module _ {S : Type 0} (g : Ghosts S) (a b c : MutBor (Held S)) (two : Result (Unit {0}) StoreFault) (drop add : List ℕ) (key row : Row) (tree : ℕ) (f : StoreValue → StoreValue) (values count : ℕ) (by : ReplacesRow g drop add key row tree f values count)
+    (first : DoneInside {X = Unit {0}} g a b (Ok tt) (RunsOnOk g a.now b.now (Ok tt) drop key)) (second : DoneInside g b c two (RunsOnOk g b.now c.now two add row)) where
+  abbrev old : State
+  old = state g a.now
+
+  abbrev new : State
+  new = state g c.now
+
+  mid_clean : HasCleanDisk new → HasCleanDisk (state g b.now)
+  mid_clean clean = omega (arith, second.stays.survives.clean, clean)
+
+  took : HasCleanDisk new → IsTrue old.in_transaction → (IsTrue old.is_open → IsStore old.now)
+      → Steps old (state g b.now) (by.gone (value_of old.now.trees)) × AreGrown 0 old.now.trees (state g b.now).now.trees × KeepsRest tree old.now.trees (state g b.now).now.trees
+  took clean inside kept = let ran = first.steps (mid_clean clean) inside in by.takes.done a.now b.now ran.0 (kept ran.1.1.was_open) ran.1
+
+  put_row : HasCleanDisk new → IsTrue old.in_transaction → (IsTrue old.is_open → IsStore old.now) → OnOk two (Steps old new (f (value_of old.now.trees)) × AreGrown 1 old.now.trees new.now.trees × KeepsRest tree old.now.trees new.now.trees)
+  put_row clean inside kept =
+      let gone = took clean inside kept in
+      on_ok_weaker two (λ (ran : (n : ℕ) × ExecutesInside 0 add row (state g b.now) new (Ok n)).
+      let put = by.adds a.now b.now c.now ran.0 gone.0 ran.1 in
+      (put.0, trees_then 0 1 old.now.trees (state g b.now).now.trees new.now.trees gone.1 put.1, rest_then tree old.now.trees (state g b.now).now.trees new.now.trees gone.2 put.2)) (second.steps clean gone.0.shown.mode)
+
+  pub rest_kept : KeepsRestOnOk g a.now c.now two tree
+  rest_kept clean inside kept = on_ok_weaker two (λ put. put.2) (put_row clean inside kept)
+
+  pub replaced : RefusesRun g b.now c.now two add row → Changes g a c two f 1 (λ db. IsFull 1 (db tree) ⊎ IsTooBig values count)
+  replaced refuses = record {
+    done = record { steps = λ clean inside kept. on_ok_weaker two (λ put. put.0) (put_row clean inside kept); stays = stays_then g IsPlainFault a b c (Ok tt) two first.stays second.stays };
+    grown = λ clean inside kept. on_ok_weaker two (λ put. put.1) (put_row clean inside kept);
+    refused = λ clean inside kept is.
+        let gone = took clean inside kept in
+        elim (by.refused a.now b.now c.now gone.0 gone.1 (refuses clean gone.0.shown.mode is)) [
+          | inl blamed ↦ inl (blamed_then old (state g b.now) new _ _ (mid_clean clean) first.stays.survives second.stays.survives blamed)
+          | inr other ↦ inr other
+        ];
+  }
+
+-- one column more
+pub columns_on : {S : Type 0} (g : Ghosts S) (a b c : MutBor (Held S)) (tab at : ℤ) (names : List (String Global)) (i : ℕ) (name : String Global) (One : Trees → Type 0) → i < length names → name ≡ get_or names i name
+    → ChangesIfOpen g a b (Ok tt) (λ v. record v { columns = with_columns tab (enumerate_from 0 (map string_bytes (take i names))) v.columns }) (length (take i names)) (λ _. ⊥)
+    → Changes g b c (Ok tt) (λ v. record v { columns = put column_key_cmp (tab, at) (string_bytes name) v.columns }) 1 One → at ≡ pos i
+    → ChangesIfOpen g a c (Ok tt) (λ v. record v { columns = with_columns tab (enumerate_from 0 (map string_bytes (take (i + 1) names))) v.columns }) (length (take (i + 1) names)) (λ _. ⊥)
+columns_on g a b c tab at names i name One inside is before step number =
+    becomes g a c (Ok tt) _ _ _ _ (open_then g a b c (Ok tt) _ _ (length (take i names)) 1 _ (λ _. ⊥) (λ _. ⊥) (λ _. ⊥) (went_on g b c _ 1 One step) (sym (take_one names i inside)) (λ _ _ none. none) before)
+    (λ v i_. record v { columns = column_more tab at names i name inside is number v.columns i_ })
+
+-- one column more that isn't indexed
+pub skips_on : {S : Type 0} (g : Ghosts S) (a b c : MutBor (Held S)) (tab x : ℤ) (skipped : List ℤ) (i : ℕ) (One : Trees → Type 0) → i < length skipped
+    → ChangesIfOpen g a b (Ok tt) (λ v. record v { skipped = with_skipped tab (take i skipped) v.skipped }) (length (take i skipped)) (λ _. ⊥)
+    → Changes g b c (Ok tt) (λ v. record v { skipped = put column_key_cmp (tab, x) tt v.skipped }) 1 One → x ≡ get_or skipped i (pos 0)
+    → ChangesIfOpen g a c (Ok tt) (λ v. record v { skipped = with_skipped tab (take (i + 1) skipped) v.skipped }) (length (take (i + 1) skipped)) (λ _. ⊥)
+skips_on g a b c tab x skipped i One inside before step is =
+    becomes g a c (Ok tt) _ _ _ _ (open_then g a b c (Ok tt) _ _ (length (take i skipped)) 1 _ (λ _. ⊥) (λ _. ⊥) (λ _. ⊥) (went_on g b c _ 1 One step) (sym (take_one skipped i inside)) (λ _ _ none. none) before)
+    (λ v i_. record v { skipped = skip_more tab x skipped i inside is v.skipped i_ })

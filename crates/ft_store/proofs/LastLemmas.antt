@@ -30,7 +30,8 @@ use Rattle.ft_store.specs.Rows.{keyed, cell_key, cell_entry, value_of}
 use Rattle.ft_rows.specs.Shown.{last_docid_of}
 use Rattle.ft_store.specs.Calls.{IsStore}
 use Rattle.ft_store.proofs.Texts.{last_text}
-use Rattle.ft_store.proofs.TextLemmas.{falling, last_query, last_is, last_plain, last_unlisted}
+use Rattle.ft_store.proofs.TextLemmas.{falling, last_query, last_means}
+use Rattle.ft_store.proofs.RiseLemmas.{ascending_push}
 use Rattle.ft_store.proofs.SortedLemmas.{sort_by-permutation, sort_by-rising, rises-sort_by}
 use Rattle.ft_store.proofs.SelectLemmas.{all_selected}
 use Rattle.ft_store.proofs.KeyedLemmas.{AreApart, at_value, keyed-map, whole_cmp, sorted-keyed, none_from, some_first, whole_total, whole_tie}
@@ -47,13 +48,9 @@ all-reverse : {X : Type 0} (P : X → Type 0) (xs : List X) → AllByRecursion P
 all-reverse P [] all = tt
 all-reverse P (x ∷ xs) all = subst (AllByRecursion P) (sym (reverse_onto xs x [])) (all-append P (reverse xs) (x ∷ []) (all-reverse P xs all.1) (all.0, tt))
 
-pub ascending-end : {X : Type 0} (R : X → X → Type 0) (xs : List X) (x : X) → IsAscending R xs → AllByRecursion (λ y. R y x) xs → IsAscending R (xs ++ x ∷ [])
-ascending-end R [] x up all = (tt, tt)
-ascending-end R (y ∷ ys) x up all = (all-append (R y) ys (x ∷ []) up.0 (all.0, tt), ascending-end R ys x up.1 all.1)
-
 ascending-reverse : {X : Type 0} (R : X → X → Type 0) (xs : List X) → IsAscending R xs → IsAscending (λ a b. R b a) (reverse xs)
 ascending-reverse R [] up = tt
-ascending-reverse R (x ∷ xs) up = subst (IsAscending (λ a b. R b a)) (sym (reverse_onto xs x [])) (ascending-end (λ a b. R b a) (reverse xs) x (ascending-reverse R xs up.1) (all-reverse (R x) xs up.0))
+ascending-reverse R (x ∷ xs) up = subst (IsAscending (λ a b. R b a)) (sym (reverse_onto xs x [])) (ascending_push (λ a b. R b a) (reverse xs) x (ascending-reverse R xs up.1) (all-reverse (R x) xs up.0))
 
 filter-end : {X : Type 0} (p : X → Bool) (xs : List X) (x : X) → filter p (xs ++ x ∷ []) ≡ filter p xs ++ filter p (x ∷ [])
 filter-end p [] x = refl
@@ -153,4 +150,4 @@ last_shown tab old new rows if_open h =
     let kept = if_open (shown_open _ _ old new rows h) in
     let sound = sound_of old kept in
     first_of tab rows _
-    (last_read tab (overlay old.now.trees []) (are_cells old.now.trees sound) (cells_apart old.now.trees sound kept.numbered.1.1.1.0) rows ((reads_as last_text (Int tab ∷ []) old new store_schema kept.schema _ last_is last_plain last_unlisted rows h).answer Null))
+    (last_read tab (overlay old.now.trees []) (are_cells old.now.trees sound) (cells_apart old.now.trees sound kept.numbered.1.1.1.0) rows ((reads_as last_text (Int tab ∷ []) old new store_schema kept.schema _ last_means.is last_means.plain last_means.unlisted rows h).answer Null))

@@ -48,6 +48,7 @@ pub mod ShownLemmas
 pub mod SortedLemmas
 pub mod StepLemmas
 pub mod StoredLemmas
+pub mod StoreTables
 pub mod StreamLemmas
 pub mod TableLemmas
 pub mod TextLemmas

@@ -17,7 +17,7 @@ use Rattle.sqlite_keyed.proofs.ListLemmas.{all_of}
 use Rattle.ft_store.specs.Tables.{store_schema}
 use Rattle.ft_store.specs.Calls.{IsStore}
 use Rattle.ft_store.specs.Blame.{IsBlamed}
-use Rattle.ft_store.specs.Anew.{LooksAt, Stands}
+use Rattle.ft_store.specs.Anew.{LooksAt, IsUntouched}
 use Rattle.ft_store.proofs.Texts.{blank_text}
 use Rattle.ft_store.proofs.ProbeTexts.{blank_is, blank_plain, blank_whole}
 use Rattle.ft_store.proofs.BlameLemmas.{fails_blamed, query_blamed}
@@ -110,8 +110,8 @@ is_inside false h = absurd (h refl)
 
 -- ---- reads one after another
 
-pub stands_then : (a b c : State) → Stands a b → Stands b c → Stands a c
+pub stands_then : (a b c : State) → IsUntouched a b → IsUntouched b c → IsUntouched a c
 stands_then a b c one two = record { now = two.now ∙ one.now; committed = two.committed ∙ one.committed; inside = two.inside; opened = λ o. one.opened (two.opened o) }
 
-pub stands_store : (a b : State) → Stands a b → (IsTrue a.is_open → IsStore a.now) → IsTrue b.is_open → IsStore b.now
+pub stands_store : (a b : State) → IsUntouched a b → (IsTrue a.is_open → IsStore a.now) → IsTrue b.is_open → IsStore b.now
 stands_store a b one store o = subst IsStore (sym one.now) (store (one.opened o))

@@ -25,7 +25,7 @@ use Rattle.sqlite_tied.specs.Compute.{everything}
 use lib.Utf8
 use Rattle.sqlite.specs.Listing.{understood}
 use Rattle.sqlite.specs.Effect.{Database, IsDatabase}
-use Rattle.sqlite.specs.State.{State, Shows, Writes, Executes, ExecutesInside, mode_of}
+use Rattle.sqlite.specs.State.{State, Shows, Writes, Executes, ExecutesInside, mode_of, HasCleanDisk}
 use Rattle.sqlite.proofs.Callers.{runs_as, IsPlain, command_of as command_at}
 use Rattle.sqlite.specs.Order.{Row, column}
 use Rattle.sqlite.specs.declared.types.Value.TheVariants.{Null, Int, Text}
@@ -33,31 +33,25 @@ use Rattle.sqlite_trees.specs.Tree.{put_row}
 use Rattle.sqlite.specs.Term.{Term, lit}
 use Rattle.sqlite.specs.Source.TheVariants.{Values}
 use Rattle.std.specs.Ordering.{int_cmp}
-use Rattle.ft_rows.specs.Store.{cell_key_cmp, list_key_cmp, column_key_cmp, name_cmp}
-use Rattle.ft_store.specs.Rows.{keyed, table_entry, column_entry, skip_entry, cell_entry, list_entry, size_entry, note_entry}
+use Rattle.ft_rows.specs.Store.{cell_key_cmp, list_key_cmp, column_key_cmp, name_cmp, nothing_held}
+use Rattle.ft_store.specs.Rows.{keyed, table_entry, column_entry, skip_entry, cell_entry, list_entry, size_entry, note_entry, value_of}
 use Rattle.ft_store.proofs.ChangeLemmas.{inserts, cast_null, cast_int}
 use Rattle.sqlite_keyed.proofs.ListLemmas.{all-append, all_both}
-use Rattle.ft_store.specs.Tables.{store_schema, meta_table, tab_table, col_table, cell_table, posting_table, sizes_table, noted_table, skip_table}
+use Rattle.ft_store.specs.Tables.{store_schema, meta_table, tab_table, col_table, cell_table, posting_table, sizes_table, noted_table, skip_table, no_schema}
 use Rattle.ft_store.proofs.Texts.{make_meta_text, make_tab_text, make_col_text, make_cell_text, make_posting_text, make_sizes_text, make_noted_text, make_skip_text, mark_text}
 use Rattle.ft_store.specs.Anew.{HasFirst}
-use Rattle.ft_store.specs.Made.{first_tables, IsAllowed, IsEmptyOf, IsUnmarked, Makes, MakesNext}
+use Rattle.ft_store.specs.Made.{first_tables, IsAllowed, IsEmptyOf, IsUnmarked, MakesTableOf, MakesNext}
 use Rattle.ft_store.proofs.StepLemmas.{shaped_after, same_rows}
 use Rattle.std.specs.Borrow.{MutBor}
 use Rattle.sqlite.specs.Store.{Ghosts}
 use Rattle.sqlite.specs.Held.{Held, state}
-use Rattle.sqlite.specs.State.{HasCleanDisk}
 use Rattle.ft_store.specs.declared.fault.StoreFault.{StoreFault}
-use Rattle.ft_store.specs.Calls.{IsPlainFault, StaysUncommitted}
+use Rattle.ft_store.specs.Calls.{IsPlainFault, StaysUncommitted, HasOwnRowids, IsStore}
 use Rattle.ft_store.specs.Inside.{MakesInside}
-use Rattle.ft_store.specs.Tables.{no_schema}
 use Rattle.ft_store.specs.Blame.{IsBlamed, BlamesIn}
 use Rattle.ft_store.proofs.BlameLemmas.{blamed_then}
-use Rattle.ft_store.proofs.CallLemmas.{keeps_same}
 use Rattle.ft_store.proofs.InsideLemmas.{stays_then}
 use Rattle.ft_store.proofs.RefusedLemmas.{write_refused_as}
-use Rattle.ft_store.specs.Calls.{HasOwnRowids, IsStore}
-use Rattle.ft_rows.specs.Store.{nothing_held}
-use Rattle.ft_store.specs.Rows.{value_of}
 
 went : {B E R : Type 0} {b : B} {Stops : E → Type 0} → ((stop : E) × Stops stop × (Ok b ≡ Err stop)) ⊎ R → R
 went (inl stopped) = absurd (let e = stopped.2 in cc)
@@ -73,7 +67,7 @@ pub record Creates (old now : Database) (tables : Schema) (table : Table) : Type
   pub empty : now.trees (next_tree tables) ≡ []
   pub sound : IsDatabase now
 
-pub creates : (old new : State) (text : List ℕ) (s : Schema) (table : Table) (count : ℕ) → Makes s text table → old.now.schema ≡ s → Executes text [] old new (Ok count) → Creates old.now new.now s table
+pub creates : (old new : State) (text : List ℕ) (s : Schema) (table : Table) (count : ℕ) → MakesTableOf s text table → old.now.schema ≡ s → Executes text [] old new (Ok count) → Creates old.now new.now s table
 creates old new text s table count made was h =
     let w = subst (λ t. Writes old new None CreateTable t [] count) made.whole (runs_as text [] old new s was CreateTable made.command made.plain count h) in
     let all = went w.changed in
@@ -92,7 +86,7 @@ creates old new text s table count made was h =
       sound = sound;
     }) w.sound
 
-pub makes : (old new : State) (text : List ℕ) (s : Schema) (table : Table) (count : ℕ) → Makes s text table → IsEmptyOf s old.now → Executes text [] old new (Ok count) → IsEmptyOf (created s table) new.now
+pub makes : (old new : State) (text : List ℕ) (s : Schema) (table : Table) (count : ℕ) → MakesTableOf s text table → IsEmptyOf s old.now → Executes text [] old new (Ok count) → IsEmptyOf (created s table) new.now
 makes old new text s table count made was h =
     let it = creates old new text s table count made was.schema h in
     let kept = all_both (λ t. new.now.trees t.tree ≡ old.now.trees t.tree) (λ t. old.now.trees t.tree ≡ []) (λ (t : Table). new.now.trees t.tree ≡ []) (λ t e f. e ∙ f) s.tables it.others was.empty in
@@ -103,7 +97,7 @@ makes old new text s table count made was h =
     }
 
 -- no test refuses the table
-never_refused : (s : Schema) (text : List ℕ) (table : Table) → Makes s text table → IsAllowed s text table → (why : alter.Refusal) → ¬ RefusesTable s text why
+never_refused : (s : Schema) (text : List ℕ) (table : Table) → MakesTableOf s text table → IsAllowed s text table → (why : alter.Refusal) → ¬ RefusesTable s text why
 never_refused s text table made allowed why = go why
   where
     same : (t : Table) → table_defined_by text ≡ Ok t → table ≡ t
@@ -123,14 +117,14 @@ never_refused s text table made allowed why = go why
         let narrow = all_has _ _ key (subst (λ t. AllByRecursion (λ key. index_reals (table_reals t) key < 2 ^ 64) t.uniques) (same t is) allowed.key_reals) listed in omega (arith, narrow, wide)
     go (cause.Violates rule) h = h
 
-never_stops : (s : Schema) (text : List ℕ) (table : Table) → Makes s text table → IsAllowed s text table → (db : Database) → db.schema ≡ s → (stop : Option Error) → ¬ MakesTable text db (Err stop)
+never_stops : (s : Schema) (text : List ℕ) (table : Table) → MakesTableOf s text table → IsAllowed s text table → (db : Database) → db.schema ≡ s → (stop : Option Error) → ¬ MakesTable text db (Err stop)
 never_stops s text table made allowed db has None (t, is, long) =
     let short = subst (λ t. 2 * length t.name + length text + 200 < 10 ^ 9) (same_value (sym made.defined ∙ is)) allowed.short in omega (arith, short, long)
 never_stops s text table made allowed db has (Some e) (inl no_text) = no_text.0 allowed.utf8.0
 never_stops s text table made allowed db has (Some e) (inr (why, refuses, is)) = never_refused s text table made allowed why (subst (λ d. RefusesTable d text why) has refuses)
 
 -- such a text is refused only by what lies outside the database
-pub create_blamed : (old new : State) (s : Schema) (text : List ℕ) (table : Table) → Makes s text table → IsAllowed s text table → (IsTrue old.is_open → old.now.schema ≡ s) → (e : Error) → e ≢ SqliteFailure code.OutOfMemory → ExecutesInside 0 text [] old new (Err e) → IsBlamed old new
+pub create_blamed : (old new : State) (s : Schema) (text : List ℕ) (table : Table) → MakesTableOf s text table → IsAllowed s text table → (IsTrue old.is_open → old.now.schema ≡ s) → (e : Error) → e ≢ SqliteFailure code.OutOfMemory → ExecutesInside 0 text [] old new (Err e) → IsBlamed old new
 create_blamed old new s text table made allowed kept e other ran = by_open old.is_open refl
   where
     stopped : old.now.schema ≡ s → (stop : Option Error) → ¬ Does old.step_limit (mode_of old) [] old.now text None CreateTable (Err stop)
@@ -151,7 +145,7 @@ create_blamed old new s text table made allowed kept e other ran = by_open old.i
 
 -- ---- the tables, one after the other
 
-makes_meta : Makes (first_tables 0) make_meta_text (meta_table 0)
+makes_meta : MakesTableOf (first_tables 0) make_meta_text (meta_table 0)
 unfolding understood everything Rattle.std.specs.Fmt.digits
 makes_meta = record { command = refl; plain = (refl, refl); whole = refl; defined = refl; uncounted = refl }
 
@@ -178,7 +172,7 @@ meta_next = refl
 pub next_meta : MakesNext 0 make_meta_text
 next_meta = record { table = meta_table 0; makes = makes_meta; allowed = allows_meta; next = meta_next }
 
-makes_tab : Makes (first_tables 1) make_tab_text (tab_table 0)
+makes_tab : MakesTableOf (first_tables 1) make_tab_text (tab_table 0)
 unfolding understood everything Rattle.std.specs.Fmt.digits
 makes_tab = record { command = refl; plain = (refl, refl); whole = refl; defined = refl; uncounted = refl }
 
@@ -205,7 +199,7 @@ tab_next = refl
 pub next_tab : MakesNext 1 make_tab_text
 next_tab = record { table = tab_table 0; makes = makes_tab; allowed = allows_tab; next = tab_next }
 
-makes_col : Makes (first_tables 2) make_col_text (col_table 0)
+makes_col : MakesTableOf (first_tables 2) make_col_text (col_table 0)
 unfolding understood everything Rattle.std.specs.Fmt.digits
 makes_col = record { command = refl; plain = (refl, refl); whole = refl; defined = refl; uncounted = refl }
 
@@ -232,7 +226,7 @@ col_next = refl
 pub next_col : MakesNext 2 make_col_text
 next_col = record { table = col_table 0; makes = makes_col; allowed = allows_col; next = col_next }
 
-makes_cell : Makes (first_tables 3) make_cell_text (cell_table 0)
+makes_cell : MakesTableOf (first_tables 3) make_cell_text (cell_table 0)
 unfolding understood everything Rattle.std.specs.Fmt.digits
 makes_cell = record { command = refl; plain = (refl, refl); whole = refl; defined = refl; uncounted = refl }
 
@@ -259,7 +253,7 @@ cell_next = refl
 pub next_cell : MakesNext 3 make_cell_text
 next_cell = record { table = cell_table 0; makes = makes_cell; allowed = allows_cell; next = cell_next }
 
-makes_posting : Makes (first_tables 4) make_posting_text (posting_table 0)
+makes_posting : MakesTableOf (first_tables 4) make_posting_text (posting_table 0)
 unfolding understood everything Rattle.std.specs.Fmt.digits
 makes_posting = record { command = refl; plain = (refl, refl); whole = refl; defined = refl; uncounted = refl }
 
@@ -286,7 +280,7 @@ posting_next = refl
 pub next_posting : MakesNext 4 make_posting_text
 next_posting = record { table = posting_table 0; makes = makes_posting; allowed = allows_posting; next = posting_next }
 
-makes_sizes : Makes (first_tables 5) make_sizes_text (sizes_table 0)
+makes_sizes : MakesTableOf (first_tables 5) make_sizes_text (sizes_table 0)
 unfolding understood everything Rattle.std.specs.Fmt.digits
 makes_sizes = record { command = refl; plain = (refl, refl); whole = refl; defined = refl; uncounted = refl }
 
@@ -313,7 +307,7 @@ sizes_next = refl
 pub next_sizes : MakesNext 5 make_sizes_text
 next_sizes = record { table = sizes_table 0; makes = makes_sizes; allowed = allows_sizes; next = sizes_next }
 
-makes_noted : Makes (first_tables 6) make_noted_text (noted_table 0)
+makes_noted : MakesTableOf (first_tables 6) make_noted_text (noted_table 0)
 unfolding understood everything Rattle.std.specs.Fmt.digits
 makes_noted = record { command = refl; plain = (refl, refl); whole = refl; defined = refl; uncounted = refl }
 
@@ -340,7 +334,7 @@ noted_next = refl
 pub next_noted : MakesNext 6 make_noted_text
 next_noted = record { table = noted_table 0; makes = makes_noted; allowed = allows_noted; next = noted_next }
 
-pub makes_skip : Makes (first_tables 7) make_skip_text (skip_table 0)
+pub makes_skip : MakesTableOf (first_tables 7) make_skip_text (skip_table 0)
 unfolding understood everything Rattle.std.specs.Fmt.digits
 makes_skip = record { command = refl; plain = (refl, refl); whole = refl; defined = refl; uncounted = refl }
 
@@ -392,7 +386,7 @@ mark_plain = (refl, refl)
 -- the tables of a store get their mark
 pub marks : (old new : State) (count : ℕ) → IsUnmarked old.now → Executes mark_text [] old new (Ok count) → IsStore new.now × (value_of new.now.trees ≡ value_of old.now.trees)
 marks old new count was h =
-    let made = inserts old new mark_text [] 0 0 _ _ _ _ _ _ _ mark_terms 3 marked_row count was.tabled.schema mark_is mark_plain refl (rw (cast_int (pos 1), cast_null, cast_int (pos 3)) refl) h in
+    let made = inserts old new mark_text [] 0 (meta_table 0) mark_terms 3 marked_row count was.tabled.schema mark_is mark_plain refl (rw (cast_int (pos 1), cast_null, cast_int (pos 3)) refl) h in
     let wrote = made.0 in
     let row : new.now.trees 0 ≡ marked_row ∷ [] = wrote.written ∙ ap (put_row marked_row) was.unmarked in
     let own : HasOwnRowids (new.now.trees 0) = subst HasOwnRowids (sym row) ((tt, tt), (refl, tt)) in (

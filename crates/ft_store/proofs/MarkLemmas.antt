@@ -6,13 +6,12 @@ use Rattle.std.proofs.lemmas.List.Elements.{All-from_recursion}
 use Rattle.std.specs.Float.{NotNan}
 use Rattle.sqlite.specs.Order.{Row}
 use Rattle.sqlite.specs.Tree.{Trees}
-use Rattle.sqlite.specs.Effect.{Database}
+use Rattle.sqlite.specs.Effect.{Database, value_rows}
 use Rattle.sqlite.specs.Listing.{understood}
 use Rattle.sqlite.specs.Command.TheVariants.{Insert}
 use Rattle.sqlite.specs.Source.TheVariants.{Values}
 use Rattle.sqlite.specs.Rows.{Task, Sourced, stamped}
 use Rattle.sqlite.specs.Does.{Does, OnRows, due}
-use Rattle.sqlite.specs.Effect.{value_rows}
 use Rattle.sqlite.specs.State.{State, ExecutesInside, mode_of}
 use Rattle.sqlite.specs.declared.error.Error.{Error}
 use Rattle.sqlite.specs.declared.error.Error.TheVariants.{SqliteFailure}

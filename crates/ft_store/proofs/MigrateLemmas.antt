@@ -5,33 +5,31 @@ use Rattle.std.specs.Ordering.{int_cmp}
 use Rattle.sqlite.specs.Order.{Row}
 use Rattle.sqlite.specs.Table.{Table}
 use Rattle.sqlite.specs.Term.{holds}
-use Rattle.sqlite.specs.Effect.{Database}
 use Rattle.sqlite.specs.Change.{created}
 use Rattle.sqlite.specs.Command.TheVariants.{Delete}
 use Rattle.sqlite.specs.Listing.{understood}
-use Rattle.sqlite.specs.State.{State, Executes}
+use Rattle.sqlite.specs.State.{State, Executes, ExecutesInside}
 use Rattle.sqlite.proofs.Callers.{IsPlain, command_of}
-use Rattle.sqlite_catalog.specs.Listing.{IsSound}
 use Rattle.sqlite_tied.specs.Compute.{everything}
 use Rattle.sqlite_keyed.proofs.ListLemmas.{all_both, all-append}
 use Rattle.ft_store.specs.declared.same.Layout.TheVariants.{Older}
 use Rattle.ft_store.specs.Tables.{store_schema, meta_table, skip_table}
 use Rattle.ft_rows.specs.Store.{cell_key_cmp, list_key_cmp, column_key_cmp, name_cmp}
 use Rattle.ft_store.specs.Rows.{keyed, table_entry, column_entry, skip_entry, cell_entry, list_entry, size_entry, note_entry, value_of}
-use Rattle.ft_store.specs.Calls.{HasOwnRowids, AreNumbered}
+use Rattle.ft_store.specs.Calls.{HasOwnRowids, HaveOwnRowids}
 use Rattle.ft_store.specs.Made.{IsTabled, IsUnmarked, is_whole}
-use Rattle.ft_store.specs.Older.{older_schema, older_value, IsStoreBy, IsOlder}
+use Rattle.ft_store.specs.Older.{older_schema, older_value, IsStoreBy}
 use Rattle.ft_store.proofs.TextLemmas.{table_query}
 use Rattle.ft_store.proofs.Texts.{make_skip_text, unmark_text}
 use Rattle.ft_store.proofs.ChangeLemmas.{deletes}
-use Rattle.sqlite.specs.State.{ExecutesInside}
 use Rattle.sqlite.specs.declared.error.Error.{Error}
 use Rattle.sqlite.specs.declared.error.Error.TheVariants.{SqliteFailure}
 use Rattle.sqlite.specs.declared.error.ErrorCode.TheVariants as code
 use Rattle.ft_store.specs.Blame.{IsBlamed}
 use Rattle.ft_store.proofs.MakeLemmas.{creates, create_blamed, makes_skip, allows_skip}
 use Rattle.ft_store.proofs.RefusedLemmas.{delete_blamed_in}
-use Rattle.ft_store.proofs.StepLemmas.{shaped_after, same_rows, same_value}
+use Rattle.ft_store.proofs.StepLemmas.{shaped_after, same_rows}
+use Rattle.ft_store.proofs.StoreTables.{same_value}
 
 -- ---- the table that is added
 
@@ -46,7 +44,7 @@ pub adds : (old new : State) (count : ℕ) → IsStoreBy Older old.now → Execu
 adds old new count was h =
     let it = creates old new make_skip_text older_schema (skip_table 0) count makes_skip was.schema h in
     let rows = it.others in
-    let kept : AreNumbered older_schema.tables new.now.trees =
+    let kept : HaveOwnRowids older_schema.tables new.now.trees =
     all_both (λ t. new.now.trees t.tree ≡ old.now.trees t.tree) (λ t. HasOwnRowids (old.now.trees t.tree)) (λ (t : Table). HasOwnRowids (new.now.trees t.tree)) (λ t e own. subst HasOwnRowids (sym e) own) older_schema.tables rows was.numbered in (
       record {
         schema = it.schema ∙ with_skip;

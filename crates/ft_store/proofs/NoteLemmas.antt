@@ -1,5 +1,5 @@
 -- How noted names are put again.
-use Rattle.std.proofs.Common.{◌≡◌, ◌≢◌, ◌∙◌, ◌≤◌, ◌<◌, ◌+◌, ◌<ℤ◌, ◌≤ℤ◌, ℕ, ℤ, pos, negsuc, Bool, true, false, ◌&&◌, cond, List, [], ◌∷◌, ◌++◌, map, length, fold, take, get_or, Option, Some, None, Ok, refl, sym, ap, subst, arith, Ordering, Equal, Less, Greater, is_eq, is_lt, T, true≢false}
+use Rattle.std.proofs.Common.{◌≡◌, ◌∙◌, ◌≤◌, ◌<◌, ◌+◌, ◌<ℤ◌, ◌≤ℤ◌, ℕ, ℤ, pos, negsuc, Bool, true, false, ◌&&◌, cond, List, [], ◌∷◌, ◌++◌, map, length, fold, take, get_or, Option, Some, None, refl, sym, ap, subst, arith, Ordering, Equal, Less, Greater, is_eq, is_lt, T, true≢false}
 use Rattle.std.specs.Prelude.{is_some, IfSome, IsUtf8}
 use Rattle.std.specs.Borrow.{Bor}
 use Rattle.std.specs.List.{AllByRecursion}
@@ -10,42 +10,18 @@ use Rattle.std.proofs.lemmas.Int.{ints}
 use Rattle.std.proofs.lemmas.List.{take_more, map-append}
 use Rattle.sqlite.specs.declared.types.Value.TheVariants.{Text}
 use Rattle.sqlite.specs.Order.{Row, column}
-use Rattle.sqlite.specs.Tree.{Trees}
 use Rattle.sqlite_trees.specs.Tree.{IsTable, rowid}
 use Rattle.sqlite_rules.specs.Edit.{id_in}
-use Rattle.sqlite.specs.State.{State, Executes}
 use Rattle.sqlite_keyed.proofs.ListLemmas.{all_both, all_weaker}
-use Rattle.ft_rows.specs.Store.{StoreValue, name_cmp}
-use Rattle.ft_store.specs.Tables.{noted_table}
-use Rattle.ft_store.specs.Rows.{keyed, value_of}
+use Rattle.ft_rows.specs.Store.{name_cmp}
+use Rattle.ft_store.specs.Rows.{keyed}
 use Rattle.ft_store.specs.Found.{found_note}
 use Rattle.ft_store.specs.Groups.{put_each}
 use Rattle.ft_store.specs.Anew.{IsShortNote}
-use Rattle.ft_store.specs.Calls.{IsStore, Steps}
-use Rattle.ft_store.specs.Puts.{at_least_zero, last_number, AreRowids, KeepsRest, chosen_trees}
-use Rattle.ft_store.proofs.Texts.{drop_note_text, add_note_text}
-use Rattle.ft_store.proofs.TextLemmas.{drop_note_terms, drop_note_is, drop_note_plain, add_note_terms, add_note_is, add_note_plain}
-use Rattle.ft_store.proofs.ChangeLemmas.{KeepsOthers, deletes, inserts_all}
+use Rattle.ft_store.specs.Puts.{at_least_zero, last_number, AreRowids}
 use Rattle.ft_store.proofs.KeyedLemmas.{some_first, none_from, equal_from, is_sorted-keyed}
-use Rattle.ft_store.proofs.PutLemmas.{then_step}
 use Rattle.ft_store.proofs.RiseLemmas.{ids_rise}
 use Rattle.ft_store.proofs.RowidLemmas.{IsInt}
-
--- ---- the other tables
-
-rest_of : (old new : Trees) → KeepsOthers 11 old new → KeepsRest 11 old new
-rest_of old new o = (o.1.1.0, (o.1.1.1.0, (o.1.1.1.1.0, (o.1.1.1.1.1.0, (o.1.1.1.1.1.1.0, (o.1.1.1.1.1.1.1.0, tt))))))
-
-pub rest_then : (a b c : Trees) → KeepsRest 11 a b → KeepsRest 11 b c → KeepsRest 11 a c
-rest_then a b c = all_both (λ t. t ≢ 11 → b t ≡ a t) (λ t. t ≢ 11 → c t ≡ b t) (λ t. t ≢ 11 → c t ≡ a t) (λ t one two other. two other ∙ one other) chosen_trees
-
-pub drop_note_keeps : (name : List ℕ) (old new : State) (count : ℕ) → IsStore old.now → Executes drop_note_text (Text name ∷ []) old new (Ok count) → KeepsRest 11 old.now.trees new.now.trees
-drop_note_keeps name old new count kept h =
-    rest_of old.now.trees new.now.trees (deletes old new drop_note_text (Text name ∷ []) 6 (noted_table 11) drop_note_terms count kept.schema drop_note_is drop_note_plain refl refl kept.numbered.1.1.1.1.1.1.0 h).others
-
-pub add_note_keeps : (name : List ℕ) (old new : State) (count : ℕ) → IsStore old.now → Executes add_note_text (Text name ∷ []) old new (Ok count) → KeepsRest 11 old.now.trees new.now.trees
-add_note_keeps name old new count kept h =
-    rest_of old.now.trees new.now.trees (inserts_all old new add_note_text (Text name ∷ []) 6 11 _ _ _ _ _ _ _ add_note_terms 2 _ count kept.schema add_note_is add_note_plain refl refl h).0.others
 
 -- ---- entries that are put one after the other where there were none
 
@@ -109,20 +85,15 @@ module _ {K X : Type 0} (R : K → K → Ordering) (total : IsTotalOrder R) (tie
       omega (arith, one, low)
 
 -- one entry more
-pub put_each-append : {K X : Type 0} (R : K → K → Ordering) (es : List (K × X)) (e : K × X) (l : List (K × X)) → put_each R (es ++ e ∷ []) l ≡ put R e.0 e.1 (put_each R es l)
+put_each-append : {K X : Type 0} (R : K → K → Ordering) (es : List (K × X)) (e : K × X) (l : List (K × X)) → put_each R (es ++ e ∷ []) l ≡ put R e.0 e.1 (put_each R es l)
 put_each-append R [] e l = refl
 put_each-append R (f ∷ es) e l = put_each-append R es e (put R f.0 f.1 l)
 
-pub note_step : (old was now : State) (rows : List Row) (i : ℕ) (row : Row) → i < length rows → row ≡ get_or rows i row
-    → Steps old was (record (value_of old.now.trees) { noted = put_each name_cmp (map found_note (take i rows)) (value_of old.now.trees).noted })
-    → Steps was now (record (value_of was.now.trees) { noted = put_each name_cmp (found_note row ∷ []) (value_of was.now.trees).noted })
-    → Steps old now (record (value_of old.now.trees) { noted = put_each name_cmp (map found_note (take (i + 1) rows)) (value_of old.now.trees).noted })
-note_step old was now rows i row inside is before step =
-    let v = value_of old.now.trees in
-    let more : map found_note (take (i + 1) rows) ≡ map found_note (take i rows) ++ found_note row ∷ [] =
-    ap (map found_note) (take_more rows i row inside ∙ ap (λ r. take i rows ++ r ∷ []) (sym is)) ∙ map-append found_note (take i rows) (row ∷ []) in
-    subst (λ l. Steps old now (record v { noted = l })) (sym (ap (λ es. put_each name_cmp es v.noted) more ∙ put_each-append name_cmp (map found_note (take i rows)) (found_note row) v.noted))
-    (then_step old was now _ (λ (u : StoreValue). record u { noted = put_each name_cmp (found_note row ∷ []) u.noted }) before step)
+pub note_more : (rows : List Row) (i : ℕ) (row : Row) → i < length rows → row ≡ get_or rows i row → (before : List (List ℕ × List ℕ))
+    → put_each name_cmp (found_note row ∷ []) (put_each name_cmp (map found_note (take i rows)) before) ≡ put_each name_cmp (map found_note (take (i + 1) rows)) before
+note_more rows i row inside is before =
+    sym (put_each-append name_cmp (map found_note (take i rows)) (found_note row) before)
+    ∙ ap (λ es. put_each name_cmp es before) (sym (map-append found_note (take i rows) (row ∷ [])) ∙ ap (map found_note) (ap (λ r. take i rows ++ r ∷ []) is ∙ sym (take_more rows i row inside)))
 
 -- ---- rowids from 1 on
 

@@ -8,22 +8,17 @@ use Rattle.std.specs.FinMap.Entries.{put, where_key, find, find-where_key}
 use Rattle.std.specs.Cmp.{tied_itself}
 use Rattle.std.proofs.lemmas.Cmp.{int_cmp_total}
 use Rattle.std.proofs.lemmas.List.{take_more, map-append, length-map, length-take-le}
-use Rattle.sqlite.specs.Tree.{Trees}
-use Rattle.sqlite_catalog.specs.Listing.{IsSound}
-use Rattle.sqlite.specs.State.{State, HasCleanDisk}
-use Rattle.sqlite.specs.Store.{Ghosts}
-use Rattle.sqlite.specs.Held.{Held, state}
+use Rattle.sqlite.specs.State.{State}
 use Rattle.ft_values.specs.declared.rows.Spot.{Spot}
 use Rattle.ft_values.specs.declared.rows.RowChange.{RowChange}
-use Rattle.ft_rows.specs.Packed.{CanPack, packed_spots, plain_spot, stored_spot, spots_in}
-use Rattle.ft_values.specs.Cells.{Cell}
-use Rattle.ft_rows.specs.Store.{CellKey, ListKey, ColumnKey, cell_key_cmp, list_key_cmp, column_key_cmp, name_cmp, StoreValue, Change, without_key, with_columns, with_skipped, applied, all_applied}
-use Rattle.ft_store.specs.Rows.{column_entry, skip_entry, cell_entry, list_entry, size_entry, note_entry, value_of}
+use Rattle.ft_rows.specs.Packed.{CanPack, packed_spots, packed_spot, stored_spot, spots_in}
+use Rattle.ft_rows.specs.Store.{ColumnKey, column_key_cmp, StoreValue, Change, with_columns, with_skipped, applied, all_applied}
+use Rattle.ft_store.specs.Rows.{value_of}
 use Rattle.ft_rows.specs.Changes.{shown_change}
-use Rattle.ft_store.specs.Calls.{IsStore, Steps, Goes, IsStored}
+use Rattle.ft_store.specs.Calls.{IsStore, Steps, Goes}
 use Rattle.ft_rows.proofs.PackedLemmas.{packed_is_read}
-use Rattle.ft_store.proofs.KeyedLemmas.{is_sorted-keyed, find-without_key, put-without_key, respects}
-use Rattle.ft_store.proofs.OrderLemmas.{tied_ints, tied_names, tied_cell_keys, cell_key_total, tied_list_keys, list_key_total, tied_column_keys, column_key_total, name_total}
+use Rattle.ft_store.proofs.KeyedLemmas.{respects}
+use Rattle.ft_store.proofs.OrderLemmas.{tied_ints}
 
 pub steps_then : (a b c : State) (v w : StoreValue) → Steps a b v → Steps b c w → Steps a c w
 steps_then a b c v w one two = record {
@@ -38,71 +33,6 @@ then_step a b c v f one two = steps_then a b c v (f v) one (subst (λ x. Steps b
 
 pub no_step : (a : State) → IsTrue a.in_transaction → IsTrue a.is_open → IsStore a.now → Steps a a (value_of a.now.trees)
 no_step a inside is_open store = record { store = store; is = refl; shown = record { was_open = is_open; is_open = is_open; now_is = refl; committed_is = refl; mode = inside } }
-
--- a statement that was done
-abbrev pub StepsIfDone : {S : Type 0} → Ghosts S → Held S → Held S → (StoreValue → StoreValue) → Type 0
-StepsIfDone g old new f =
-    HasCleanDisk (state g new) → IsTrue (state g old).in_transaction → (IsTrue (state g old).is_open → IsStore (state g old).now) → Steps (state g old) (state g new) (f (value_of (state g old).now.trees))
-
-abbrev pub StepsIfOpenDone : {S : Type 0} → Ghosts S → Held S → Held S → (StoreValue → StoreValue) → Type 0
-StepsIfOpenDone g old new f =
-    HasCleanDisk (state g new) → IsTrue (state g old).in_transaction → IsTrue (state g old).is_open → IsStore (state g old).now → Steps (state g old) (state g new) (f (value_of (state g old).now.trees))
-
--- ---- a row that is put is one that has room made for it and is added
-
-pub puts_columns : (a b d : State) (key : ColumnKey) (x : List ℕ) → Steps a b (record (value_of a.now.trees) { columns = without_key column_key_cmp key (value_of a.now.trees).columns })
-    → (find column_key_cmp key (value_of b.now.trees).columns ≡ None → Steps b d (record (value_of b.now.trees) { columns = put column_key_cmp key x (value_of b.now.trees).columns }))
-    → Steps a d (record (value_of a.now.trees) { columns = put column_key_cmp key x (value_of a.now.trees).columns })
-puts_columns a b d key x one two =
-    let was = value_of a.now.trees in
-    let free = ap (λ (v : StoreValue). find column_key_cmp key v.columns) one.is ∙ find-without_key column_key_cmp column_key_total tied_column_keys key was.columns in
-    subst (λ l. Steps a d (record was { columns = l })) (put-without_key column_key_cmp column_key_total tied_column_keys key x was.columns (is_sorted-keyed column_key_cmp column_key_total tied_column_keys (map column_entry (a.now.trees 3))))
-    (then_step a b d _ (λ v. record v { columns = put column_key_cmp key x v.columns }) one (two free))
-
-pub puts_skipped : (a b d : State) (key : ColumnKey) (x : Unit {0}) → Steps a b (record (value_of a.now.trees) { skipped = without_key column_key_cmp key (value_of a.now.trees).skipped })
-    → (find column_key_cmp key (value_of b.now.trees).skipped ≡ None → Steps b d (record (value_of b.now.trees) { skipped = put column_key_cmp key x (value_of b.now.trees).skipped }))
-    → Steps a d (record (value_of a.now.trees) { skipped = put column_key_cmp key x (value_of a.now.trees).skipped })
-puts_skipped a b d key x one two =
-    let was = value_of a.now.trees in
-    let free = ap (λ (v : StoreValue). find column_key_cmp key v.skipped) one.is ∙ find-without_key column_key_cmp column_key_total tied_column_keys key was.skipped in
-    subst (λ l. Steps a d (record was { skipped = l })) (put-without_key column_key_cmp column_key_total tied_column_keys key x was.skipped (is_sorted-keyed column_key_cmp column_key_total tied_column_keys (map skip_entry (a.now.trees 13))))
-    (then_step a b d _ (λ v. record v { skipped = put column_key_cmp key x v.skipped }) one (two free))
-
-pub puts_cells : (a b d : State) (key : CellKey) (x : Cell) → Steps a b (record (value_of a.now.trees) { cells = without_key cell_key_cmp key (value_of a.now.trees).cells })
-    → (find cell_key_cmp key (value_of b.now.trees).cells ≡ None → Steps b d (record (value_of b.now.trees) { cells = put cell_key_cmp key x (value_of b.now.trees).cells }))
-    → Steps a d (record (value_of a.now.trees) { cells = put cell_key_cmp key x (value_of a.now.trees).cells })
-puts_cells a b d key x one two =
-    let was = value_of a.now.trees in
-    let free = ap (λ (v : StoreValue). find cell_key_cmp key v.cells) one.is ∙ find-without_key cell_key_cmp cell_key_total tied_cell_keys key was.cells in
-    subst (λ l. Steps a d (record was { cells = l })) (put-without_key cell_key_cmp cell_key_total tied_cell_keys key x was.cells (is_sorted-keyed cell_key_cmp cell_key_total tied_cell_keys (map cell_entry (a.now.trees 5))))
-    (then_step a b d _ (λ v. record v { cells = put cell_key_cmp key x v.cells }) one (two free))
-
-pub puts_lists : (a b d : State) (key : ListKey) (x : List Spot) → Steps a b (record (value_of a.now.trees) { lists = without_key list_key_cmp key (value_of a.now.trees).lists })
-    → (find list_key_cmp key (value_of b.now.trees).lists ≡ None → Steps b d (record (value_of b.now.trees) { lists = put list_key_cmp key x (value_of b.now.trees).lists }))
-    → Steps a d (record (value_of a.now.trees) { lists = put list_key_cmp key x (value_of a.now.trees).lists })
-puts_lists a b d key x one two =
-    let was = value_of a.now.trees in
-    let free = ap (λ (v : StoreValue). find list_key_cmp key v.lists) one.is ∙ find-without_key list_key_cmp list_key_total tied_list_keys key was.lists in
-    subst (λ l. Steps a d (record was { lists = l })) (put-without_key list_key_cmp list_key_total tied_list_keys key x was.lists (is_sorted-keyed list_key_cmp list_key_total tied_list_keys (map list_entry (a.now.trees 7))))
-    (then_step a b d _ (λ v. record v { lists = put list_key_cmp key x v.lists }) one (two free))
-
-pub puts_sizes : (a b d : State) (key : CellKey) (x : ℤ) → Steps a b (record (value_of a.now.trees) { sizes = without_key cell_key_cmp key (value_of a.now.trees).sizes })
-    → (find cell_key_cmp key (value_of b.now.trees).sizes ≡ None → Steps b d (record (value_of b.now.trees) { sizes = put cell_key_cmp key x (value_of b.now.trees).sizes }))
-    → Steps a d (record (value_of a.now.trees) { sizes = put cell_key_cmp key x (value_of a.now.trees).sizes })
-puts_sizes a b d key x one two =
-    let was = value_of a.now.trees in
-    let free = ap (λ (v : StoreValue). find cell_key_cmp key v.sizes) one.is ∙ find-without_key cell_key_cmp cell_key_total tied_cell_keys key was.sizes in
-    subst (λ l. Steps a d (record was { sizes = l })) (put-without_key cell_key_cmp cell_key_total tied_cell_keys key x was.sizes (is_sorted-keyed cell_key_cmp cell_key_total tied_cell_keys (map size_entry (a.now.trees 9))))
-    (then_step a b d _ (λ v. record v { sizes = put cell_key_cmp key x v.sizes }) one (two free))
-
-pub puts_noted : (a b d : State) (key : List ℕ) (x : List ℕ) → Steps a b (record (value_of a.now.trees) { noted = without_key name_cmp key (value_of a.now.trees).noted })
-    → (find name_cmp key (value_of b.now.trees).noted ≡ None → Steps b d (record (value_of b.now.trees) { noted = put name_cmp key x (value_of b.now.trees).noted }))
-    → Steps a d (record (value_of a.now.trees) { noted = put name_cmp key x (value_of a.now.trees).noted })
-puts_noted a b d key x one two =
-    let was = value_of a.now.trees in
-    let free = ap (λ (v : StoreValue). find name_cmp key v.noted) one.is ∙ find-without_key name_cmp name_total tied_names key was.noted in
-    subst (λ l. Steps a d (record was { noted = l })) (put-without_key name_cmp name_total tied_names key x was.noted (is_sorted-keyed name_cmp name_total tied_names (map note_entry (a.now.trees 11))))
-    (then_step a b d _ (λ v. record v { noted = put name_cmp key x v.noted }) one (two free))
 
 -- ---- a table that is added
 
@@ -120,17 +50,17 @@ enumerate_more : (n : ℕ) (xs : List (List ℕ)) (x : List ℕ) → enumerate_f
 enumerate_more n [] x = let e : n ≡ n + 0 = omega arith in ap (λ k. (k, x) ∷ []) e
 enumerate_more n (y ∷ xs) x = ap (λ l. (n, y) ∷ l) (enumerate_more (n + 1) xs x ∙ (let e : n + 1 + length xs ≡ n + length (y ∷ xs) = omega arith in ap (λ k. enumerate_from (n + 1) xs ++ (k, x) ∷ []) e))
 
-pub one_more_column : (tab : ℤ) (xs : List (List ℕ)) (x : List ℕ) (columns : List (ColumnKey × List ℕ))
+one_more_column : (tab : ℤ) (xs : List (List ℕ)) (x : List ℕ) (columns : List (ColumnKey × List ℕ))
     → with_columns tab (enumerate_from 0 (xs ++ x ∷ [])) columns ≡ put column_key_cmp (tab, pos (length xs)) x (with_columns tab (enumerate_from 0 xs) columns)
 one_more_column tab xs x columns = ap (λ l. with_columns tab l columns) (enumerate_more 0 xs x ∙ (let e : 0 + length xs ≡ length xs = omega arith in ap (λ k. enumerate_from 0 xs ++ (k, x) ∷ []) e)) ∙ with_columns-append tab (enumerate_from 0 xs) (length xs, x) columns
 
-pub one_more_skip : (tab : ℤ) (xs : List ℤ) (x : ℤ) (skipped : List (ColumnKey × Unit {0})) → with_skipped tab (xs ++ x ∷ []) skipped ≡ put column_key_cmp (tab, x) tt (with_skipped tab xs skipped)
+one_more_skip : (tab : ℤ) (xs : List ℤ) (x : ℤ) (skipped : List (ColumnKey × Unit {0})) → with_skipped tab (xs ++ x ∷ []) skipped ≡ put column_key_cmp (tab, x) tt (with_skipped tab xs skipped)
 one_more_skip tab [] x skipped = refl
 one_more_skip tab (y ∷ xs) x skipped = one_more_skip tab xs x _
 
 -- places that can be packed are read back
 pub packed_back : (spots : List Spot) → CanPack spots → unwrap_or (spots_in (packed_spots spots)) [] ≡ spots
-packed_back spots can = ap (λ o. unwrap_or (option_map (map stored_spot) o) []) (packed_is_read (map plain_spot spots) can.rise) ∙ sym can.plain
+packed_back spots can = ap (λ o. unwrap_or (option_map (map stored_spot) o) []) (packed_is_read (map packed_spot spots) can.rise) ∙ sym can.plain
 
 -- ---- the loop over the changes
 
@@ -154,27 +84,16 @@ goes_on old was now changes i change v inside is before step = record {
 
 -- ---- the loops over the columns of a table
 
-pub skip_step : (old was now : State) (tab x : ℤ) (skipped : List ℤ) (i : ℕ) → i < length skipped → x ≡ get_or skipped i (pos 0)
-    → Steps old was (record (value_of old.now.trees) { skipped = with_skipped tab (take i skipped) (value_of old.now.trees).skipped })
-    → Steps was now (record (value_of was.now.trees) { skipped = put column_key_cmp (tab, x) tt (value_of was.now.trees).skipped })
-    → Steps old now (record (value_of old.now.trees) { skipped = with_skipped tab (take (i + 1) skipped) (value_of old.now.trees).skipped })
-skip_step old was now tab x skipped i inside is before step =
-    let v = value_of old.now.trees in
-    let more : take i skipped ++ x ∷ [] ≡ take (i + 1) skipped = ap (λ y. take i skipped ++ y ∷ []) is ∙ sym (take_more skipped i (pos 0) inside) in
-    subst (λ l. Steps old now (record v { skipped = l })) (sym (one_more_skip tab (take i skipped) x v.skipped) ∙ ap (λ l. with_skipped tab l v.skipped) more)
-    (then_step old was now _ (λ (u : StoreValue). record u { skipped = put column_key_cmp (tab, x) tt u.skipped }) before step)
+pub skip_more : (tab x : ℤ) (skipped : List ℤ) (i : ℕ) → i < length skipped → x ≡ get_or skipped i (pos 0) → (before : List (ColumnKey × Unit {0}))
+    → put column_key_cmp (tab, x) tt (with_skipped tab (take i skipped) before) ≡ with_skipped tab (take (i + 1) skipped) before
+skip_more tab x skipped i inside is before =
+    sym (one_more_skip tab (take i skipped) x before) ∙ ap (λ l. with_skipped tab l before) (ap (λ y. take i skipped ++ y ∷ []) is ∙ sym (take_more skipped i (pos 0) inside))
 
-pub column_step : (old was now : State) (tab at : ℤ) (names : List (String Global)) (i : ℕ) (name : String Global) → i < length names → name ≡ get_or names i name → at ≡ pos i
-    → Steps old was (record (value_of old.now.trees) { columns = with_columns tab (enumerate_from 0 (map string_bytes (take i names))) (value_of old.now.trees).columns })
-    → Steps was now (record (value_of was.now.trees) { columns = put column_key_cmp (tab, at) (string_bytes name) (value_of was.now.trees).columns })
-    → Steps old now (record (value_of old.now.trees) { columns = with_columns tab (enumerate_from 0 (map string_bytes (take (i + 1) names))) (value_of old.now.trees).columns })
-column_step old was now tab at names i name inside is number before step =
-    let v = value_of old.now.trees in
+pub column_more : (tab at : ℤ) (names : List (String Global)) (i : ℕ) (name : String Global) → i < length names → name ≡ get_or names i name → at ≡ pos i → (before : List (ColumnKey × List ℕ))
+    → put column_key_cmp (tab, at) (string_bytes name) (with_columns tab (enumerate_from 0 (map string_bytes (take i names))) before) ≡ with_columns tab (enumerate_from 0 (map string_bytes (take (i + 1) names))) before
+column_more tab at names i name inside is number before =
     let xs = map string_bytes (take i names) in
     let more : xs ++ string_bytes name ∷ [] ≡ map string_bytes (take (i + 1) names) = sym (map-append string_bytes (take i names) (name ∷ [])) ∙ ap (map string_bytes) (ap (λ y. take i names ++ y ∷ []) is ∙ sym (take_more names i name inside)) in
     let len : length xs ≡ i = length-map (take i names) string_bytes ∙ length-take-le i names (omega (arith, inside)) in
-    let last : put column_key_cmp (tab, at) (string_bytes name) (with_columns tab (enumerate_from 0 xs) v.columns) ≡ with_columns tab (enumerate_from 0 (map string_bytes (take (i + 1) names))) v.columns =
-    ap (λ k. put column_key_cmp (tab, k) (string_bytes name) (with_columns tab (enumerate_from 0 xs) v.columns)) (number ∙ ap pos (sym len))
-    ∙ sym (one_more_column tab xs (string_bytes name) v.columns) ∙ ap (λ l. with_columns tab (enumerate_from 0 l) v.columns) more in
-    subst (λ l. Steps old now (record v { columns = l })) last
-    (then_step old was now _ (λ (u : StoreValue). record u { columns = put column_key_cmp (tab, at) (string_bytes name) u.columns }) before step)
+    ap (λ k. put column_key_cmp (tab, k) (string_bytes name) (with_columns tab (enumerate_from 0 xs) before)) (number ∙ ap pos (sym len))
+    ∙ sym (one_more_column tab xs (string_bytes name) before) ∙ ap (λ l. with_columns tab (enumerate_from 0 l) before) more

@@ -36,15 +36,12 @@ use Rattle.sqlite_rules.proofs.RuleLemmas.{Turns, unique_kept}
 use Rattle.sqlite_rules.proofs.TableLemmas.{without_all_has}
 use Rattle.sqlite_catalog.specs.Listing.{IsSound}
 use Rattle.sqlite_keyed.proofs.ListLemmas.{all_of}
-use Rattle.ft_store.specs.Tables.{store_schema, tab_table, col_table, cell_table, posting_table, sizes_table, skip_table}
+use Rattle.ft_store.specs.Tables.{store_schema}
 use Rattle.ft_store.specs.Blame.{IsBlamed}
 use Rattle.ft_store.specs.Calls.{IsStore}
-use Rattle.ft_store.proofs.TextLemmas.{table_query, no_limit, no_offset, drop_name_terms, drop_name_is, drop_name_plain, drop_columns_terms, drop_columns_is, drop_columns_plain, drop_contents_terms, drop_contents_is, drop_contents_plain, drop_cells_terms, drop_cells_is, drop_cells_plain, drop_lists_terms, drop_lists_is, drop_lists_plain, drop_list_terms, drop_list_is, drop_list_plain, drop_sizes_terms, drop_sizes_is, drop_sizes_plain, drop_size_terms, drop_size_is, drop_size_plain, drop_skips_terms, drop_skips_is, drop_skips_plain}
-use Rattle.ft_store.proofs.Texts.{drop_name_text, drop_columns_text, drop_contents_text, drop_cells_text, drop_lists_text, drop_list_text, drop_sizes_text, drop_size_text, drop_skips_text}
+use Rattle.ft_store.proofs.TextLemmas.{table_query, no_limit, no_offset}
 use Rattle.sqlite.specs.Query.{Query}
 use Rattle.sqlite.specs.Calls.{IsWrite}
-use Rattle.sqlite_tied.specs.Compute.{everything}
-use Rattle.sqlite.specs.declared.types.Value.TheVariants.{Int, Text}
 use Rattle.ft_store.proofs.BlameLemmas.{fails_blamed}
 use Rattle.ft_store.specs.Made.{is_whole, statement_of}
 use Rattle.ft_store.proofs.AskedLemmas.{is_statement, IsTyped, table_limited}
@@ -217,77 +214,3 @@ module _ (old new : State) (sql : List ℕ) (params : Row) (at : ℕ) (table : T
       → slice_get store_schema.tables at ≡ Some table → Has store_schema.tables table → ((new : Trees) → are_unique store_schema.indexes new table [] ≡ true) → IsTyped the_query params → RunOnlyBlamed old new sql params
   delete_blamed is plain whole found listed unique typed store (e, other, ran) =
       delete_blamed_in is plain whole found listed unique typed (λ is_open. let kept = store is_open in (kept.schema, kept.sound)) e other ran
-
--- ---- the deletions
-
-drop_name_whole : is_whole drop_name_text 1 (understood store_schema drop_name_text) ≡ true
-unfolding understood everything
-drop_name_whole = refl
-
-pub drop_name_blamed : (tab : ℤ) (old new : State) → RunOnlyBlamed old new drop_name_text (Int tab ∷ [])
-drop_name_blamed tab old new =
-    delete_blamed old new drop_name_text (Int tab ∷ []) 1 (tab_table 1) drop_name_terms drop_name_is drop_name_plain drop_name_whole refl (inr (inl refl)) (λ db. refl) (λ db has no. true≢false (rw has at no))
-
-drop_columns_whole : is_whole drop_columns_text 1 (understood store_schema drop_columns_text) ≡ true
-unfolding understood everything
-drop_columns_whole = refl
-
-pub drop_columns_blamed : (tab : ℤ) (old new : State) → RunOnlyBlamed old new drop_columns_text (Int tab ∷ [])
-drop_columns_blamed tab old new =
-    delete_blamed old new drop_columns_text (Int tab ∷ []) 2 (col_table 3) drop_columns_terms drop_columns_is drop_columns_plain drop_columns_whole refl (inr (inr (inl refl))) (λ db. refl) (λ db has no. true≢false (rw has at no))
-
-drop_contents_whole : is_whole drop_contents_text 1 (understood store_schema drop_contents_text) ≡ true
-unfolding understood everything
-drop_contents_whole = refl
-
-pub drop_contents_blamed : (tab : ℤ) (old new : State) → RunOnlyBlamed old new drop_contents_text (Int tab ∷ [])
-drop_contents_blamed tab old new =
-    delete_blamed old new drop_contents_text (Int tab ∷ []) 3 (cell_table 5) drop_contents_terms drop_contents_is drop_contents_plain drop_contents_whole refl (inr (inr (inr (inl refl)))) (λ db. refl) (λ db has no. true≢false (rw has at no))
-
-drop_cells_whole : is_whole drop_cells_text 2 (understood store_schema drop_cells_text) ≡ true
-unfolding understood everything
-drop_cells_whole = refl
-
-pub drop_cells_blamed : (tab : ℤ) (docid : ℤ) (old new : State) → RunOnlyBlamed old new drop_cells_text (Int tab ∷ Int docid ∷ [])
-drop_cells_blamed tab docid old new =
-    delete_blamed old new drop_cells_text (Int tab ∷ Int docid ∷ []) 3 (cell_table 5) drop_cells_terms drop_cells_is drop_cells_plain drop_cells_whole refl (inr (inr (inr (inl refl)))) (λ db. refl) (λ db has no. true≢false (rw has at no))
-
-drop_lists_whole : is_whole drop_lists_text 1 (understood store_schema drop_lists_text) ≡ true
-unfolding understood everything
-drop_lists_whole = refl
-
-pub drop_lists_blamed : (tab : ℤ) (old new : State) → RunOnlyBlamed old new drop_lists_text (Int tab ∷ [])
-drop_lists_blamed tab old new =
-    delete_blamed old new drop_lists_text (Int tab ∷ []) 4 (posting_table 7) drop_lists_terms drop_lists_is drop_lists_plain drop_lists_whole refl (inr (inr (inr (inr (inl refl))))) (λ db. refl) (λ db has no. true≢false (rw has at no))
-
-drop_list_whole : is_whole drop_list_text 3 (understood store_schema drop_list_text) ≡ true
-unfolding understood everything
-drop_list_whole = refl
-
-pub drop_list_blamed : (tab : ℤ) (term : List ℕ) (docid : ℤ) (old new : State) → RunOnlyBlamed old new drop_list_text (Int tab ∷ Text term ∷ Int docid ∷ [])
-drop_list_blamed tab term docid old new =
-    delete_blamed old new drop_list_text (Int tab ∷ Text term ∷ Int docid ∷ []) 4 (posting_table 7) drop_list_terms drop_list_is drop_list_plain drop_list_whole refl (inr (inr (inr (inr (inl refl))))) (λ db. refl) (λ db has no. true≢false (rw has at no))
-
-drop_sizes_whole : is_whole drop_sizes_text 1 (understood store_schema drop_sizes_text) ≡ true
-unfolding understood everything
-drop_sizes_whole = refl
-
-pub drop_sizes_blamed : (tab : ℤ) (old new : State) → RunOnlyBlamed old new drop_sizes_text (Int tab ∷ [])
-drop_sizes_blamed tab old new =
-    delete_blamed old new drop_sizes_text (Int tab ∷ []) 5 (sizes_table 9) drop_sizes_terms drop_sizes_is drop_sizes_plain drop_sizes_whole refl (inr (inr (inr (inr (inr (inl refl)))))) (λ db. refl) (λ db has no. true≢false (rw has at no))
-
-drop_size_whole : is_whole drop_size_text 3 (understood store_schema drop_size_text) ≡ true
-unfolding understood everything
-drop_size_whole = refl
-
-pub drop_size_blamed : (tab : ℤ) (docid : ℤ) (column : ℤ) (old new : State) → RunOnlyBlamed old new drop_size_text (Int tab ∷ Int docid ∷ Int column ∷ [])
-drop_size_blamed tab docid column old new =
-    delete_blamed old new drop_size_text (Int tab ∷ Int docid ∷ Int column ∷ []) 5 (sizes_table 9) drop_size_terms drop_size_is drop_size_plain drop_size_whole refl (inr (inr (inr (inr (inr (inl refl)))))) (λ db. refl) (λ db has no. true≢false (rw has at no))
-
-drop_skips_whole : is_whole drop_skips_text 1 (understood store_schema drop_skips_text) ≡ true
-unfolding understood everything
-drop_skips_whole = refl
-
-pub drop_skips_blamed : (tab : ℤ) (old new : State) → RunOnlyBlamed old new drop_skips_text (Int tab ∷ [])
-drop_skips_blamed tab old new =
-    delete_blamed old new drop_skips_text (Int tab ∷ []) 7 (skip_table 13) drop_skips_terms drop_skips_is drop_skips_plain drop_skips_whole refl (inr (inr (inr (inr (inr (inr (inr (inl refl)))))))) (λ db. refl) (λ db has no. true≢false (rw has at no))

@@ -64,7 +64,7 @@ all_push : {X : Type 0} (P : X → Type 0) (xs : List X) (x : X) → AllByRecurs
 all_push P [] x all here = (here, tt)
 all_push P (y ∷ xs) x all here = (all.0, all_push P xs x all.1 here)
 
-ascending_push : {X : Type 0} (R : X → X → Type 0) (xs : List X) (x : X) → IsAscending R xs → AllByRecursion (λ y. R y x) xs → IsAscending R (xs ++ x ∷ [])
+pub ascending_push : {X : Type 0} (R : X → X → Type 0) (xs : List X) (x : X) → IsAscending R xs → AllByRecursion (λ y. R y x) xs → IsAscending R (xs ++ x ∷ [])
 ascending_push R [] x up below = (tt, tt)
 ascending_push R (y ∷ xs) x up below = (all_push (R y) xs x up.0 below.0, ascending_push R xs x up.1 below.1)
 

@@ -25,11 +25,11 @@ use Rattle.ft_store.specs.declared.same.Layout.TheVariants.{Older, Present}
 use Rattle.ft_store.specs.Tables.{store_schema}
 use Rattle.ft_store.specs.Older.{schema_of, tables_of}
 use Rattle.ft_store.specs.Scan.{Scans, tree_at, AreUpTo}
-use Rattle.ft_store.specs.Calls.{HasOwnRowids, AreNumbered}
+use Rattle.ft_store.specs.Calls.{HasOwnRowids, HaveOwnRowids}
 use Rattle.ft_store.proofs.TextLemmas.{query_by, rising, no_limit}
 use Rattle.ft_store.proofs.SelectLemmas.{arranged}
 use Rattle.ft_store.proofs.RowidLemmas.{IsInt, DifferIn}
-use Rattle.ft_store.proofs.LastLemmas.{ascending-end}
+use Rattle.ft_store.proofs.RiseLemmas.{ascending_push}
 
 -- ---- the texts
 
@@ -155,7 +155,7 @@ pub joined_on : (last : Option ℤ) (id : ℤ) (row : Row) (rows : List Row) →
 joined_on None id row rows is less none up = subst (λ l. AreUpTo (Some id) (l ++ row ∷ []) × IsAscending DifferIn (l ++ row ∷ [])) (sym none) (((id, is, itself_up_to id), tt), (tt, tt))
 joined_on (Some m) id row rows is less all up = (
   all-append (λ r. (n : ℤ) × (rowid r ≡ Int n) × (n ≤ℤ id)) rows (row ∷ []) (raised m id less rows all) ((id, is, itself_up_to id), tt),
-  ascending-end DifferIn rows row up (differ_from m id row is less rows all),
+  ascending_push DifferIn rows row up (differ_from m id row is less rows all),
 )
 
 pub all_rise : (last : Option ℤ) (rows : List Row) → AreUpTo last rows × IsAscending DifferIn rows → HasOwnRowids rows
@@ -194,13 +194,13 @@ version_seen layout old new schema rows h =
 
 -- ---- all tables
 
-pub each_numbered : (layout : Layout) (db : Trees) → ((i : ℕ) → i < tables_of layout → HasOwnRowids (db (tree_at i))) → AreNumbered (schema_of layout).tables db
+pub each_numbered : (layout : Layout) (db : Trees) → ((i : ℕ) → i < tables_of layout → HasOwnRowids (db (tree_at i))) → HaveOwnRowids (schema_of layout).tables db
 each_numbered Older db h =
     (h 0 (omega arith), (h 1 (omega arith), (h 2 (omega arith), (h 3 (omega arith), (h 4 (omega arith), (h 5 (omega arith), (h 6 (omega arith), tt)))))))
 each_numbered Present db h =
     (h 0 (omega arith), (h 1 (omega arith), (h 2 (omega arith), (h 3 (omega arith), (h 4 (omega arith), (h 5 (omega arith), (h 6 (omega arith), (h 7 (omega arith), tt))))))))
 
-pub numbered_at : (layout : Layout) (db : Trees) (i : ℕ) → i < tables_of layout → AreNumbered (schema_of layout).tables db → HasOwnRowids (db (tree_at i))
+pub numbered_at : (layout : Layout) (db : Trees) (i : ℕ) → i < tables_of layout → HaveOwnRowids (schema_of layout).tables db → HasOwnRowids (db (tree_at i))
 numbered_at Older db zero below h = h.0
 numbered_at Older db (suc zero) below h = h.1.0
 numbered_at Older db (suc (suc zero)) below h = h.1.1.0

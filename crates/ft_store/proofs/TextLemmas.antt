@@ -15,7 +15,8 @@ use Rattle.sqlite_value.specs.Keys.{ascending}
 use Rattle.sqlite_value.specs.declared.keys.Key.{Key}
 use Rattle.sqlite.specs.Source.TheVariants.{Values}
 use Rattle.sqlite.proofs.Callers.{IsPlain, command_of}
-use Rattle.ft_store.proofs.Texts.{drop_name_text, drop_columns_text, drop_column_text, drop_contents_text, drop_cells_text, drop_cell_text, drop_lists_text, drop_list_text, drop_sizes_text, drop_size_text, drop_note_text, drop_skips_text, drop_skip_text, add_name_text, add_column_text, add_cell_text, add_list_text, add_lists_text, add_size_text, add_note_text, add_skip_text, names_text, columns_text, skips_text, cells_text, document_text, docids_text, has_document_text, last_text, term_text, prefix_text, bare_prefix_text, lists_text, sizes_text, noted_text}
+use Rattle.ft_store.specs.Made.{is_whole}
+use Rattle.ft_store.proofs.Texts.{drop_lists_from_text, drop_name_text, drop_columns_text, drop_column_text, drop_contents_text, drop_cells_text, drop_cell_text, drop_lists_text, drop_list_text, drop_sizes_text, drop_size_text, drop_note_text, drop_skips_text, drop_skip_text, add_name_text, add_column_text, add_cell_text, add_list_text, add_lists_text, add_size_text, add_note_text, add_skip_text, names_text, columns_text, skips_text, cells_text, document_text, docids_text, has_document_text, last_text, term_text, prefix_text, bare_prefix_text, lists_text, sizes_text, noted_text}
 use Rattle.ft_store.specs.Tables.{store_schema}
 
 abbrev pub compares : CompareOp → ℕ → ℕ → Term
@@ -65,194 +66,82 @@ list_order = 1 ∷ 2 ∷ 3 ∷ []
 abbrev pub cell_order : List ℕ
 cell_order = 1 ∷ 2 ∷ 3 ∷ []
 
+-- what a text means that takes the rows of one table out for which these terms hold
+pub record IsDeletion (at tree : ℕ) (terms : List Term) (text : List ℕ) (count : ℕ) : Type 0 where
+  pub is : command_of (understood store_schema text) ≡ Delete at (record { lets = []; body = table_query tree terms (0 ∷ []) [] })
+  pub plain : IsPlain (understood store_schema text)
+  pub whole : is_whole text count (understood store_schema text) ≡ true
+
+-- one that adds rows of these values
+pub record IsInsertion (at : ℕ) (terms : List Term) (width : ℕ) (text : List ℕ) (count : ℕ) : Type 0 where
+  pub is : command_of (understood store_schema text) ≡ Insert at (Values terms width)
+  pub plain : IsPlain (understood store_schema text)
+  pub whole : is_whole text count (understood store_schema text) ≡ true
+
+-- one that asks for rows
+pub record IsQuestion (query : Query) (names : List (List ℕ)) (text : List ℕ) (count : ℕ) : Type 0 where
+  pub is : command_of (understood store_schema text) ≡ Select (record { lets = []; body = query }) names
+  pub plain : IsPlain (understood store_schema text)
+  pub unlisted : reads_listing store_schema text ≡ false
+  pub whole : is_whole text count (understood store_schema text) ≡ true
+
 -- ---- changes
 
-abbrev pub drop_name_terms : List Term
-drop_name_terms = is_param 0 0 ∷ []
-
-pub drop_name_is : command_of (understood store_schema drop_name_text) ≡ Delete 1 (record { lets = []; body = table_query 1 drop_name_terms (0 ∷ []) [] })
+pub drop_name_means : IsDeletion 1 1 (is_param 0 0 ∷ []) drop_name_text 1
 unfolding understood everything
-drop_name_is = refl
+drop_name_means = record { is = refl; plain = (refl, refl); whole = refl }
 
-pub drop_name_plain : IsPlain (understood store_schema drop_name_text)
+pub drop_columns_means : IsDeletion 2 3 (is_param 1 0 ∷ []) drop_columns_text 1
 unfolding understood everything
-drop_name_plain = (refl, refl)
+drop_columns_means = record { is = refl; plain = (refl, refl); whole = refl }
 
-abbrev pub drop_columns_terms : List Term
-drop_columns_terms = is_param 1 0 ∷ []
-
-pub drop_columns_is : command_of (understood store_schema drop_columns_text) ≡ Delete 2 (record { lets = []; body = table_query 3 drop_columns_terms (0 ∷ []) [] })
+pub drop_column_means : IsDeletion 2 3 (is_param 1 0 ∷ is_param 2 1 ∷ []) drop_column_text 2
 unfolding understood everything
-drop_columns_is = refl
+drop_column_means = record { is = refl; plain = (refl, refl); whole = refl }
 
-pub drop_columns_plain : IsPlain (understood store_schema drop_columns_text)
+pub drop_contents_means : IsDeletion 3 5 (is_param 1 0 ∷ []) drop_contents_text 1
 unfolding understood everything
-drop_columns_plain = (refl, refl)
+drop_contents_means = record { is = refl; plain = (refl, refl); whole = refl }
 
-abbrev pub drop_column_terms : List Term
-drop_column_terms = is_param 1 0 ∷ is_param 2 1 ∷ []
-
-pub drop_column_is : command_of (understood store_schema drop_column_text) ≡ Delete 2 (record { lets = []; body = table_query 3 drop_column_terms (0 ∷ []) [] })
+pub drop_cells_means : IsDeletion 3 5 (is_param 1 0 ∷ is_param 2 1 ∷ []) drop_cells_text 2
 unfolding understood everything
-drop_column_is = refl
+drop_cells_means = record { is = refl; plain = (refl, refl); whole = refl }
 
-pub drop_column_plain : IsPlain (understood store_schema drop_column_text)
+pub drop_cell_means : IsDeletion 3 5 (is_param 1 0 ∷ is_param 2 1 ∷ is_param 3 2 ∷ []) drop_cell_text 3
 unfolding understood everything
-drop_column_plain = (refl, refl)
+drop_cell_means = record { is = refl; plain = (refl, refl); whole = refl }
 
-abbrev pub drop_contents_terms : List Term
-drop_contents_terms = is_param 1 0 ∷ []
-
-pub drop_contents_is : command_of (understood store_schema drop_contents_text) ≡ Delete 3 (record { lets = []; body = table_query 5 drop_contents_terms (0 ∷ []) [] })
+pub drop_lists_means : IsDeletion 4 7 (is_param 1 0 ∷ []) drop_lists_text 1
 unfolding understood everything
-drop_contents_is = refl
+drop_lists_means = record { is = refl; plain = (refl, refl); whole = refl }
 
-pub drop_contents_plain : IsPlain (understood store_schema drop_contents_text)
+pub drop_list_means : IsDeletion 4 7 (is_param 1 0 ∷ is_param 2 1 ∷ is_param 3 2 ∷ []) drop_list_text 3
 unfolding understood everything
-drop_contents_plain = (refl, refl)
+drop_list_means = record { is = refl; plain = (refl, refl); whole = refl }
 
-abbrev pub drop_cells_terms : List Term
-drop_cells_terms = is_param 1 0 ∷ is_param 2 1 ∷ []
-
-pub drop_cells_is : command_of (understood store_schema drop_cells_text) ≡ Delete 3 (record { lets = []; body = table_query 5 drop_cells_terms (0 ∷ []) [] })
+pub drop_sizes_means : IsDeletion 5 9 (is_param 1 0 ∷ []) drop_sizes_text 1
 unfolding understood everything
-drop_cells_is = refl
+drop_sizes_means = record { is = refl; plain = (refl, refl); whole = refl }
 
-pub drop_cells_plain : IsPlain (understood store_schema drop_cells_text)
+pub drop_size_means : IsDeletion 5 9 (is_param 1 0 ∷ is_param 2 1 ∷ is_param 3 2 ∷ []) drop_size_text 3
 unfolding understood everything
-drop_cells_plain = (refl, refl)
+drop_size_means = record { is = refl; plain = (refl, refl); whole = refl }
 
-abbrev pub drop_cell_terms : List Term
-drop_cell_terms = is_param 1 0 ∷ is_param 2 1 ∷ is_param 3 2 ∷ []
-
-pub drop_cell_is : command_of (understood store_schema drop_cell_text) ≡ Delete 3 (record { lets = []; body = table_query 5 drop_cell_terms (0 ∷ []) [] })
+pub drop_note_means : IsDeletion 6 11 (op2 (Compare Eq NoCase) (col 1 1) (col 0 0) ∷ []) drop_note_text 1
 unfolding understood everything
-drop_cell_is = refl
+drop_note_means = record { is = refl; plain = (refl, refl); whole = refl }
 
-pub drop_cell_plain : IsPlain (understood store_schema drop_cell_text)
+pub drop_skips_means : IsDeletion 7 13 (is_param 1 0 ∷ []) drop_skips_text 1
 unfolding understood everything
-drop_cell_plain = (refl, refl)
+drop_skips_means = record { is = refl; plain = (refl, refl); whole = refl }
 
-abbrev pub drop_lists_terms : List Term
-drop_lists_terms = is_param 1 0 ∷ []
-
-pub drop_lists_is : command_of (understood store_schema drop_lists_text) ≡ Delete 4 (record { lets = []; body = table_query 7 drop_lists_terms (0 ∷ []) [] })
+pub drop_skip_means : IsDeletion 7 13 (is_param 1 0 ∷ is_param 2 1 ∷ []) drop_skip_text 2
 unfolding understood everything
-drop_lists_is = refl
+drop_skip_means = record { is = refl; plain = (refl, refl); whole = refl }
 
-pub drop_lists_plain : IsPlain (understood store_schema drop_lists_text)
+pub drop_lists_from_means : IsDeletion 4 7 (is_param 1 0 ∷ compares Ge 2 1 ∷ []) drop_lists_from_text 2
 unfolding understood everything
-drop_lists_plain = (refl, refl)
-
-abbrev pub drop_list_terms : List Term
-drop_list_terms = is_param 1 0 ∷ is_param 2 1 ∷ is_param 3 2 ∷ []
-
-pub drop_list_is : command_of (understood store_schema drop_list_text) ≡ Delete 4 (record { lets = []; body = table_query 7 drop_list_terms (0 ∷ []) [] })
-unfolding understood everything
-drop_list_is = refl
-
-pub drop_list_plain : IsPlain (understood store_schema drop_list_text)
-unfolding understood everything
-drop_list_plain = (refl, refl)
-
-abbrev pub drop_sizes_terms : List Term
-drop_sizes_terms = is_param 1 0 ∷ []
-
-pub drop_sizes_is : command_of (understood store_schema drop_sizes_text) ≡ Delete 5 (record { lets = []; body = table_query 9 drop_sizes_terms (0 ∷ []) [] })
-unfolding understood everything
-drop_sizes_is = refl
-
-pub drop_sizes_plain : IsPlain (understood store_schema drop_sizes_text)
-unfolding understood everything
-drop_sizes_plain = (refl, refl)
-
-abbrev pub drop_size_terms : List Term
-drop_size_terms = is_param 1 0 ∷ is_param 2 1 ∷ is_param 3 2 ∷ []
-
-pub drop_size_is : command_of (understood store_schema drop_size_text) ≡ Delete 5 (record { lets = []; body = table_query 9 drop_size_terms (0 ∷ []) [] })
-unfolding understood everything
-drop_size_is = refl
-
-pub drop_size_plain : IsPlain (understood store_schema drop_size_text)
-unfolding understood everything
-drop_size_plain = (refl, refl)
-
-abbrev pub drop_note_terms : List Term
-drop_note_terms = op2 (Compare Eq NoCase) (col 1 1) (col 0 0) ∷ []
-
-pub drop_note_is : command_of (understood store_schema drop_note_text) ≡ Delete 6 (record { lets = []; body = table_query 11 drop_note_terms (0 ∷ []) [] })
-unfolding understood everything
-drop_note_is = refl
-
-pub drop_note_plain : IsPlain (understood store_schema drop_note_text)
-unfolding understood everything
-drop_note_plain = (refl, refl)
-
-abbrev pub drop_skips_terms : List Term
-drop_skips_terms = is_param 1 0 ∷ []
-
-pub drop_skips_is : command_of (understood store_schema drop_skips_text) ≡ Delete 7 (record { lets = []; body = table_query 13 drop_skips_terms (0 ∷ []) [] })
-unfolding understood everything
-drop_skips_is = refl
-
-pub drop_skips_plain : IsPlain (understood store_schema drop_skips_text)
-unfolding understood everything
-drop_skips_plain = (refl, refl)
-
-abbrev pub drop_skip_terms : List Term
-drop_skip_terms = is_param 1 0 ∷ is_param 2 1 ∷ []
-
-pub drop_skip_is : command_of (understood store_schema drop_skip_text) ≡ Delete 7 (record { lets = []; body = table_query 13 drop_skip_terms (0 ∷ []) [] })
-unfolding understood everything
-drop_skip_is = refl
-
-pub drop_skip_plain : IsPlain (understood store_schema drop_skip_text)
-unfolding understood everything
-drop_skip_plain = (refl, refl)
-
-abbrev pub add_name_terms : List Term
-add_name_terms = col 0 0 ∷ lit Null ∷ col 0 1 ∷ []
-
-pub add_name_is : command_of (understood store_schema add_name_text) ≡ Insert 1 (Values add_name_terms 3)
-unfolding understood everything
-add_name_is = refl
-
-pub add_name_plain : IsPlain (understood store_schema add_name_text)
-unfolding understood everything
-add_name_plain = (refl, refl)
-
-abbrev pub add_column_terms : List Term
-add_column_terms = lit Null ∷ col 0 0 ∷ col 0 1 ∷ col 0 2 ∷ []
-
-pub add_column_is : command_of (understood store_schema add_column_text) ≡ Insert 2 (Values add_column_terms 4)
-unfolding understood everything
-add_column_is = refl
-
-pub add_column_plain : IsPlain (understood store_schema add_column_text)
-unfolding understood everything
-add_column_plain = (refl, refl)
-
-abbrev pub add_cell_terms : List Term
-add_cell_terms = lit Null ∷ col 0 0 ∷ col 0 1 ∷ col 0 2 ∷ col 0 3 ∷ col 0 4 ∷ []
-
-pub add_cell_is : command_of (understood store_schema add_cell_text) ≡ Insert 3 (Values add_cell_terms 6)
-unfolding understood everything
-add_cell_is = refl
-
-pub add_cell_plain : IsPlain (understood store_schema add_cell_text)
-unfolding understood everything
-add_cell_plain = (refl, refl)
-
-abbrev pub add_list_terms : List Term
-add_list_terms = lit Null ∷ col 0 0 ∷ col 0 1 ∷ col 0 2 ∷ col 0 3 ∷ []
-
-pub add_list_is : command_of (understood store_schema add_list_text) ≡ Insert 4 (Values add_list_terms 5)
-unfolding understood everything
-add_list_is = refl
-
-pub add_list_plain : IsPlain (understood store_schema add_list_text)
-unfolding understood everything
-add_list_plain = (refl, refl)
+drop_lists_from_means = record { is = refl; plain = (refl, refl); whole = refl }
 
 -- the terms of a row whose parameters begin at a place
 abbrev list_terms : ℕ → List Term
@@ -261,123 +150,80 @@ list_terms from = lit Null ∷ col 0 from ∷ col 0 (from + 1) ∷ col 0 (from +
 abbrev pub add_lists_terms : List Term
 add_lists_terms = flat_map list_terms (0 ∷ 4 ∷ 8 ∷ 12 ∷ 16 ∷ 20 ∷ 24 ∷ 28 ∷ [])
 
-pub add_lists_is : command_of (understood store_schema add_lists_text) ≡ Insert 4 (Values add_lists_terms 5)
+abbrev pub add_cell_terms : List Term
+add_cell_terms = lit Null ∷ col 0 0 ∷ col 0 1 ∷ col 0 2 ∷ col 0 3 ∷ col 0 4 ∷ []
+
+abbrev pub add_name_terms : List Term
+add_name_terms = col 0 0 ∷ lit Null ∷ col 0 1 ∷ []
+
+pub add_name_means : IsInsertion 1 add_name_terms 3 add_name_text 2
 unfolding understood everything
-add_lists_is = refl
+add_name_means = record { is = refl; plain = (refl, refl); whole = refl }
 
-pub add_lists_plain : IsPlain (understood store_schema add_lists_text)
+pub add_column_means : IsInsertion 2 (lit Null ∷ col 0 0 ∷ col 0 1 ∷ col 0 2 ∷ []) 4 add_column_text 3
 unfolding understood everything
-add_lists_plain = (refl, refl)
+add_column_means = record { is = refl; plain = (refl, refl); whole = refl }
 
-abbrev pub add_size_terms : List Term
-add_size_terms = lit Null ∷ col 0 0 ∷ col 0 1 ∷ col 0 2 ∷ col 0 3 ∷ []
-
-pub add_size_is : command_of (understood store_schema add_size_text) ≡ Insert 5 (Values add_size_terms 5)
+pub add_cell_means : IsInsertion 3 add_cell_terms 6 add_cell_text 5
 unfolding understood everything
-add_size_is = refl
+add_cell_means = record { is = refl; plain = (refl, refl); whole = refl }
 
-pub add_size_plain : IsPlain (understood store_schema add_size_text)
+pub add_list_means : IsInsertion 4 (lit Null ∷ col 0 0 ∷ col 0 1 ∷ col 0 2 ∷ col 0 3 ∷ []) 5 add_list_text 4
 unfolding understood everything
-add_size_plain = (refl, refl)
+add_list_means = record { is = refl; plain = (refl, refl); whole = refl }
 
-abbrev pub add_note_terms : List Term
-add_note_terms = lit Null ∷ col 0 0 ∷ []
-
-pub add_note_is : command_of (understood store_schema add_note_text) ≡ Insert 6 (Values add_note_terms 2)
+pub add_lists_means : IsInsertion 4 add_lists_terms 5 add_lists_text 32
 unfolding understood everything
-add_note_is = refl
+add_lists_means = record { is = refl; plain = (refl, refl); whole = refl }
 
-pub add_note_plain : IsPlain (understood store_schema add_note_text)
+pub add_size_means : IsInsertion 5 (lit Null ∷ col 0 0 ∷ col 0 1 ∷ col 0 2 ∷ col 0 3 ∷ []) 5 add_size_text 4
 unfolding understood everything
-add_note_plain = (refl, refl)
+add_size_means = record { is = refl; plain = (refl, refl); whole = refl }
 
-abbrev pub add_skip_terms : List Term
-add_skip_terms = lit Null ∷ col 0 0 ∷ col 0 1 ∷ []
-
-pub add_skip_is : command_of (understood store_schema add_skip_text) ≡ Insert 7 (Values add_skip_terms 3)
+pub add_note_means : IsInsertion 6 (lit Null ∷ col 0 0 ∷ []) 2 add_note_text 1
 unfolding understood everything
-add_skip_is = refl
+add_note_means = record { is = refl; plain = (refl, refl); whole = refl }
 
-pub add_skip_plain : IsPlain (understood store_schema add_skip_text)
+pub add_skip_means : IsInsertion 7 (lit Null ∷ col 0 0 ∷ col 0 1 ∷ []) 3 add_skip_text 2
 unfolding understood everything
-add_skip_plain = (refl, refl)
+add_skip_means = record { is = refl; plain = (refl, refl); whole = refl }
 
 -- ---- reads
 
 abbrev pub names_query : Query
 names_query = table_query 1 [] (0 ∷ 2 ∷ []) (0 ∷ 2 ∷ [])
 
-pub names_is : command_of (understood store_schema names_text) ≡ Select (record { lets = []; body = names_query }) (codes "id" ∷ codes "name" ∷ [])
+pub names_means : IsQuestion names_query (codes "id" ∷ codes "name" ∷ []) names_text 0
 unfolding understood everything
-names_is = refl
-
-pub names_unlisted : reads_listing store_schema names_text ≡ false
-unfolding understood everything
-names_unlisted = refl
-
-pub names_plain : IsPlain (understood store_schema names_text)
-unfolding understood everything
-names_plain = (refl, refl)
+names_means = record { is = refl; plain = (refl, refl); unlisted = refl; whole = refl }
 
 abbrev pub columns_query : Query
 columns_query = table_query 3 (is_param 1 0 ∷ []) (2 ∷ 3 ∷ []) (1 ∷ 2 ∷ [])
 
-pub columns_is : command_of (understood store_schema columns_text) ≡ Select (record { lets = []; body = columns_query }) (codes "col" ∷ codes "name" ∷ [])
+pub columns_means : IsQuestion columns_query (codes "col" ∷ codes "name" ∷ []) columns_text 1
 unfolding understood everything
-columns_is = refl
-
-pub columns_unlisted : reads_listing store_schema columns_text ≡ false
-unfolding understood everything
-columns_unlisted = refl
-
-pub columns_plain : IsPlain (understood store_schema columns_text)
-unfolding understood everything
-columns_plain = (refl, refl)
+columns_means = record { is = refl; plain = (refl, refl); unlisted = refl; whole = refl }
 
 abbrev pub skips_query : Query
 skips_query = table_query 13 (is_param 1 0 ∷ []) (2 ∷ []) (1 ∷ 2 ∷ [])
 
-pub skips_is : command_of (understood store_schema skips_text) ≡ Select (record { lets = []; body = skips_query }) (codes "col" ∷ [])
+pub skips_means : IsQuestion skips_query (codes "col" ∷ []) skips_text 1
 unfolding understood everything
-skips_is = refl
-
-pub skips_unlisted : reads_listing store_schema skips_text ≡ false
-unfolding understood everything
-skips_unlisted = refl
-
-pub skips_plain : IsPlain (understood store_schema skips_text)
-unfolding understood everything
-skips_plain = (refl, refl)
+skips_means = record { is = refl; plain = (refl, refl); unlisted = refl; whole = refl }
 
 abbrev pub cells_query : Query
 cells_query = table_query 5 (is_param 1 0 ∷ []) (2 ∷ 3 ∷ 4 ∷ 5 ∷ []) cell_order
 
-pub cells_is : command_of (understood store_schema cells_text) ≡ Select (record { lets = []; body = cells_query }) (codes "docid" ∷ codes "col" ∷ codes "num" ∷ codes "txt" ∷ [])
+pub cells_means : IsQuestion cells_query (codes "docid" ∷ codes "col" ∷ codes "num" ∷ codes "txt" ∷ []) cells_text 1
 unfolding understood everything
-cells_is = refl
-
-pub cells_unlisted : reads_listing store_schema cells_text ≡ false
-unfolding understood everything
-cells_unlisted = refl
-
-pub cells_plain : IsPlain (understood store_schema cells_text)
-unfolding understood everything
-cells_plain = (refl, refl)
+cells_means = record { is = refl; plain = (refl, refl); unlisted = refl; whole = refl }
 
 abbrev pub document_query : Query
 document_query = table_query 5 (is_param 1 0 ∷ is_param 2 1 ∷ []) (2 ∷ 3 ∷ 4 ∷ 5 ∷ []) cell_order
 
-pub document_is : command_of (understood store_schema document_text) ≡ Select (record { lets = []; body = document_query }) (codes "docid" ∷ codes "col" ∷ codes "num" ∷ codes "txt" ∷ [])
+pub document_means : IsQuestion document_query (codes "docid" ∷ codes "col" ∷ codes "num" ∷ codes "txt" ∷ []) document_text 2
 unfolding understood everything
-document_is = refl
-
-pub document_unlisted : reads_listing store_schema document_text ≡ false
-unfolding understood everything
-document_unlisted = refl
-
-pub document_plain : IsPlain (understood store_schema document_text)
-unfolding understood everything
-document_plain = (refl, refl)
+document_means = record { is = refl; plain = (refl, refl); unlisted = refl; whole = refl }
 
 -- the docids of cells, in the order of their keys
 abbrev pub docid_query : List Term → Term → Term → Query
@@ -386,134 +232,62 @@ docid_query filter limit offset = record (query_by 5 filter (2 ∷ []) (rising c
 abbrev pub docids_query : Query
 docids_query = docid_query (is_param 1 0 ∷ op2 (Compare Eq Binary) (col 1 3) (lit (Int (pos 0))) ∷ []) (col 0 1) (col 0 2)
 
-pub docids_is : command_of (understood store_schema docids_text) ≡ Select (record { lets = []; body = docids_query }) (codes "docid" ∷ [])
+pub docids_means : IsQuestion docids_query (codes "docid" ∷ []) docids_text 3
 unfolding understood everything
-docids_is = refl
-
-pub docids_unlisted : reads_listing store_schema docids_text ≡ false
-unfolding understood everything
-docids_unlisted = refl
-
-pub docids_plain : IsPlain (understood store_schema docids_text)
-unfolding understood everything
-docids_plain = (refl, refl)
+docids_means = record { is = refl; plain = (refl, refl); unlisted = refl; whole = refl }
 
 abbrev pub has_document_query : Query
 has_document_query = docid_query (is_param 1 0 ∷ is_param 2 1 ∷ []) (lit (Int (pos 1))) no_offset
 
-pub has_document_is : command_of (understood store_schema has_document_text) ≡ Select (record { lets = []; body = has_document_query }) (codes "docid" ∷ [])
+pub has_document_means : IsQuestion has_document_query (codes "docid" ∷ []) has_document_text 2
 unfolding understood everything
-has_document_is = refl
-
-pub has_document_unlisted : reads_listing store_schema has_document_text ≡ false
-unfolding understood everything
-has_document_unlisted = refl
-
-pub has_document_plain : IsPlain (understood store_schema has_document_text)
-unfolding understood everything
-has_document_plain = (refl, refl)
+has_document_means = record { is = refl; plain = (refl, refl); unlisted = refl; whole = refl }
 
 abbrev pub last_query : Query
 last_query = query_by 5 (is_param 1 0 ∷ []) (2 ∷ 3 ∷ []) (falling (1 ∷ 2 ∷ 3 ∷ [])) (lit (Int (pos 1)))
 
-pub last_is : command_of (understood store_schema last_text) ≡ Select (record { lets = []; body = last_query }) (codes "docid" ∷ codes "col" ∷ [])
+pub last_means : IsQuestion last_query (codes "docid" ∷ codes "col" ∷ []) last_text 1
 unfolding understood everything
-last_is = refl
-
-pub last_unlisted : reads_listing store_schema last_text ≡ false
-unfolding understood everything
-last_unlisted = refl
-
-pub last_plain : IsPlain (understood store_schema last_text)
-unfolding understood everything
-last_plain = (refl, refl)
+last_means = record { is = refl; plain = (refl, refl); unlisted = refl; whole = refl }
 
 abbrev pub term_query : Query
 term_query = table_query 7 (is_param 1 0 ∷ is_param 2 1 ∷ []) bare_shown list_order
 
-pub term_is : command_of (understood store_schema term_text) ≡ Select (record { lets = []; body = term_query }) (codes "docid" ∷ codes "list" ∷ [])
+pub term_means : IsQuestion term_query (codes "docid" ∷ codes "list" ∷ []) term_text 2
 unfolding understood everything
-term_is = refl
-
-pub term_unlisted : reads_listing store_schema term_text ≡ false
-unfolding understood everything
-term_unlisted = refl
-
-pub term_plain : IsPlain (understood store_schema term_text)
-unfolding understood everything
-term_plain = (refl, refl)
+term_means = record { is = refl; plain = (refl, refl); unlisted = refl; whole = refl }
 
 abbrev pub prefix_query : Query
 prefix_query = table_query 7 (is_param 1 0 ∷ compares Ge 2 1 ∷ compares Lt 2 2 ∷ []) list_shown list_order
 
-pub prefix_is : command_of (understood store_schema prefix_text) ≡ Select (record { lets = []; body = prefix_query }) (codes "docid" ∷ codes "list" ∷ codes "term" ∷ [])
+pub prefix_means : IsQuestion prefix_query (codes "docid" ∷ codes "list" ∷ codes "term" ∷ []) prefix_text 3
 unfolding understood everything
-prefix_is = refl
-
-pub prefix_unlisted : reads_listing store_schema prefix_text ≡ false
-unfolding understood everything
-prefix_unlisted = refl
-
-pub prefix_plain : IsPlain (understood store_schema prefix_text)
-unfolding understood everything
-prefix_plain = (refl, refl)
+prefix_means = record { is = refl; plain = (refl, refl); unlisted = refl; whole = refl }
 
 abbrev pub bare_prefix_query : Query
 bare_prefix_query = table_query 7 (is_param 1 0 ∷ compares Ge 2 1 ∷ compares Lt 2 2 ∷ []) bare_shown list_order
 
-pub bare_prefix_is : command_of (understood store_schema bare_prefix_text) ≡ Select (record { lets = []; body = bare_prefix_query }) (codes "docid" ∷ codes "list" ∷ [])
+pub bare_prefix_means : IsQuestion bare_prefix_query (codes "docid" ∷ codes "list" ∷ []) bare_prefix_text 3
 unfolding understood everything
-bare_prefix_is = refl
-
-pub bare_prefix_unlisted : reads_listing store_schema bare_prefix_text ≡ false
-unfolding understood everything
-bare_prefix_unlisted = refl
-
-pub bare_prefix_plain : IsPlain (understood store_schema bare_prefix_text)
-unfolding understood everything
-bare_prefix_plain = (refl, refl)
+bare_prefix_means = record { is = refl; plain = (refl, refl); unlisted = refl; whole = refl }
 
 abbrev pub lists_query : Query
 lists_query = table_query 7 (is_param 1 0 ∷ []) list_shown list_order
 
-pub lists_is : command_of (understood store_schema lists_text) ≡ Select (record { lets = []; body = lists_query }) (codes "docid" ∷ codes "list" ∷ codes "term" ∷ [])
+pub lists_means : IsQuestion lists_query (codes "docid" ∷ codes "list" ∷ codes "term" ∷ []) lists_text 1
 unfolding understood everything
-lists_is = refl
-
-pub lists_unlisted : reads_listing store_schema lists_text ≡ false
-unfolding understood everything
-lists_unlisted = refl
-
-pub lists_plain : IsPlain (understood store_schema lists_text)
-unfolding understood everything
-lists_plain = (refl, refl)
+lists_means = record { is = refl; plain = (refl, refl); unlisted = refl; whole = refl }
 
 abbrev pub sizes_query : Query
 sizes_query = table_query 9 (is_param 1 0 ∷ []) (2 ∷ 3 ∷ 4 ∷ []) cell_order
 
-pub sizes_is : command_of (understood store_schema sizes_text) ≡ Select (record { lets = []; body = sizes_query }) (codes "docid" ∷ codes "col" ∷ codes "n" ∷ [])
+pub sizes_means : IsQuestion sizes_query (codes "docid" ∷ codes "col" ∷ codes "n" ∷ []) sizes_text 1
 unfolding understood everything
-sizes_is = refl
-
-pub sizes_unlisted : reads_listing store_schema sizes_text ≡ false
-unfolding understood everything
-sizes_unlisted = refl
-
-pub sizes_plain : IsPlain (understood store_schema sizes_text)
-unfolding understood everything
-sizes_plain = (refl, refl)
+sizes_means = record { is = refl; plain = (refl, refl); unlisted = refl; whole = refl }
 
 abbrev pub noted_query : Query
 noted_query = query_by 11 [] (1 ∷ []) ((col 1 1, ascending NoCase) ∷ rising (1 ∷ [])) no_limit
 
-pub noted_is : command_of (understood store_schema noted_text) ≡ Select (record { lets = []; body = noted_query }) (codes "name" ∷ [])
+pub noted_means : IsQuestion noted_query (codes "name" ∷ []) noted_text 0
 unfolding understood everything
-noted_is = refl
-
-pub noted_unlisted : reads_listing store_schema noted_text ≡ false
-unfolding understood everything
-noted_unlisted = refl
-
-pub noted_plain : IsPlain (understood store_schema noted_text)
-unfolding understood everything
-noted_plain = (refl, refl)
+noted_means = record { is = refl; plain = (refl, refl); unlisted = refl; whole = refl }

@@ -166,22 +166,22 @@ abbrev pub blank_text : List ℕ
 blank_text = codes ""
 
 abbrev pub cells_below_text : List ℕ
-cells_below_text = codes "SELECT tab FROM cell WHERE tab < ?1 ORDER BY tab, docid, col LIMIT 1"
+cells_below_text = codes "SELECT tab FROM cell WHERE tab <= ?1 ORDER BY tab, docid, col LIMIT 1"
 
 abbrev pub cells_above_text : List ℕ
-cells_above_text = codes "SELECT tab FROM cell WHERE tab > ?1 ORDER BY tab, docid, col LIMIT 1"
+cells_above_text = codes "SELECT tab FROM cell WHERE tab >= ?1 ORDER BY tab, docid, col LIMIT 1"
 
 abbrev pub lists_below_text : List ℕ
-lists_below_text = codes "SELECT tab FROM posting WHERE tab < ?1 ORDER BY tab, term, docid LIMIT 1"
+lists_below_text = codes "SELECT tab FROM posting WHERE tab <= ?1 ORDER BY tab, term, docid LIMIT 1"
 
 abbrev pub lists_above_text : List ℕ
-lists_above_text = codes "SELECT tab FROM posting WHERE tab > ?1 ORDER BY tab, term, docid LIMIT 1"
+lists_above_text = codes "SELECT tab FROM posting WHERE tab >= ?1 ORDER BY tab, term, docid LIMIT 1"
 
 abbrev pub sizes_below_text : List ℕ
-sizes_below_text = codes "SELECT tab FROM sizes WHERE tab < ?1 ORDER BY tab, docid, col LIMIT 1"
+sizes_below_text = codes "SELECT tab FROM sizes WHERE tab <= ?1 ORDER BY tab, docid, col LIMIT 1"
 
 abbrev pub sizes_above_text : List ℕ
-sizes_above_text = codes "SELECT tab FROM sizes WHERE tab > ?1 ORDER BY tab, docid, col LIMIT 1"
+sizes_above_text = codes "SELECT tab FROM sizes WHERE tab >= ?1 ORDER BY tab, docid, col LIMIT 1"
 
 abbrev pub any_skip_text : List ℕ
 any_skip_text = codes "SELECT tab FROM skip WHERE ?1 = 1 ORDER BY tab, col LIMIT 1"

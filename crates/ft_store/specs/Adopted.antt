@@ -19,7 +19,7 @@ use Rattle.sqlite.specs.Held.{Held, state}
 use Rattle.std.specs.Prelude.{codes, ℕ}
 use Rattle.ft_store.specs.Tables.{no_schema, store_schema}
 use Rattle.ft_rows.specs.Store.{nothing_held}
-use Rattle.ft_store.specs.Calls.{AreNumbered, IsPlainFault, IsStored, Keeps}
+use Rattle.ft_store.specs.Calls.{HaveOwnRowids, IsPlainFault, IsStored, Keeps}
 use Rattle.ft_store.specs.Blame.{IsBlamed}
 use Rattle.ft_store.specs.declared.same.Layout.{Layout}
 use Rattle.ft_store.specs.declared.same.Layout.TheVariants.{Older, Present}
@@ -31,13 +31,13 @@ abbrev pub version_query : List ℕ
 version_query = codes "SELECT version FROM meta"
 
 -- what a query gives, or why it is refused
-abbrev pub Gives : State → State → Result (Vec Row Global) Error → Type 0
-Gives old new (Ok rows) = Shown version_query [] old new rows.items
-Gives old new (Err e) = FailsToQuery version_query [] old new e ⊎ IsTooLate version_query [] old new e
+abbrev pub GivesVersion : State → State → Result (Vec Row Global) Error → Type 0
+GivesVersion old new (Ok rows) = Shown version_query [] old new rows.items
+GivesVersion old new (Err e) = FailsToQuery version_query [] old new e ⊎ IsTooLate version_query [] old new e
 
 -- the database answers so when it is asked for its version, in a transaction
 abbrev pub TellsAs : {S : Type 0} → Ghosts S → Held S → Result (Vec Row Global) Error → Type 0
-TellsAs {S} g old result = (after : Held S) × Gives (state g (record old { in_transaction = true })) (state g after) result
+TellsAs {S} g old result = (after : Held S) × GivesVersion (state g (record old { in_transaction = true })) (state g after) result
 
 -- the version is one of those that stores have, or another
 abbrev pub version_cause : Value → StoreFault
@@ -101,7 +101,7 @@ other_version Present = version_of Older
 
 -- a database with the tables of a store is refused: for its version, or since two rows of a table have one rowid
 abbrev pub IsOddStore : Layout → Trees → Type 0
-IsOddStore layout db = HasVersion (other_version layout) db ⊎ ¬ AreNumbered (schema_of layout).tables db
+IsOddStore layout db = HasVersion (other_version layout) db ⊎ ¬ HaveOwnRowids (schema_of layout).tables db
 
 -- one with other tables: none of them has a name of ours, or `meta` has a version that stores have
 abbrev pub IsForeign : {S : Type 0} → Ghosts S → Held S → Type 0
@@ -116,7 +116,7 @@ IsRefusable g old =
 
 -- A database is taken as a store, and is open: one that has the tables of a store stays as it is,
 -- and of any other a store is made.
-pub record IsTaken {S : Type 0} (g : Ghosts S) (old new : Held S) : Type 0 where
+pub record IsTakenAsStore {S : Type 0} (g : Ghosts S) (old new : Held S) : Type 0 where
   pub live : HasCleanDisk (state g new) → IsTrue (state g new).is_open
   pub held : HasCleanDisk (state g new) → IsTrue (state g new).is_open → old.schema ≡ store_schema → (state g new).now ≡ (state g old).now
   pub made : HasCleanDisk (state g new) → IsTrue (state g new).is_open → old.schema ≢ store_schema → IsMadeOf (state g old).now (state g new).now.trees

@@ -1,6 +1,6 @@
 -- Steps. How tables of a store are made anew, where no row of another table stands in the way (own
 -- choice): the last ones are dropped and made again, and what they held beside is put again.
-use Rattle.std.specs.Prelude.{◌≡◌, ◌<◌, ◌≤◌, ◌+◌, ℕ, ℤ, pos, true, false, if◌then◌else◌, nat_lt, List}
+use Rattle.std.specs.Prelude.{◌≡◌, ◌<◌, ◌≤◌, ◌+◌, ◌%◌, ◌==◌, ◌+ℤ◌, ◌≤ℤ◌, ℕ, ℤ, pos, true, false, MatchBool, nat_lt, List}
 use Rattle.std.specs.Prelude.{[], ◌∷◌, length, map, drop, slice_get, slice_index_or, filter, Some, None, IsUtf8, IsTrue, Result, IfOk, OnOk}
 use Rattle.std.specs.List.{AllByRecursion, list_all}
 use Rattle.sqlite.specs.declared.types.Value.TheVariants.{Int, Text}
@@ -12,7 +12,7 @@ use Rattle.sqlite.specs.Term.{Term, lit, col, op2, holds}
 use Rattle.sqlite.specs.Query.{Query, inner, end}
 use Rattle.sqlite_sql.specs.declared.ops.BinaryOp.TheVariants.{Compare}
 use Rattle.sqlite_sql.specs.declared.ops.CompareOp.{CompareOp}
-use Rattle.sqlite_sql.specs.declared.ops.CompareOp.TheVariants.{Eq, Lt, Gt}
+use Rattle.sqlite_sql.specs.declared.ops.CompareOp.TheVariants.{Eq, Lt, Le, Ge}
 use Rattle.sqlite.specs.Collation.TheVariants.{Binary}
 use Rattle.sqlite_schema.specs.declared.schema.Keys.{Keys}
 use Rattle.sqlite.specs.Command.TheVariants.{DropTable, Select}
@@ -29,7 +29,7 @@ use Rattle.ft_rows.specs.Store.{name_cmp}
 use Rattle.ft_store.specs.Tables.{store_schema}
 use Rattle.ft_store.specs.Rows.{keyed, note_entry, value_of}
 use Rattle.ft_store.specs.Found.{found_note}
-use Rattle.ft_store.specs.Made.{first_tables, command_of, is_whole, IsTypedIn}
+use Rattle.ft_store.specs.Made.{first_tables, compiled_command, is_whole, IsTypedIn}
 use Rattle.ft_store.specs.Calls.{IsStore}
 use Rattle.ft_store.specs.Inside.{without_lists}
 use Rattle.ft_store.specs.Puts.{AreGrown}
@@ -60,7 +60,7 @@ Fills from n old new = HasFirst n new × KeepsFirst from old new × AllByRecursi
 -- in a database with one table more the text drops the one at this place
 pub record DropsNext (at : ℕ) (text : List ℕ) : Type 0 where
   pub table : Table
-  pub command : command_of (understood (first_tables (at + 1)) text) ≡ DropTable at
+  pub command : compiled_command (understood (first_tables (at + 1)) text) ≡ DropTable at
   pub plain : IsPlain (understood (first_tables (at + 1)) text)
   pub whole : is_whole text 0 (understood (first_tables (at + 1)) text) ≡ true
   pub found : slice_get (first_tables (at + 1)).tables at ≡ Some table
@@ -94,26 +94,28 @@ pub record LooksAt (text : List ℕ) (params : Row) (tree : ℕ) (terms : List T
   pub show : List ℕ
   pub order : List (Term × Key)
   pub names : List (List ℕ)
-  pub is : command_of (understood store_schema text) ≡ Select (record { lets = []; body = looks_for tree terms show order limit offset }) names
+  pub is : compiled_command (understood store_schema text) ≡ Select (record { lets = []; body = looks_for tree terms show order limit offset }) names
   pub plain : IsPlain (understood store_schema text)
   pub unlisted : reads_listing store_schema text ≡ false
   pub whole : is_whole text (length params) (understood store_schema text) ≡ true
   pub typed : IsTypedIn store_schema (looks_for tree terms show order limit offset) params
 
--- What is looked for at most once: rows of `cell`, `posting` and `sizes` whose table is below or
--- above this one, any row of `skip`, and a noted name whose rowid is below 1.
+-- What is looked for at most once: rows of `cell`, `posting` and `sizes` whose table is up to the
+-- number that is bound, or from it on, any row of `skip`, and a noted name whose rowid is below it.
 abbrev pub probe_tree : ℕ → ℕ
 probe_tree at = slice_index_or (5 ∷ 5 ∷ 7 ∷ 7 ∷ 9 ∷ 9 ∷ 13 ∷ []) at 11
 
 abbrev pub probe_term : ℕ → Term
 probe_term at =
-    let below = compared Lt (col 1 1) in
-    let above = compared Gt (col 1 1) in
+    let below = compared Le (col 1 1) in
+    let above = compared Ge (col 1 1) in
     let any = op2 (Compare Eq Binary) (col 0 0) (lit (Int (pos 1))) in
     slice_index_or (below ∷ above ∷ below ∷ above ∷ below ∷ above ∷ any ∷ []) at (compared Lt (col 1 0))
 
-abbrev pub number_bound : ℕ → ℤ → ℤ
-number_bound at tab = if nat_lt at 6 then tab else pos 1
+-- The number that is bound in a probe: no number between it and this table's is left out, and in the
+-- last two it is 1.
+abbrev pub IsNear : ℕ → ℤ → ℤ → Type 0
+IsNear at tab n = MatchBool (nat_lt at 6) (MatchBool (at % 2 == 0) (tab ≤ℤ (n +ℤ pos 1)) (n ≤ℤ (tab +ℤ pos 1))) (n ≡ pos 1)
 
 -- the text looks for the first such row
 abbrev pub IsProbe : ℕ → List ℕ → Type 0
@@ -121,9 +123,7 @@ IsProbe at text = (n : ℤ) → LooksAt text (Int n ∷ []) (probe_tree at) (pro
 
 -- there is no such row
 abbrev pub IsFree : ℕ → ℤ → Trees → Type 0
-IsFree at tab db =
-    let params = Int (number_bound at tab) ∷ [] in
-    AllByRecursion (λ r. list_all (holds (params ∷ r ∷ [])) (probe_term at ∷ []) ≡ false) (db (probe_tree at))
+IsFree at tab db = (n : ℤ) × IsNear at tab n × AllByRecursion (λ r. list_all (holds ((Int n ∷ []) ∷ r ∷ [])) (probe_term at ∷ []) ≡ false) (db (probe_tree at))
 
 -- nothing stands in the way, by the probes from one on
 abbrev pub AreFree : ℕ → ℤ → Trees → Type 0
@@ -144,7 +144,7 @@ pub record AreNotes (db : Trees) (rows : List Row) : Type 0 where
 -- ---- what is read in a transaction
 
 -- Nothing was changed so far in a transaction that began at `old`, perhaps after no step.
-pub record Stands (old new : State) : Type 0 where
+pub record IsUntouched (old new : State) : Type 0 where
   pub now : new.now ≡ old.now
   pub committed : new.committed ≡ old.committed
   pub inside : IsTrue new.in_transaction
@@ -154,7 +154,7 @@ pub record Stands (old new : State) : Type 0 where
 abbrev pub FindsInside : {S X : Type 0} → Ghosts S → Held S → Held S → Result X StoreFault → (X → Type 0) → Type 0
 FindsInside g old new result Is =
     HasCleanDisk (state g new) → IsTrue (state g old).in_transaction → (IsTrue (state g old).is_open → IsStore (state g old).now)
-    → IfOk result (λ x. Stands (state g old) (state g new) × IsTrue (state g old).is_open × Is x)
+    → IfOk result (λ x. IsUntouched (state g old) (state g new) × IsTrue (state g old).is_open × Is x)
 
 -- nothing is changed, where the disk returned what was written
 abbrev pub RestsOnOk : {S X : Type 0} → Ghosts S → Held S → Held S → Result X StoreFault → Type 0

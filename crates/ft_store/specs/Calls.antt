@@ -30,8 +30,8 @@ abbrev pub HasOwnRowids : List Row → Type 0
 HasOwnRowids rows = IsAscending (λ a b. rowid a ≢ rowid b) rows × AllByRecursion (λ r. IsTrue (is_int (rowid r))) rows
 
 -- so it is in each table of a schema
-abbrev pub AreNumbered : List Table → Trees → Type 0
-AreNumbered tables db = AllByRecursion (λ t. HasOwnRowids (db t.tree)) tables
+abbrev pub HaveOwnRowids : List Table → Trees → Type 0
+HaveOwnRowids tables db = AllByRecursion (λ t. HasOwnRowids (db t.tree)) tables
 
 -- `meta` has one row, with the version
 abbrev pub IsMarked : Trees → Type 0
@@ -41,7 +41,7 @@ IsMarked db = map (λ (r : Row). column r 2) (db 0) ≡ value.Int (pos 3) ∷ []
 pub record IsStore (db : Database) : Type 0 where
   pub schema : db.schema ≡ store_schema
   pub sound : IsDatabase db
-  pub numbered : AreNumbered store_schema.tables db.trees
+  pub numbered : HaveOwnRowids store_schema.tables db.trees
   pub marked : IsMarked db.trees
 
 -- what a step inside a transaction makes
@@ -60,7 +60,7 @@ IsPlainFault e = (e ≡ fault.Memory) ⊎ (e ≡ fault.Refused)
 
 -- What a read leaves: nothing is changed and nothing is committed, and one that is answered leaves
 -- the connection open. It is refused for such a reason.
-pub record Reads {S X : Type 0} (g : Ghosts S) (old new : Held S) (result : Result X StoreFault) (IsFault : StoreFault → Type 0) : Type 0 where
+pub record ReadsOnly {S X : Type 0} (g : Ghosts S) (old new : Held S) (result : Result X StoreFault) (IsFault : StoreFault → Type 0) : Type 0 where
   pub kept : HasCleanDisk (state g new) → Keeps (state g old) (state g new)
   pub live : HasCleanDisk (state g new) → OnOk result (IsTrue (state g new).is_open)
   pub mode : (state g new).in_transaction ≡ false
@@ -110,7 +110,7 @@ pub record Goes (old now : State) (value : StoreValue) : Type 0 where
 -- trees that are a store with this value, as an adoption finds them
 pub record IsStored (db : Trees) (value : StoreValue) : Type 0 where
   pub sound : IsSound store_schema db
-  pub numbered : AreNumbered store_schema.tables db
+  pub numbered : HaveOwnRowids store_schema.tables db
   pub marked : IsMarked db
   pub is : value_of db ≡ value
 

@@ -30,5 +30,5 @@ IsList tab row term [] = ⊥
 IsList tab row term (p ∷ ps) = found_places tab row ≡ ((tab, term, p.docid), map spot_of (p ∷ ps))
 
 -- how many places the lists of terms have
-abbrev pub place_count : List TermLists → ℕ
-place_count terms = sum_by (λ t. length t.postings.items) terms
+abbrev pub posting_count : List TermLists → ℕ
+posting_count terms = sum_by (λ t. length t.postings.items) terms

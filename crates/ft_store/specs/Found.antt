@@ -12,8 +12,8 @@ use Rattle.ft_rows.specs.Store.{CellKey, ListKey, ColumnKey}
 use Rattle.ft_store.specs.Rows.{text_in, cell_in}
 
 -- a table's number and name
-abbrev pub name_of : TabRow → ℤ × List ℕ
-name_of table = (table.id, string_bytes table.name)
+abbrev pub id_and_name : TabRow → ℤ × List ℕ
+id_and_name table = (table.id, string_bytes table.name)
 
 abbrev pub found_table : Row → ℤ × List ℕ
 found_table row = (id_in (column row 0), bytes (column row 1))

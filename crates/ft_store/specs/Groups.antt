@@ -17,15 +17,15 @@ use Rattle.ft_store.specs.Rows.{value_of}
 use Rattle.ft_store.specs.Calls.{IsStore, Goes}
 
 -- a packed list under its key
-abbrev pub Entry : Type 0
-Entry = ListKey × List ℕ
+abbrev pub PackedList : Type 0
+PackedList = ListKey × List ℕ
 
 -- what is bound for its row
-abbrev pub entry_values : Entry → Row
+abbrev pub entry_values : PackedList → Row
 entry_values e = Int e.0.0 ∷ Text e.0.1 ∷ Int e.0.2 ∷ Blob e.1 ∷ []
 
 -- with the places that it stands for, none for a damaged list
-abbrev pub entry_spots : Entry → ListKey × List Spot
+abbrev pub entry_spots : PackedList → ListKey × List Spot
 entry_spots e = (e.0, unwrap_or (spots_in e.1) [])
 
 -- rows that are put one after the other
@@ -33,11 +33,11 @@ abbrev pub put_each : {K X : Type 0} → (K → K → Ordering) → List (K × X
 put_each R [] rows = rows
 put_each R (e ∷ es) rows = put_each R es (put R e.0 e.1 rows)
 
-abbrev pub with_entries : List Entry → StoreValue → StoreValue
-with_entries es store = record store { lists = put_each list_key_cmp (map entry_spots es) store.lists }
+abbrev pub with_lists : List PackedList → StoreValue → StoreValue
+with_lists es store = record store { lists = put_each list_key_cmp (map entry_spots es) store.lists }
 
 -- the list that a change puts, where it puts one that can be packed
-abbrev pub entry_put : RowChange → Entry
+abbrev pub entry_put : RowChange → PackedList
 entry_put (row.PutEntries tab term docid spots) = ((tab, string_bytes term, docid), packed_spots spots.items)
 entry_put _ = ((pos 0, [], pos 0), [])
 

@@ -12,6 +12,7 @@ pub mod Puts
 pub mod Parts
 -- Steps
 pub mod Anew
+pub mod Changes
 pub mod Expected
 pub mod Found
 pub mod Groups

@@ -26,11 +26,11 @@ use Rattle.sqlite.specs.Effect.{Database, IsDatabase, IsShown}
 use Rattle.sqlite.specs.Order.{Row}
 use Rattle.sqlite.specs.Query.{Query}
 use Rattle.ft_store.specs.Tables.{store_schema}
-use Rattle.ft_store.specs.Calls.{AreNumbered}
+use Rattle.ft_store.specs.Calls.{HaveOwnRowids}
 
-abbrev pub command_of : Result Compiled CompileError → Command
-command_of (Ok c) = c.command
-command_of (Err e) = Nothing
+abbrev pub compiled_command : Result Compiled CompileError → Command
+compiled_command (Ok c) = c.command
+compiled_command (Err e) = Nothing
 
 abbrev pub statement_of : List ℕ → Result Compiled CompileError → List ℕ
 statement_of sql (Ok c) = text_of sql c
@@ -55,8 +55,8 @@ pub record IsEmptyOf (s : Schema) (db : Database) : Type 0 where
   pub sound : IsDatabase db
 
 -- under this schema the text makes this table
-pub record Makes (schema : Schema) (text : List ℕ) (table : Table) : Type 0 where
-  pub command : command_of (understood schema text) ≡ CreateTable
+pub record MakesTableOf (schema : Schema) (text : List ℕ) (table : Table) : Type 0 where
+  pub command : compiled_command (understood schema text) ≡ CreateTable
   pub plain : IsPlain (understood schema text)
   pub whole : statement_of text (understood schema text) ≡ text
   pub defined : table_defined_by text ≡ Ok table
@@ -83,7 +83,7 @@ first_tables n = record { tables = take n store_schema.tables; indexes = take (n
 -- in a database with so many of a store's tables the text makes the next one
 pub record MakesNext (made : ℕ) (text : List ℕ) : Type 0 where
   pub table : Table
-  pub makes : Makes (first_tables made) text table
+  pub makes : MakesTableOf (first_tables made) text table
   pub allowed : IsAllowed (first_tables made) text table
   pub next : created (first_tables made) table ≡ first_tables (made + 1)
 
@@ -91,7 +91,7 @@ pub record MakesNext (made : ℕ) (text : List ℕ) : Type 0 where
 pub record IsTabled (db : Database) : Type 0 where
   pub schema : db.schema ≡ store_schema
   pub sound : IsDatabase db
-  pub numbered : AreNumbered store_schema.tables db.trees
+  pub numbered : HaveOwnRowids store_schema.tables db.trees
 
 -- the same, where `meta` has no row
 pub record IsUnmarked (db : Database) : Type 0 where

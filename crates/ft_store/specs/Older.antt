@@ -11,7 +11,7 @@ use Rattle.ft_store.specs.declared.same.Layout.TheVariants.{Older, Present}
 use Rattle.ft_store.specs.Tables.{store_schema}
 use Rattle.ft_rows.specs.Store.{StoreValue}
 use Rattle.ft_store.specs.Rows.{value_of}
-use Rattle.ft_store.specs.Calls.{AreNumbered, IsStore}
+use Rattle.ft_store.specs.Calls.{HaveOwnRowids, IsStore}
 
 -- the tables of a store of version 2 are those of a store but for the last, `skip`
 abbrev pub older_schema : Schema
@@ -39,13 +39,13 @@ HasStoreTables schema = (schema ≡ store_schema) ⊎ (schema ≡ older_schema)
 pub record IsStoreBy (layout : Layout) (db : Database) : Type 0 where
   pub schema : db.schema ≡ schema_of layout
   pub sound : IsDatabase db
-  pub numbered : AreNumbered (schema_of layout).tables db.trees
+  pub numbered : HaveOwnRowids (schema_of layout).tables db.trees
   pub marked : map (λ (r : Row). column r 2) (db.trees 0) ≡ Int (version_of layout) ∷ []
 
 -- trees that are a store of version 2
 pub record IsOlder (db : Trees) : Type 0 where
   pub sound : IsSound older_schema db
-  pub numbered : AreNumbered older_schema.tables db
+  pub numbered : HaveOwnRowids older_schema.tables db
   pub marked : map (λ (r : Row). column r 2) (db 0) ≡ Int (pos 2) ∷ []
 
 -- what they hold: every column is indexed

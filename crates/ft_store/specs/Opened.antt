@@ -8,7 +8,7 @@ use Rattle.sqlite.specs.Held.{Held, IsNew}
 use Rattle.sqlite.specs.Start.{FindsIn}
 use Rattle.sqlite.specs.State.{HasCleanDisk}
 use Rattle.ft_store.specs.declared.fault.StoreFault.{StoreFault}
-use Rattle.ft_store.specs.Adopted.{IsTaken, IsNotTaken, LeavesMade}
+use Rattle.ft_store.specs.Adopted.{IsTakenAsStore, IsNotTaken, LeavesMade}
 use Rattle.ft_store.specs.Calls.{IsPlainFault}
 use Rattle.ft_store.specs.Kept.{StoreState}
 
@@ -19,7 +19,7 @@ pub record IsOpenedFrom {D : Type 0} {g : disk.Ghosts D} (image : Image) (store 
   pub fresh : IsNew conn
   pub opened : HasCleanDisk (file_state conn) → IsOpened conn
   pub found : HasCleanDisk (file_state conn) → FindsIn image (file_state conn)
-  pub taken : IsTaken over_files conn store
+  pub taken : IsTakenAsStore over_files conn store
   pub left : LeavesMade over_files conn store
 
 -- The same up to the end, where the database was not taken, for this cause.

@@ -26,7 +26,7 @@ use Rattle.ft_store.specs.declared.fault.StoreFault.TheVariants as fault
 use Rattle.ft_store.specs.Rows.{txt_of, value_of}
 use Rattle.ft_store.specs.Calls.{IsStore}
 use Rattle.ft_store.specs.Blame.{IsBlamed}
-use Rattle.ft_store.specs.Groups.{Entry}
+use Rattle.ft_store.specs.Groups.{PackedList}
 
 -- a number, and 0 for one below it
 abbrev pub at_least_zero : ℤ → ℕ
@@ -63,13 +63,13 @@ abbrev pub IsTooBig : ℕ → ℕ → Type 0
 IsTooBig values count = 10 ^ 9 < 18 * values + count
 
 -- how many rows a change puts whose rowids the database gives
-abbrev pub rows_of : Change → ℕ
-rows_of (AddTable tab name columns skipped) = length columns + length skipped
-rows_of (PutCell tab docid column value) = 1
-rows_of (PutEntries tab term docid spots) = 1
-rows_of (PutSize tab docid column n) = 1
-rows_of (Note name) = 1
-rows_of _ = 0
+abbrev pub rows_put : Change → ℕ
+rows_put (AddTable tab name columns skipped) = length columns + length skipped
+rows_put (PutCell tab docid column value) = 1
+rows_put (PutEntries tab term docid spots) = 1
+rows_put (PutSize tab docid column n) = 1
+rows_put (Note name) = 1
+rows_put _ = 0
 
 -- another table has the name, but for the case of its letters
 pub record IsOthers (tab : ℤ) (name : List ℕ) (tables : List (ℤ × List ℕ)) : Type 0 where
@@ -96,7 +96,7 @@ pub record CantPutAll (db : Trees) (changes : List Change) : Type 0 where
   pub change : Change
   pub left : List Change
   pub are : changes ≡ done ++ change ∷ left
-  pub why : CantPut (sum_by rows_of changes) db (all_applied done (value_of db)) change
+  pub why : CantPut (sum_by rows_put changes) db (all_applied done (value_of db)) change
 
 -- in a transaction of a store a call is refused only by what lies outside it, or for a reason in
 -- the rows that it had before the call
@@ -150,7 +150,7 @@ KeepsRestIfOpen g old new result tree =
     → OnOk result (KeepsRest tree (state g old).now.trees (state g new).now.trees)
 
 -- a list that is added is too big
-abbrev pub IsBigEntry : Entry → Type 0
+abbrev pub IsBigEntry : PackedList → Type 0
 IsBigEntry e = IsTooBig 5 (length e.0.1 + length e.1)
 
 -- a call outside a transaction is refused by the database only so

@@ -13,8 +13,8 @@ use Rattle.ft_store.specs.declared.same.Shape.{Shape}
 use Rattle.ft_store.specs.Tables.{a_column, a_table, key_index}
 
 -- a column, by its shape
-abbrev pub column_of : Field → Column
-column_of field = a_column field.0.now field.1 field.2 field.3
+abbrev pub column_shaped : Field → Column
+column_shaped field = a_column field.0.now field.1 field.2 field.3
 
 -- that one of a cell's two values is NULL at least
 abbrev pub cell_test : Term
@@ -33,9 +33,9 @@ orders_of [] digits = []
 orders_of (x ∷ xs) digits = record { digits = digits } ∷ []
 
 -- a table, by its shape
-abbrev pub table_of : Shape → Table
-table_of shape =
-    a_table shape.1 shape.0.now (map column_of shape.2.now) shape.3.0 shape.3.1.now (uniques_of shape.3.2.now) (orders_of shape.3.2.now shape.3.3)
+abbrev pub table_shaped : Shape → Table
+table_shaped shape =
+    a_table shape.1 shape.0.now (map column_shaped shape.2.now) shape.3.0 shape.3.1.now (uniques_of shape.3.2.now) (orders_of shape.3.2.now shape.3.3)
     (if shape.4 then cell_check else [])
 
 -- the index of a table's key, of which the tree stands after that of the table

@@ -15,7 +15,7 @@ use Rattle.sqlite_rules.specs.Lists.{Has}
 use Rattle.sqlite.specs.Listing.{understood, reads_listing}
 use Rattle.sqlite.specs.Given.{IsPlain}
 use Rattle.sqlite.specs.Schema.{Schema}
-use Rattle.ft_store.specs.Made.{command_of, is_whole, IsTypedIn}
+use Rattle.ft_store.specs.Made.{compiled_command, is_whole, IsTypedIn}
 
 -- the query of the rowids of a tree, in their order
 abbrev pub rowids_of : ℕ → Query
@@ -34,7 +34,7 @@ rowids_of tree = record {
 -- over the tables of this schema the text is that query
 pub record Scans (schema : Schema) (text : List ℕ) (tree : ℕ) : Type 0 where
   pub names : List (List ℕ)
-  pub is : command_of (understood schema text) ≡ Select (record { lets = []; body = rowids_of tree }) names
+  pub is : compiled_command (understood schema text) ≡ Select (record { lets = []; body = rowids_of tree }) names
   pub plain : IsPlain (understood schema text)
   pub unlisted : reads_listing schema text ≡ false
   pub whole : is_whole text 0 (understood schema text) ≡ true

@@ -14,7 +14,7 @@ use Rattle.ft_values.specs.declared.rows.Spot.{Spot}
 use Rattle.ft_values.specs.declared.rows.ListRow.{ListRow}
 use Rattle.ft_values.specs.declared.rows.EntryRow.{EntryRow}
 use Rattle.ft_rows.specs.Store.{ListKey, nothing_held}
-use Rattle.ft_rows.specs.Shown.{shown_entry, entries_of, AreRead, SomeDamaged}
+use Rattle.ft_rows.specs.Shown.{shown_entry, entries_of, AreListRows, SomeDamaged}
 use Rattle.ft_store.specs.declared.examine.Rowids.{Rowids}
 use Rattle.ft_store.specs.declared.examine.Rowids.TheVariants.{Apart, Unknown}
 use Rattle.ft_store.specs.declared.fault.StoreFault.{StoreFault}
@@ -23,7 +23,7 @@ use Rattle.ft_store.specs.declared.same.Layout.{Layout}
 use Rattle.ft_store.specs.Tables.{no_schema}
 use Rattle.ft_store.specs.Rows.{value_of}
 use Rattle.ft_store.specs.Older.{schema_of}
-use Rattle.ft_store.specs.Calls.{AreNumbered, AreTold, IsStore, IsPlainFault, IsReadFault, Keeps, Reads}
+use Rattle.ft_store.specs.Calls.{HaveOwnRowids, AreTold, IsStore, IsPlainFault, IsReadFault, Keeps, ReadsOnly}
 use Rattle.ft_store.specs.Adopted.{IsOfVersion}
 
 -- Outside a transaction, with a database that has this property as long as the disk returns what
@@ -51,11 +51,11 @@ IsEmptyStore db = IsStore db × (value_of db.trees ≡ nothing_held)
 -- what is known of the rowids of its tables, as long as the disk returns what was written and the
 -- connection is open
 abbrev pub AreAsKnown : Rowids → State → Type 0
-AreAsKnown Apart s = HasCleanDisk s → IsTrue s.is_open → AreNumbered s.now.schema.tables s.now.trees
+AreAsKnown Apart s = HasCleanDisk s → IsTrue s.is_open → HaveOwnRowids s.now.schema.tables s.now.trees
 AreAsKnown Unknown s = Unit {0}
 
 -- What is answered without a database: on Ok such a value, and otherwise a plain fault.
-pub record Finds {X : Type 0} (result : Result X StoreFault) (Is : X → Type 0) : Type 0 where
+pub record FindsOrRefuses {X : Type 0} (result : Result X StoreFault) (Is : X → Type 0) : Type 0 where
   pub found : IfOk result Is
   pub fault : IfErr result IsPlainFault
 
@@ -87,7 +87,7 @@ pub record IsJudged (db : Trees) (result : Result (Unit {0}) StoreFault) : Type 
 -- a value.
 pub record ReadsFor {S X : Type 0} (g : Ghosts S) (old new : Held S) (result : Result X StoreFault) (Is : X → Type 0) : Type 0 where
   pub rows : HasCleanDisk (state g new) → IfOk result Is
-  pub read : Reads g old new result IsPlainFault
+  pub read : ReadsOnly g old new result IsPlainFault
 
 -- What a read of lists answers and leaves: where the disk returned what was written, an answer of
 -- Ok is such a value, and Damaged means that one of the lists is, or has a term that is no text,
@@ -96,11 +96,11 @@ pub record ReadsLists {S X : Type 0} (g : Ghosts S) (old new : Held S) (result :
   pub rows : HasCleanDisk (state g new) → IfOk result Are
   pub damaged : HasCleanDisk (state g new) → result ≡ Err fault.Damaged → IsDamaged
   pub stays : HasCleanDisk (state g new) → result ≡ Err fault.Damaged → IsTrue (state g new).is_open
-  pub read : Reads g old new result IsReadFault
+  pub read : ReadsOnly g old new result IsReadFault
 
 -- each list that was asked for, with its places
 abbrev pub GivesLists : {S : Type 0} → Ghosts S → Held S → Held S → Result (Vec ListRow Global) StoreFault → List (ListKey × List Spot) → Type 0
-GivesLists g old new result asked = ReadsLists g old new result (λ found. AreRead asked found.items) (SomeDamaged asked)
+GivesLists g old new result asked = ReadsLists g old new result (λ found. AreListRows asked found.items) (SomeDamaged asked)
 
 -- each place in them, with its term, where the terms are read: each is a text
 abbrev pub GivesTold : {S : Type 0} → Ghosts S → Held S → Held S → Result (Vec EntryRow Global) StoreFault → List (ListKey × List Spot) → Type 0

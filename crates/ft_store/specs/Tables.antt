@@ -19,8 +19,8 @@ use Rattle.sqlite.specs.Term.{Term, lit, col, op2}
 abbrev pub a_column : List ℕ → Kind → Bool → Collation → Column
 a_column name kind not_null collation = record { name = name; kind = kind; is_strict = true; not_null = not_null; default = Null; collation = collation }
 
-abbrev pub number : List ℕ → Column
-number name = a_column name Integer true Binary
+abbrev pub int_column : List ℕ → Column
+int_column name = a_column name Integer true Binary
 
 abbrev pub plain_order : Order
 plain_order = record { digits = 0 }
@@ -50,7 +50,7 @@ abbrev pub keyed_table : ℕ → List ℕ → List Column → List ℕ → List 
 keyed_table tree name columns key checks = a_table tree name columns None key (key ∷ []) (plain_order ∷ []) checks
 
 abbrev pub meta_table : ℕ → Table
-meta_table tree = a_table tree (codes "meta") (a_column (codes "one") Integer false Binary ∷ number (codes "version") ∷ []) (Some 0) (0 ∷ []) [] [] []
+meta_table tree = a_table tree (codes "meta") (a_column (codes "one") Integer false Binary ∷ int_column (codes "version") ∷ []) (Some 0) (0 ∷ []) [] [] []
 
 abbrev pub tab_table : ℕ → Table
 tab_table tree =
@@ -58,28 +58,31 @@ tab_table tree =
     ((2 ∷ []) ∷ []) (case_order ∷ []) []
 
 abbrev pub col_table : ℕ → Table
-col_table tree = keyed_table tree (codes "col") (number (codes "tab") ∷ number (codes "col") ∷ a_column (codes "name") Text true Binary ∷ []) (1 ∷ 2 ∷ []) []
+col_table tree =
+    keyed_table tree (codes "col") (int_column (codes "tab") ∷ int_column (codes "col") ∷ a_column (codes "name") Text true Binary ∷ []) (1 ∷ 2 ∷ []) []
 
 abbrev pub cell_table : ℕ → Table
 cell_table tree = keyed_table tree (codes "cell")
-    (number (codes "tab") ∷ number (codes "docid") ∷ number (codes "col")
+    (int_column (codes "tab") ∷ int_column (codes "docid") ∷ int_column (codes "col")
     ∷ a_column (codes "num") Integer false Binary ∷ a_column (codes "txt") Text false Binary ∷ [])
     (1 ∷ 2 ∷ 3 ∷ []) (op2 Or (op2 (Is Binary) (col 1 4) (lit Null)) (op2 (Is Binary) (col 1 5) (lit Null)) ∷ [])
 
 abbrev pub posting_table : ℕ → Table
 posting_table tree = keyed_table tree (codes "posting")
-    (number (codes "tab") ∷ a_column (codes "term") Text true Binary ∷ number (codes "docid") ∷ a_column (codes "list") Blob true Binary ∷ [])
+    (int_column (codes "tab") ∷ a_column (codes "term") Text true Binary ∷ int_column (codes "docid") ∷ a_column (codes "list") Blob true Binary ∷ [])
     (1 ∷ 2 ∷ 3 ∷ []) []
 
 abbrev pub sizes_table : ℕ → Table
 sizes_table tree =
-    keyed_table tree (codes "sizes") (number (codes "tab") ∷ number (codes "docid") ∷ number (codes "col") ∷ number (codes "n") ∷ []) (1 ∷ 2 ∷ 3 ∷ []) []
+    keyed_table tree (codes "sizes")
+    (int_column (codes "tab") ∷ int_column (codes "docid") ∷ int_column (codes "col") ∷ int_column (codes "n") ∷ [])
+    (1 ∷ 2 ∷ 3 ∷ []) []
 
 abbrev pub noted_table : ℕ → Table
 noted_table tree = a_table tree (codes "noted") (a_column (codes "name") Text true NoCase ∷ []) None (1 ∷ []) ((1 ∷ []) ∷ []) (case_order ∷ []) []
 
 abbrev pub skip_table : ℕ → Table
-skip_table tree = keyed_table tree (codes "skip") (number (codes "tab") ∷ number (codes "col") ∷ []) (1 ∷ 2 ∷ []) []
+skip_table tree = keyed_table tree (codes "skip") (int_column (codes "tab") ∷ int_column (codes "col") ∷ []) (1 ∷ 2 ∷ []) []
 
 -- the index that a key makes
 abbrev pub key_index : List ℕ → ℕ → ℕ → List ℕ → Order → Index

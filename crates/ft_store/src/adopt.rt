@@ -2,7 +2,7 @@
 ghost use Rattle.std.specs.Prelude.{◌≡◌, ◌⊎◌, false, IsTrue, IfErr, OnOk};
 ghost use Rattle.sqlite.specs.State.{HasCleanDisk};
 ghost use Rattle.sqlite.specs.Held.{state};
-ghost use Rattle.ft_store.specs.Adopted.{TellsAs, rows_cause, error_cause, told_cause, has_our_name, IsAdoptFault, IsForeign, IsTaken, IsNotTaken, LeavesMade};
+ghost use Rattle.ft_store.specs.Adopted.{TellsAs, rows_cause, error_cause, told_cause, has_our_name, IsAdoptFault, IsForeign, IsTakenAsStore, IsNotTaken, LeavesMade};
 ghost use Rattle.ft_store.specs.Blame.{IsBlamed};
 ghost use Rattle.ft_store.specs.Calls.{IsStoreIfOpen};
 ghost use Rattle.ft_store.specs.Settled.{AreAsKnown, LeavesAlone};
@@ -17,8 +17,8 @@ use sqlite::{Alter, Connection, Error as SqlError, ErrorCode, Row};
 use sqlite_schema::schema::Schema;
 use std::alloc::Global;
 
-/// What the database answers when it is asked for its version, whatever its tables are. It changes
-/// nothing.
+// What the database answers when it is asked for its version, whatever its tables are. It changes
+// nothing.
 fn version_answer<S: Alter>(conn: &mut Connection<S>) -> Result<Vec<Row>, SqlError>
     requires settled { (state S.Store conn.old).in_transaction ≡ false }
     ensures told { HasCleanDisk (state S.Store conn.new) → TellsAs S.Store conn.old result }
@@ -63,7 +63,7 @@ fn cause_of_error(error: &SqlError) -> StoreFault
     }
 }
 
-/// Whether a table has the name of one of a store.
+// Whether a table has the name of one of a store.
 fn names_ours(schema: &Schema) -> bool
     ensures { result ≡ has_our_name schema.now }
 {
@@ -71,7 +71,7 @@ fn names_ours(schema: &Schema) -> bool
     tables.any(|table| is_our_name(table.name.as_slice()))
 }
 
-/// Why a database with other tables is not taken. It changes nothing.
+// Why a database with other tables is not taken. It changes nothing.
 fn foreign<S: Alter>(conn: &mut Connection<S>) -> StoreFault
     requires settled { (state S.Store conn.old).in_transaction ≡ false }
     ensures none { has_our_name (state S.Store conn.old).now.schema ≡ false
@@ -104,7 +104,7 @@ pub(crate) fn take<S: Alter>(
     requires settled { (state S.Store conn.old).in_transaction ≡ false }
     requires known { AreAsKnown rowids (state S.Store conn.old) }
     ensures store { OnOk result (IsStoreIfOpen (state S.Store conn.new)) }
-    ensures taken { OnOk result (IsTaken S.Store conn.old conn.new) }
+    ensures taken { OnOk result (IsTakenAsStore S.Store conn.old conn.new) }
     ensures refused { IfErr result (IsNotTaken S.Store conn.old conn.new) }
     ensures mode { (state S.Store conn.new).in_transaction ≡ false }
     ensures crash { LeavesMade S.Store conn.old conn.new }

@@ -13,15 +13,16 @@ ghost use Rattle.ft_rows.specs.Store.{list_key_cmp, name_cmp, without_index};
 ghost use Rattle.ft_store.specs.Blame.{BlamesIn, BlamesOutside};
 ghost use Rattle.ft_store.specs.Calls.{StepsOnOk};
 ghost use Rattle.ft_store.specs.Inside.{DoneInside, MakesInside, StepsInside, StepsInsideIfOpen, without_contents, without_lists};
-ghost use Rattle.ft_store.specs.Puts.{IsFull, GrowsOnOk, GrowsIfOpen, BlamesRows, BlamesIfOpen, KeepsRestOnOk, KeepsRestIfOpen};
+ghost use Rattle.ft_store.specs.Puts.{IsFull, GrowsOnOk, KeepsRestOnOk, KeepsRestIfOpen};
+ghost use Rattle.ft_store.specs.Changes.{Changes, ChangesIfOpen, Drops};
 ghost use Rattle.ft_store.specs.Groups.{put_each};
 ghost use Rattle.ft_store.specs.Found.{found_note};
-ghost use Rattle.ft_store.specs.Anew.{HasFirst, DropsLast, DropsNext, Fills, LooksAt, IsProbe, number_bound, IsFree, AreFree, IsShortNote, AreNotes, FindsInside, RestsOnOk, ThinsOnOk};
+ghost use Rattle.ft_store.specs.Anew.{HasFirst, DropsLast, DropsNext, Fills, LooksAt, IsProbe, IsNear, IsFree, AreFree, IsShortNote, AreNotes, FindsInside, RestsOnOk, ThinsOnOk};
 
 use crate::fault::StoreFault;
 use crate::make::create;
-use crate::sql::NOTED;
-use crate::statements::{beside, drop_contents, drop_lists, drop_sizes, put_note, run};
+use crate::sql::{DROP_CONTENTS, DROP_LISTS, DROP_LISTS_FROM, DROP_SIZES, NOTED};
+use crate::statements::{beside, delete, put_note, run};
 use sqlite::types::{ToSql, ValueRef};
 use sqlite::{Alter, Row, Transaction};
 
@@ -31,7 +32,7 @@ const MANY: usize = 1000;
 /// A noted name that is put again has fewer bytes.
 const LONG: usize = 1_000_000;
 
-/// Whether the transaction goes on: only then a statement is run. It does nothing.
+// Whether the transaction goes on: only then a statement is run. It does nothing.
 fn go_on<S: Alter>(tx: &mut Transaction<'_, S>) -> Result<(), StoreFault>
     ensures done { DoneInside S.Store tx.old.conn tx.new.conn result
         (RestsOnOk S.Store tx.old.conn.now tx.new.conn.now result) }
@@ -43,7 +44,7 @@ fn go_on<S: Alter>(tx: &mut Transaction<'_, S>) -> Result<(), StoreFault>
     Ok(())
 }
 
-/// The rows of a query in a transaction.
+// The rows of a query in a transaction.
 fn look<S: Alter>(
     tx: &mut Transaction<'_, S>,
     sql: &str,
@@ -74,31 +75,39 @@ const CELL_PROBE: usize = 0;
 
 const INDEX_PROBE: usize = 2;
 
-/// A query of one row that stands in the way: one of another table, one of `skip`, or a noted name
-/// whose number is below 1.
+// A query of one row that stands in the way: one of another table, one of `skip`, or a noted name
+// whose number is below 1. The engine looks a bound with an equals sign up by the key, and reads
+// all rows for one without.
 fn probe_text(at: usize) -> &'static str
     ensures { at < 8 → IsProbe at result.now }
 {
     match at {
-        0 => "SELECT tab FROM cell WHERE tab < ?1 ORDER BY tab, docid, col LIMIT 1",
-        1 => "SELECT tab FROM cell WHERE tab > ?1 ORDER BY tab, docid, col LIMIT 1",
-        2 => "SELECT tab FROM posting WHERE tab < ?1 ORDER BY tab, term, docid LIMIT 1",
-        3 => "SELECT tab FROM posting WHERE tab > ?1 ORDER BY tab, term, docid LIMIT 1",
-        4 => "SELECT tab FROM sizes WHERE tab < ?1 ORDER BY tab, docid, col LIMIT 1",
-        5 => "SELECT tab FROM sizes WHERE tab > ?1 ORDER BY tab, docid, col LIMIT 1",
+        0 => "SELECT tab FROM cell WHERE tab <= ?1 ORDER BY tab, docid, col LIMIT 1",
+        1 => "SELECT tab FROM cell WHERE tab >= ?1 ORDER BY tab, docid, col LIMIT 1",
+        2 => "SELECT tab FROM posting WHERE tab <= ?1 ORDER BY tab, term, docid LIMIT 1",
+        3 => "SELECT tab FROM posting WHERE tab >= ?1 ORDER BY tab, term, docid LIMIT 1",
+        4 => "SELECT tab FROM sizes WHERE tab <= ?1 ORDER BY tab, docid, col LIMIT 1",
+        5 => "SELECT tab FROM sizes WHERE tab >= ?1 ORDER BY tab, docid, col LIMIT 1",
         6 => "SELECT tab FROM skip WHERE ?1 = 1 ORDER BY tab, col LIMIT 1",
         _ => "SELECT rowid FROM noted WHERE rowid < ?1 ORDER BY rowid LIMIT 1",
     }
 }
 
-/// What is bound in it.
+// What is bound in it: the last number below the table's, or the first one above it.
 fn probe_number(at: usize, tab: i64) -> i64
-    ensures { result ≡ number_bound at tab }
+    ensures { IsNear at tab result }
 {
-    if at < 6 { tab } else { 1 }
+    if at >= 6 {
+        return 1;
+    }
+    if at % 2 == 0 {
+        tab.saturating_sub(1)
+    } else {
+        tab.saturating_add(1)
+    }
 }
 
-/// Whether one of the queries gives no row.
+// Whether one of the queries gives no row.
 fn is_free<S: Alter>(tx: &mut Transaction<'_, S>, tab: i64, at: usize) -> Result<bool, StoreFault>
     requires { at < 8 }
     ensures done { DoneInside S.Store tx.old.conn tx.new.conn result
@@ -111,7 +120,7 @@ fn is_free<S: Alter>(tx: &mut Transaction<'_, S>, tab: i64, at: usize) -> Result
     Ok(found.is_empty())
 }
 
-/// Whether no row stands in the way, by the queries from one on.
+// Whether no row stands in the way, by the queries from one on.
 fn is_alone<S: Alter>(
     tx: &mut Transaction<'_, S>,
     tab: i64,
@@ -131,7 +140,7 @@ fn is_alone<S: Alter>(
     Ok(true)
 }
 
-/// Whether a table has so many lists that to make the tables anew takes less time.
+// Whether a table has so many lists that to make the tables anew takes less time.
 fn has_many<S: Alter>(tx: &mut Transaction<'_, S>, tab: i64) -> Result<bool, StoreFault>
     ensures done { DoneInside S.Store tx.old.conn tx.new.conn result
         (FindsInside S.Store tx.old.conn.now tx.new.conn.now result (λ _. ⊤)) }
@@ -145,7 +154,7 @@ fn has_many<S: Alter>(tx: &mut Transaction<'_, S>, tab: i64) -> Result<bool, Sto
     Ok(!found.is_empty())
 }
 
-/// The noted name in a row, if it can be put again.
+// The noted name in a row, if it can be put again.
 fn name_in(row: &Row) -> Option<&str>
     ensures found { IfSome result (λ name. (column row.now 0 ≡ Text name.now)
         × IsUtf8 name.now × (length name.now < 1000000)) }
@@ -158,7 +167,7 @@ fn name_in(row: &Row) -> Option<&str>
     if name.len() < LONG { Some(name) } else { None }
 }
 
-/// Whether all noted names in rows can be put again.
+// Whether all noted names in rows can be put again.
 fn are_short(rows: &[Row]) -> bool
     ensures { IsTrue result → (length rows.now < 1000) × All IsShortNote rows.now }
 {
@@ -173,7 +182,7 @@ fn are_short(rows: &[Row]) -> bool
     true
 }
 
-/// The noted names, where the tables can be made anew.
+// The noted names, where the tables can be made anew.
 fn notes_beside<S: Alter>(
     tx: &mut Transaction<'_, S>,
     tab: i64,
@@ -200,7 +209,7 @@ fn notes_beside<S: Alter>(
 
 // ---- tables that are made anew
 
-/// The text that drops a table, by its place in the schema.
+// The text that drops a table, by its place in the schema.
 fn drop_text(at: usize) -> &'static str
     ensures { 3 ≤ at → at < 8 → DropsNext at result.now }
 {
@@ -213,7 +222,7 @@ fn drop_text(at: usize) -> &'static str
     }
 }
 
-/// Drops the last table that is there.
+// Drops the last table that is there.
 fn drop_table<S: Alter>(tx: &mut Transaction<'_, S>, at: usize) -> Result<(), StoreFault>
     requires { (3 ≤ at) × (at < 8) }
     ensures done { MakesInside S.Store tx.old.conn tx.new.conn result (HasFirst (at + 1))
@@ -224,7 +233,7 @@ fn drop_table<S: Alter>(tx: &mut Transaction<'_, S>, at: usize) -> Result<(), St
     run(tx, drop_text(at), &[])
 }
 
-/// Drops the tables of the index, and those behind them.
+// Drops the tables of the index, and those behind them.
 fn drop_index<S: Alter>(tx: &mut Transaction<'_, S>) -> Result<(), StoreFault>
     ensures done { MakesInside S.Store tx.old.conn tx.new.conn result (HasFirst 8) (DropsLast 4) }
     ensures refused { BlamesIn S.Store tx.old.conn.now tx.new.conn.now result (HasFirst 8) }
@@ -235,7 +244,7 @@ fn drop_index<S: Alter>(tx: &mut Transaction<'_, S>) -> Result<(), StoreFault>
     drop_table(tx, 4)
 }
 
-/// Makes them.
+// Makes them.
 fn make_index<S: Alter>(tx: &mut Transaction<'_, S>) -> Result<(), StoreFault>
     ensures done { MakesInside S.Store tx.old.conn tx.new.conn result (HasFirst 4) (Fills 4 8) }
     ensures refused { BlamesIn S.Store tx.old.conn.now tx.new.conn.now result (HasFirst 4) }
@@ -246,7 +255,7 @@ fn make_index<S: Alter>(tx: &mut Transaction<'_, S>) -> Result<(), StoreFault>
     create(tx, 7)
 }
 
-/// Makes the tables of the index anew, and those behind them.
+// Makes the tables of the index anew, and those behind them.
 fn renew_index<S: Alter>(tx: &mut Transaction<'_, S>) -> Result<(), StoreFault>
     ensures done { MakesInside S.Store tx.old.conn tx.new.conn result (HasFirst 8) (Fills 4 8) }
     ensures refused { BlamesIn S.Store tx.old.conn.now tx.new.conn.now result (HasFirst 8) }
@@ -255,7 +264,7 @@ fn renew_index<S: Alter>(tx: &mut Transaction<'_, S>) -> Result<(), StoreFault>
     make_index(tx)
 }
 
-/// Makes the table of the cells anew, where it is the last.
+// Makes the table of the cells anew, where it is the last.
 fn renew_cells<S: Alter>(tx: &mut Transaction<'_, S>) -> Result<(), StoreFault>
     ensures done { MakesInside S.Store tx.old.conn tx.new.conn result (HasFirst 4) (Fills 3 4) }
     ensures refused { BlamesIn S.Store tx.old.conn.now tx.new.conn.now result (HasFirst 4) }
@@ -264,7 +273,7 @@ fn renew_cells<S: Alter>(tx: &mut Transaction<'_, S>) -> Result<(), StoreFault>
     create(tx, 3)
 }
 
-/// Makes the table of the cells anew, with all behind it.
+// Makes the table of the cells anew, with all behind it.
 fn renew_documents<S: Alter>(tx: &mut Transaction<'_, S>) -> Result<(), StoreFault>
     ensures done { MakesInside S.Store tx.old.conn tx.new.conn result (HasFirst 8) (Fills 3 8) }
     ensures refused { BlamesIn S.Store tx.old.conn.now tx.new.conn.now result (HasFirst 8) }
@@ -274,15 +283,13 @@ fn renew_documents<S: Alter>(tx: &mut Transaction<'_, S>) -> Result<(), StoreFau
     make_index(tx)
 }
 
-/// Puts a noted name again.
+// Puts a noted name again.
 fn put_again<S: Alter>(tx: &mut Transaction<'_, S>, row: &Row) -> Result<(), StoreFault>
     requires { IsShortNote row.now }
-    ensures done { StepsInside S.Store tx.old.conn tx.new.conn result
-        (λ v. record v { noted = put_each name_cmp (found_note row.now ∷ []) v.noted }) }
-    ensures grown { GrowsOnOk S.Store tx.old.conn.now tx.new.conn.now result 1 }
+    ensures changes { Changes S.Store tx.old.conn tx.new.conn result
+        (λ v. record v { noted = put_each name_cmp (found_note row.now ∷ []) v.noted })
+        1 (λ db. IsFull 1 (db 11)) }
     ensures others { KeepsRestOnOk S.Store tx.old.conn.now tx.new.conn.now result 11 }
-    ensures refused { BlamesRows S.Store tx.old.conn.now tx.new.conn.now result
-        (λ db. IsFull 1 (db 11)) }
 {
     match name_in(row) {
         Some(name) => put_note(tx, name),
@@ -290,16 +297,13 @@ fn put_again<S: Alter>(tx: &mut Transaction<'_, S>, row: &Row) -> Result<(), Sto
     }
 }
 
-/// Puts noted names again.
+// Puts noted names again.
 fn put_notes<S: Alter>(tx: &mut Transaction<'_, S>, notes: &[Row]) -> Result<(), StoreFault>
     requires { All IsShortNote notes.now }
-    ensures done { StepsInsideIfOpen S.Store tx.old.conn tx.new.conn result
-        (λ v. record v { noted = put_each name_cmp (map found_note notes.now) v.noted }) }
-    ensures grown { GrowsIfOpen S.Store tx.old.conn.now tx.new.conn.now result
-        (length notes.now) }
+    ensures changes { ChangesIfOpen S.Store tx.old.conn tx.new.conn result
+        (λ v. record v { noted = put_each name_cmp (map found_note notes.now) v.noted })
+        (length notes.now) (λ db. IsFull (length notes.now) (db 11)) }
     ensures others { KeepsRestIfOpen S.Store tx.old.conn.now tx.new.conn.now result 11 }
-    ensures refused { BlamesIfOpen S.Store tx.old.conn.now tx.new.conn.now result
-        (λ db. IsFull (length notes.now) (db 11)) }
 {
     for note in notes {
         put_again(tx, note)?;
@@ -309,7 +313,7 @@ fn put_notes<S: Alter>(tx: &mut Transaction<'_, S>, notes: &[Row]) -> Result<(),
 
 // ---- the rows of a table
 
-/// Takes all index rows of the only table that has rows out.
+// Takes all index rows of the only table that has rows out.
 fn empty_index<S: Alter>(
     tx: &mut Transaction<'_, S>,
     _tab: i64,
@@ -331,7 +335,7 @@ fn empty_index<S: Alter>(
     put_notes(tx, notes)
 }
 
-/// The same of its documents, with their index rows.
+// The same of its documents, with their index rows.
 fn empty_documents<S: Alter>(
     tx: &mut Transaction<'_, S>,
     _tab: i64,
@@ -360,29 +364,23 @@ const LETTERS: &[&str] = &[
     "g", "f", "e", "d", "c", "b", "a", "9", "8", "7", "6", "5", "4", "3", "2", "1",
 ];
 
-/// Takes the lists of a table out whose terms aren't below one.
+// Takes the lists of a table out whose terms aren't below one.
 fn drop_lists_from<S: Alter>(
     tx: &mut Transaction<'_, S>,
     tab: i64,
     from: &str,
 ) -> Result<(), StoreFault>
-    ensures done { StepsInside S.Store tx.old.conn tx.new.conn result
+    ensures { Drops S.Store tx.old.conn tx.new.conn result
         (λ v. record v {
           lists = where_key list_key_cmp
               (λ k. not (int_eq tab k.0 && is_le (name_cmp from.now k.1))) v.lists;
         }) }
-    ensures grown { GrowsOnOk S.Store tx.old.conn.now tx.new.conn.now result 0 }
-    ensures refused { BlamesOutside S.Store tx.old.conn.now tx.new.conn.now result }
 {
-    run(
-        tx,
-        "DELETE FROM posting WHERE tab = ?1 AND term >= ?2",
-        &[beside(tab, from), from.to_sql()],
-    )
+    delete(tx, DROP_LISTS_FROM, &[beside(tab, from), from.to_sql()])
 }
 
-/// Takes lists of a table out in parts, where it has many: the database holds the rows that one
-/// statement takes out. Some may be left.
+// Takes lists of a table out in parts, where it has many: the database holds the rows that one
+// statement takes out. Some may be left.
 fn thin_lists<S: Alter>(tx: &mut Transaction<'_, S>, tab: i64) -> Result<(), StoreFault>
     ensures done { DoneInside S.Store tx.old.conn tx.new.conn result
         (ThinsOnOk S.Store tx.old.conn.now tx.new.conn.now result tab) }
@@ -397,45 +395,37 @@ fn thin_lists<S: Alter>(tx: &mut Transaction<'_, S>, tab: i64) -> Result<(), Sto
     Ok(())
 }
 
-/// Takes all lists of a table out.
+// Takes all lists of a table out.
 fn delete_lists<S: Alter>(tx: &mut Transaction<'_, S>, tab: i64) -> Result<(), StoreFault>
-    ensures done { StepsInside S.Store tx.old.conn tx.new.conn result
+    ensures { Drops S.Store tx.old.conn tx.new.conn result
         (λ v. without_lists tab v) }
-    ensures grown { GrowsOnOk S.Store tx.old.conn.now tx.new.conn.now result 0 }
-    ensures refused { BlamesOutside S.Store tx.old.conn.now tx.new.conn.now result }
 {
     thin_lists(tx, tab)?;
-    drop_lists(tx, tab)
+    delete(tx, DROP_LISTS, &[tab.to_sql()])
 }
 
-/// Takes all index rows of a table out, one by one.
+// Takes all index rows of a table out, one by one.
 fn delete_index<S: Alter>(tx: &mut Transaction<'_, S>, tab: i64) -> Result<(), StoreFault>
-    ensures done { StepsInside S.Store tx.old.conn tx.new.conn result
+    ensures { Drops S.Store tx.old.conn tx.new.conn result
         (λ v. without_index tab v) }
-    ensures grown { GrowsOnOk S.Store tx.old.conn.now tx.new.conn.now result 0 }
-    ensures refused { BlamesOutside S.Store tx.old.conn.now tx.new.conn.now result }
 {
     delete_lists(tx, tab)?;
-    drop_sizes(tx, tab)
+    delete(tx, DROP_SIZES, &[tab.to_sql()])
 }
 
-/// The same of its documents, with their index rows.
+// The same of its documents, with their index rows.
 fn delete_documents<S: Alter>(tx: &mut Transaction<'_, S>, tab: i64) -> Result<(), StoreFault>
-    ensures done { StepsInside S.Store tx.old.conn tx.new.conn result
+    ensures { Drops S.Store tx.old.conn tx.new.conn result
         (λ v. without_contents tab (without_index tab v)) }
-    ensures grown { GrowsOnOk S.Store tx.old.conn.now tx.new.conn.now result 0 }
-    ensures refused { BlamesOutside S.Store tx.old.conn.now tx.new.conn.now result }
 {
     delete_index(tx, tab)?;
-    drop_contents(tx, tab)
+    delete(tx, DROP_CONTENTS, &[tab.to_sql()])
 }
 
 /// Takes all index rows of a table out.
 pub(crate) fn clear_index<S: Alter>(tx: &mut Transaction<'_, S>, tab: i64) -> Result<(), StoreFault>
-    ensures done { StepsInside S.Store tx.old.conn tx.new.conn result
+    ensures { Drops S.Store tx.old.conn tx.new.conn result
         (λ v. without_index tab v) }
-    ensures grown { GrowsOnOk S.Store tx.old.conn.now tx.new.conn.now result 0 }
-    ensures refused { BlamesOutside S.Store tx.old.conn.now tx.new.conn.now result }
 {
     match notes_beside(tx, tab, INDEX_PROBE)? {
         Some(notes) => empty_index(tx, tab, notes.as_slice()),
@@ -448,10 +438,8 @@ pub(crate) fn clear_documents<S: Alter>(
     tx: &mut Transaction<'_, S>,
     tab: i64,
 ) -> Result<(), StoreFault>
-    ensures done { StepsInside S.Store tx.old.conn tx.new.conn result
+    ensures { Drops S.Store tx.old.conn tx.new.conn result
         (λ v. without_contents tab (without_index tab v)) }
-    ensures grown { GrowsOnOk S.Store tx.old.conn.now tx.new.conn.now result 0 }
-    ensures refused { BlamesOutside S.Store tx.old.conn.now tx.new.conn.now result }
 {
     match notes_beside(tx, tab, CELL_PROBE)? {
         Some(notes) => empty_documents(tx, tab, notes.as_slice()),

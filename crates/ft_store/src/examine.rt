@@ -9,8 +9,8 @@ ghost use Rattle.ft_store.specs.Scan.{Scans, tree_at};
 ghost use Rattle.ft_store.specs.Older.{schema_of, tables_of, version_of, IsStoreBy};
 ghost use Rattle.ft_store.specs.Adopted.{HasVersion, other_version, IsAdoptFault, IsOddStore, IsOtherVersion};
 ghost use Rattle.ft_store.specs.Blame.{IsBlamed, Blames};
-ghost use Rattle.ft_store.specs.Calls.{HasOwnRowids, AreNumbered, Reads};
-ghost use Rattle.ft_store.specs.Settled.{AreAsKnown, IsSettled, IsLaidOut, IsJudged, Finds, ReadsFor};
+ghost use Rattle.ft_store.specs.Calls.{HasOwnRowids, HaveOwnRowids, ReadsOnly};
+ghost use Rattle.ft_store.specs.Settled.{AreAsKnown, IsSettled, IsLaidOut, IsJudged, FindsOrRefuses, ReadsFor};
 
 use crate::fault::StoreFault;
 use crate::same::Layout;
@@ -27,7 +27,7 @@ pub(crate) enum Rowids {
     Unknown,
 }
 
-/// How many tables a store has.
+// How many tables a store has.
 fn tables_in(layout: Layout) -> usize
     ensures { result ≡ tables_of layout }
 {
@@ -37,7 +37,7 @@ fn tables_in(layout: Layout) -> usize
     }
 }
 
-/// The query of a table's rowids, in their order.
+// The query of a table's rowids, in their order.
 fn rowids_query(at: usize) -> &'static str
     ensures { (layout : Layout) → at < tables_of layout
         → Scans (schema_of layout) result.now (tree_at at) }
@@ -79,7 +79,7 @@ impl Gathered for Rising {
     }
 }
 
-/// Whether no two rows of a table have one rowid.
+// Whether no two rows of a table have one rowid.
 fn is_numbered<S: Alter>(
     conn: &mut Connection<S>,
     layout: Layout,
@@ -97,7 +97,7 @@ fn is_numbered<S: Alter>(
     gather(conn, rowids_query(at), &[], &mut numbers)
 }
 
-/// The version, where `meta` has one row.
+// The version, where `meta` has one row.
 fn version<S: Alter>(
     conn: &mut Connection<S>,
     alloc: Global,
@@ -118,14 +118,15 @@ fn version<S: Alter>(
     Ok(Some(found[0]))
 }
 
-/// Whether no two rows of any table have one rowid.
+// Whether no two rows of any table have one rowid.
 fn are_numbered<S: Alter>(conn: &mut Connection<S>, layout: Layout) -> Result<bool, StoreFault>
     requires { IsSettled (IsLaidOut layout) (state S.Store conn.old) }
     ensures numbered { ReadsFor S.Store conn.old conn.new result
-        (λ b. IsTrue b ↔ AreNumbered (schema_of layout).tables (state S.Store conn.old).now.trees) }
+        (λ b. IsTrue b ↔ HaveOwnRowids (schema_of layout).tables
+        (state S.Store conn.old).now.trees) }
     ensures refused { HasCleanDisk (state S.Store conn.new) → result ≡ Err StoreFault.Refused
         → IsBlamed (state S.Store conn.old) (state S.Store conn.new)
-        ⊎ ¬ AreNumbered (schema_of layout).tables (state S.Store conn.old).now.trees }
+        ⊎ ¬ HaveOwnRowids (schema_of layout).tables (state S.Store conn.old).now.trees }
 {
     for at in 0..tables_in(layout) {
         if !is_numbered(conn, layout, at)? {
@@ -135,7 +136,7 @@ fn are_numbered<S: Alter>(conn: &mut Connection<S>, layout: Layout) -> Result<bo
     Ok(true)
 }
 
-/// What the version in `meta` says of a database with the tables of a store.
+// What the version in `meta` says of a database with the tables of a store.
 fn judge(found: Option<i64>, layout: Layout) -> Result<(), StoreFault>
     ensures marked { OnOk result (found ≡ Some (version_of layout)) }
     ensures unmarked { result ≡ Err StoreFault.NotAStore → found ≡ None }
@@ -166,7 +167,7 @@ pub(crate) fn examine<S: Alter>(
         → OnOk result (IsStoreBy layout (state S.Store conn.new).now) }
     ensures judged { HasCleanDisk (state S.Store conn.new)
         → IsJudged (state S.Store conn.old).now.trees result }
-    ensures read { Reads S.Store conn.old conn.new result IsAdoptFault }
+    ensures read { ReadsOnly S.Store conn.old conn.new result IsAdoptFault }
     ensures refused { HasCleanDisk (state S.Store conn.new) → result ≡ Err StoreFault.Refused
         → IsBlamed (state S.Store conn.old) (state S.Store conn.new)
         ⊎ IsOddStore layout (state S.Store conn.old).now.trees }

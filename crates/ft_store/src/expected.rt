@@ -9,10 +9,10 @@ ghost use Rattle.ft_rows.specs.Packed.{spots_in};
 ghost use Rattle.ft_rows.specs.Store.{list_key_cmp};
 ghost use Rattle.ft_rows.specs.Terms.{spot_of, lists_by_terms};
 ghost use Rattle.ft_store.specs.Rows.{value_of};
-ghost use Rattle.ft_store.specs.Expected.{left_of, HasMore, IsList, place_count};
+ghost use Rattle.ft_store.specs.Expected.{left_of, HasMore, IsList, posting_count};
 ghost use Rattle.ft_store.specs.Blame.{Blames, IsTermRow};
 ghost use Rattle.ft_store.specs.Calls.{IsAtRest};
-ghost use Rattle.ft_store.specs.Settled.{Finds, ReadsFor};
+ghost use Rattle.ft_store.specs.Settled.{FindsOrRefuses, ReadsFor};
 
 use crate::fault::StoreFault;
 use crate::stream::{Gathered, gather};
@@ -22,7 +22,7 @@ use sqlite::{Alter, Connection, Row, params};
 
 /// How many places the lists of terms have, up to 2^64 - 1.
 pub(crate) fn count_places(terms: &[TermLists]) -> u64
-    ensures { result ≡ min (place_count terms.now) (2 ^ 64 - 1) }
+    ensures { result ≡ min (posting_count terms.now) (2 ^ 64 - 1) }
 {
     let mut count: u64 = 0;
     for term in terms {
@@ -41,7 +41,7 @@ struct Expected {
 }
 
 impl Expected {
-    /// Goes to the next list, and says whether there is one.
+    // Goes to the next list, and says whether there is one.
     fn find_next(&mut self) -> bool
         ensures terms { self.new.terms ≡ self.old.terms }
         ensures left { (tab : ℤ)
@@ -63,10 +63,10 @@ impl Expected {
     }
 }
 
-/// Whether a row, in which docid and packed list come before the term, is this list of the term. No
-/// row is the list of no postings.
+// Whether a row, in which docid and packed list come before the term, is this list of the term. No
+// row is the list of no postings.
 fn is_list(row: &Row, term: &str, list: &[Posting]) -> Result<bool, StoreFault>
-    ensures found { Finds result (λ b. (tab : ℤ)
+    ensures found { FindsOrRefuses result (λ b. (tab : ℤ)
         → IsTrue b ↔ IsList tab row.now term.now list.now) }
     ensures refused { result ≡ Err StoreFault.Refused → IsTermRow row.now → ⊥ }
 {

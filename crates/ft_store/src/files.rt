@@ -28,7 +28,7 @@ const LEAST_CACHE: u64 = 200;
 const MOST_CACHE: u64 = 20_000;
 
 // How many pages that a command changes stay in memory up to its end. Those past it go to the log.
-const SPILL_PAGES: usize = 4000;
+const SPILL_PAGES: usize = 3000;
 
 // How many pages are logged before they are written into the database: a change of a document logs
 // some 100 to 200, and each that is written back costs once more. So the log has some 16 MB at the

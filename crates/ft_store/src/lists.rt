@@ -15,10 +15,10 @@ ghost use Rattle.ft_rows.specs.Store.{list_key_cmp};
 ghost use Rattle.ft_store.specs.Rows.{value_of};
 ghost use Rattle.ft_store.specs.Range.{after_last, limit_of};
 ghost use Rattle.ft_store.specs.Found.{found_spots, found_places};
-ghost use Rattle.ft_rows.specs.Shown.{shown_list, shown_entry, entries_with, entries_of, lists_of_term, lists_of_prefix, spot_count, AreWhole, SomeDamaged};
+ghost use Rattle.ft_rows.specs.Shown.{shown_list, shown_entry, entries_with, entries_of, lists_under_term, lists_of_prefix, spot_count, AreWhole, SomeDamaged};
 ghost use Rattle.ft_store.specs.Blame.{Blames, RefusesRead, IsListRow, IsTermRow};
 ghost use Rattle.ft_store.specs.Calls.{AreTold, IsAtRest};
-ghost use Rattle.ft_store.specs.Settled.{IsSettled, IsPlainIn, Finds, ReadsLists, GivesLists, GivesTold, GivesRows};
+ghost use Rattle.ft_store.specs.Settled.{IsSettled, IsPlainIn, FindsOrRefuses, ReadsLists, GivesLists, GivesTold, GivesRows};
 
 use crate::fault::StoreFault;
 use crate::sql::{PREFIX, PREFIX_LISTS, TERM_LISTS};
@@ -31,9 +31,9 @@ use std::alloc::{AllocError, Global};
 
 // ---- rows
 
-/// A list, of its row, in which docid and packed list come first; none where its bytes are damaged.
+// A list, of its row, in which docid and packed list come first; none where its bytes are damaged.
 fn list_row(alloc: Global, row: &Row) -> Result<Option<ListRow>, StoreFault>
-    ensures found { Finds result (λ list. MatchOption list ((found_spots row.now).1 ≡ [])
+    ensures found { FindsOrRefuses result (λ list. MatchOption list ((found_spots row.now).1 ≡ [])
         (λ l. (shown_list l ≡ found_spots row.now) × ((found_spots row.now).1 ≢ []))) }
     ensures refused { result ≡ Err StoreFault.Refused → IsListRow row.now → ⊥ }
 {
@@ -47,9 +47,9 @@ fn list_row(alloc: Global, row: &Row) -> Result<Option<ListRow>, StoreFault>
     }
 }
 
-/// The term of a row, in which it stands last; none where it is no text.
+// The term of a row, in which it stands last; none where it is no text.
 fn row_term(row: &Row) -> Result<Option<&str>, StoreFault>
-    ensures found { Finds result (λ term. let stored = bytes (column row.now 2)
+    ensures found { FindsOrRefuses result (λ term. let stored = bytes (column row.now 2)
         in MatchOption term (¬ (IsUtf8 stored)) (λ t. (t.now ≡ stored) × IsUtf8 stored)) }
     ensures refused { result ≡ Err StoreFault.Refused → IsTermRow row.now → ⊥ }
 {
@@ -89,7 +89,7 @@ impl Gathered for ListsOf {
     }
 }
 
-/// The lists that a query gives, in the order of its rows. Damaged bytes are Damaged.
+// The lists that a query gives, in the order of its rows. Damaged bytes are Damaged.
 fn select_lists<S: Alter>(
     conn: &mut Connection<S>,
     alloc: Global,
@@ -127,7 +127,7 @@ pub(crate) fn count_spots(lists: &[ListRow]) -> u64
     count
 }
 
-/// Adds the entries of a list, which is one of this term.
+// Adds the entries of a list, which is one of this term.
 fn push_entries(
     alloc: Global,
     entries: &mut Vec<EntryRow>,
@@ -183,8 +183,8 @@ impl Gathered for EntriesOf {
     }
 }
 
-/// The entries of the lists that a query gives, in the order of its rows. Damaged bytes are
-/// Damaged, and so is a term that is no text.
+// The entries of the lists that a query gives, in the order of its rows. Damaged bytes are
+// Damaged, and so is a term that is no text.
 fn select_entries<S: Alter>(
     conn: &mut Connection<S>,
     alloc: Global,
@@ -239,7 +239,7 @@ pub(crate) fn term_lists<S: Alter>(
 ) -> Result<Vec<ListRow>, StoreFault>
     requires { IsAtRest (state S.Store conn.old) }
     ensures given { GivesLists S.Store conn.old conn.new result
-        (lists_of_term tab term.now (value_of (state S.Store conn.old).now.trees)) }
+        (lists_under_term tab term.now (value_of (state S.Store conn.old).now.trees)) }
     ensures refused { Blames (state S.Store conn.old) (state S.Store conn.new) result }
 {
     select_lists(conn, alloc, TERM_LISTS, params![tab, term])
@@ -247,7 +247,7 @@ pub(crate) fn term_lists<S: Alter>(
 
 // ---- all terms, and those that begin so
 
-/// The bytes with the last one raised by one.
+// The bytes with the last one raised by one.
 fn after_last(alloc: Global, bytes: &[u8]) -> Result<Vec<u8>, AllocError>
     requires { AllByRecursion (λ b. b < 255) bytes.now }
     ensures { IfOk result (λ end. end.items ≡ after_last bytes.now) }
@@ -259,22 +259,22 @@ fn after_last(alloc: Global, bytes: &[u8]) -> Result<Vec<u8>, AllocError>
     Ok(end)
 }
 
-/// A number as a parameter beside bytes.
+// A number as a parameter beside bytes.
 fn beside(number: i64, _bytes: &[u8]) -> ValueRef<'_>
     ensures { owned result ≡ Int number }
 {
     ValueRef::Int(number)
 }
 
-/// A text as a parameter beside bytes.
+// A text as a parameter beside bytes.
 fn text_beside<'a>(text: &'a str, _bytes: &'a [u8]) -> ValueRef<'a>
     ensures { owned result ≡ Text text.now }
 {
     ValueRef::Text(text.as_bytes())
 }
 
-/// What the texts of a range are below: this text or, where it is empty, a blob, since all texts
-/// are below each blob.
+// What the texts of a range are below: this text or, where it is empty, a blob, since all texts
+// are below each blob.
 fn limit_of(end: &[u8]) -> ValueRef<'_>
     ensures { owned result ≡ limit_of end.now }
 {

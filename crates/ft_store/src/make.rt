@@ -5,7 +5,7 @@ ghost use Rattle.ft_store.specs.Tables.{no_schema};
 ghost use Rattle.ft_rows.specs.Store.{nothing_held};
 ghost use Rattle.ft_store.specs.Rows.{value_of};
 ghost use Rattle.ft_store.specs.Calls.{IsPlainFault, IsStore, IsStored};
-ghost use Rattle.ft_store.specs.Settled.{IsSettled, IsBare, IsEmptyStore, Finds, MakesWhole};
+ghost use Rattle.ft_store.specs.Settled.{IsSettled, IsBare, IsEmptyStore, FindsOrRefuses, MakesWhole};
 ghost use Rattle.ft_store.specs.Made.{first_tables, IsEmptyOf, IsUnmarked, MakesNext};
 ghost use Rattle.ft_store.specs.Inside.{MakesInside};
 ghost use Rattle.ft_store.specs.Blame.{Blames, BlamesIn};
@@ -21,7 +21,7 @@ use sqlite::{Alter, Connection, Transaction};
 /// How many tables a store has.
 const TABLES: usize = 8;
 
-/// The text of a table, by its place in the schema.
+// The text of a table, by its place in the schema.
 fn table_text(at: usize) -> &'static str
     ensures { at < 8 → MakesNext at result.now }
 {
@@ -49,7 +49,7 @@ pub(crate) fn create<S: Alter>(tx: &mut Transaction<'_, S>, at: usize) -> Result
     run(tx, table_text(at), &[])
 }
 
-/// The tables, without a row.
+// The tables, without a row.
 fn create_all<S: Alter>(tx: &mut Transaction<'_, S>) -> Result<(), StoreFault>
     ensures done { MakesInside S.Store tx.old.conn tx.new.conn result (IsEmptyOf no_schema)
         (λ _ new. IsUnmarked new × (value_of new.trees ≡ nothing_held)) }

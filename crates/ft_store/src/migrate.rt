@@ -21,7 +21,7 @@ use crate::statements::run;
 use sqlite::{Alter, Connection, Transaction};
 use std::alloc::Global;
 
-/// Adds the table of the columns that aren't indexed, without a row.
+// Adds the table of the columns that aren't indexed, without a row.
 fn add_table<S: Alter>(tx: &mut Transaction<'_, S>) -> Result<(), StoreFault>
     ensures done { MakesInside S.Store tx.old.conn tx.new.conn result (IsStoreBy Older)
         (λ old new. IsTabled new × (value_of new.trees ≡ older_value old.trees)) }
@@ -30,7 +30,7 @@ fn add_table<S: Alter>(tx: &mut Transaction<'_, S>) -> Result<(), StoreFault>
     run(tx, MAKE_SKIP, &[])
 }
 
-/// Takes the version out.
+// Takes the version out.
 fn unmark<S: Alter>(tx: &mut Transaction<'_, S>) -> Result<(), StoreFault>
     ensures done { MakesInside S.Store tx.old.conn tx.new.conn result IsTabled
         (λ old new. IsUnmarked new × (value_of new.trees ≡ value_of old.trees)) }
@@ -39,7 +39,7 @@ fn unmark<S: Alter>(tx: &mut Transaction<'_, S>) -> Result<(), StoreFault>
     run(tx, "DELETE FROM meta", &[])
 }
 
-/// Makes a store of version 3 of one of version 2, all at once.
+// Makes a store of version 3 of one of version 2, all at once.
 fn migrate<S: Alter>(conn: &mut Connection<S>) -> Result<(), StoreFault>
     requires { IsSettled (IsStoreBy Older) (state S.Store conn.old) }
     ensures made { MakesWhole (state S.Store conn.old) (state S.Store conn.new) result

@@ -13,11 +13,11 @@ ghost use Rattle.sqlite_rules.specs.Edit.{id_in};
 ghost use Rattle.ft_rows.specs.Store.{cell_key_cmp, column_key_cmp};
 ghost use Rattle.ft_values.specs.Cells.{shown_value};
 ghost use Rattle.ft_store.specs.Rows.{text_in, cell_in, value_of};
-ghost use Rattle.ft_store.specs.Found.{name_of};
+ghost use Rattle.ft_store.specs.Found.{id_and_name};
 ghost use Rattle.ft_rows.specs.Shown.{shown_cell, shown_size, shown_column, shown_skip, shown_note, last_docid_of};
 ghost use Rattle.ft_store.specs.Docids.{docids_in, cut_to};
 ghost use Rattle.ft_store.specs.Calls.{IsAtRest};
-ghost use Rattle.ft_store.specs.Settled.{IsSettled, IsPlainIn, Finds, ReadsFor, GivesRows};
+ghost use Rattle.ft_store.specs.Settled.{IsSettled, IsPlainIn, FindsOrRefuses, ReadsFor, GivesRows};
 
 use crate::fault::StoreFault;
 use crate::stream::{InRow, select};
@@ -29,8 +29,8 @@ use std::alloc::{AllocError, Global};
 /// What is shown of bytes that aren't UTF-8: no text of a content has it.
 const UNREADABLE: &str = "\0";
 
-/// A text of a cell or a column, as it is shown: bytes that aren't UTF-8 as a character that no
-/// content has.
+// A text of a cell or a column, as it is shown: bytes that aren't UTF-8 as a character that no
+// content has.
 fn shown_text(alloc: Global, stored: &[u8]) -> Result<String, AllocError>
     ensures { IfOk result (λ text. string_bytes text ≡ text_in stored.now) }
 {
@@ -40,9 +40,9 @@ fn shown_text(alloc: Global, stored: &[u8]) -> Result<String, AllocError>
     }
 }
 
-/// The value of a cell, of its two columns.
+// The value of a cell, of its two columns.
 fn cell_value(alloc: Global, row: &Row) -> Result<Value, StoreFault>
-    ensures found { Finds result (λ value. shown_value value
+    ensures found { FindsOrRefuses result (λ value. shown_value value
         ≡ cell_in (column row.now 2) (column row.now 3)) }
     ensures refused { result ≡ Err StoreFault.Refused → 3 < length row.now → ⊥ }
 {
@@ -113,11 +113,11 @@ impl InRow for TabRow {
     ghost use Rattle.sqlite.specs.Order.{column};
     ghost use Rattle.sqlite.specs.Values.{IsInt};
     ghost use Rattle.sqlite.specs.declared.types.Value.TheVariants.{Text};
-    ghost use Rattle.ft_store.specs.Found.{name_of, found_table};
+    ghost use Rattle.ft_store.specs.Found.{id_and_name, found_table};
 
     ghost Shown = { ℤ × List ℕ };
 
-    ghost shown = { λ _. name_of };
+    ghost shown = { λ _. id_and_name };
 
     ghost found = { λ _. found_table };
 

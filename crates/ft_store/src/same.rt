@@ -10,7 +10,7 @@ ghost use Rattle.sqlite_sql.specs.declared.ops.BinaryOp.TheVariants.{Is};
 ghost use Rattle.ft_store.specs.Tables.{no_schema};
 ghost use Rattle.ft_store.specs.Adopted.{our_names};
 ghost use Rattle.ft_store.specs.Older.{schema_of, HasStoreTables};
-ghost use Rattle.ft_store.specs.Same.{table_of, index_of, index_name, uniques_of, orders_of, cell_test, cell_check, HasNoMore};
+ghost use Rattle.ft_store.specs.Same.{table_shaped, index_of, index_name, uniques_of, orders_of, cell_test, cell_check, HasNoMore};
 
 use sqlite_schema::code::{Op, Terms};
 use sqlite_schema::names::same_name;
@@ -119,9 +119,9 @@ trait Shows<T> {
 }
 
 impl Shows<Column> for Field {
-    ghost use Rattle.ft_store.specs.Same.{column_of};
+    ghost use Rattle.ft_store.specs.Same.{column_shaped};
 
-    ghost shown = { column_of };
+    ghost shown = { column_shaped };
 
     fn is(&self, column: &Column) -> bool {
         column.name.as_slice() == self.0.as_bytes()
@@ -133,7 +133,7 @@ impl Shows<Column> for Field {
     }
 }
 
-/// Whether these are the values that are shown, one for one.
+// Whether these are the values that are shown, one for one.
 fn are<T, S: Shows<T>>(items: &[T], shapes: &[S]) -> bool
     ensures { IsTrue result ↔ (items.now ≡ map S.Shows.shown shapes.now) }
 {
@@ -144,7 +144,7 @@ fn are<T, S: Shows<T>>(items: &[T], shapes: &[S]) -> bool
     }
 }
 
-/// Whether the term at a place tests that a column of a row is NULL.
+// Whether the term at a place tests that a column of a row is NULL.
 fn is_null_test(nodes: &[Op], at: usize, column: usize) -> bool
     ensures { (depth : ℕ) → IsTrue result ↔ (term_to nodes.now (suc (suc depth)) at
         ≡ op2 (Is Binary) (col 1 column) (lit Null)) }
@@ -159,7 +159,7 @@ fn is_null_test(nodes: &[Op], at: usize, column: usize) -> bool
     is_column && matches!(nodes.get(*b), None | Some(Op::Literal(Value::Null)))
 }
 
-/// Whether the term at a place tests that one of a cell's two values is NULL.
+// Whether the term at a place tests that one of a cell's two values is NULL.
 fn is_cell_test(nodes: &[Op], at: usize) -> bool
     ensures { (depth : ℕ) → IsTrue result ↔ (term_to nodes.now (suc (suc (suc depth))) at
         ≡ cell_test) }
@@ -172,7 +172,7 @@ fn is_cell_test(nodes: &[Op], at: usize) -> bool
     }
 }
 
-/// Whether the one check is that test.
+// Whether the one check is that test.
 fn is_cell_check(checks: &Terms) -> bool
     ensures { IsTrue result ↔ (checks.now ≡ cell_check) }
 {
@@ -198,7 +198,7 @@ fn is_keyed(table: &Table, key: &[usize], digits: u64) -> bool
     }
 }
 
-/// Whether a table has nothing that tables of a store don't have.
+// Whether a table has nothing that tables of a store don't have.
 fn has_no_more(table: &Table) -> bool
     ensures { IsTrue result ↔ HasNoMore table.now }
 {
@@ -211,7 +211,7 @@ fn has_no_more(table: &Table) -> bool
         && !table.is_counted
 }
 
-/// Whether a check is there, which is that test, or none.
+// Whether a check is there, which is that test, or none.
 fn has_checks(checks: &Terms, is_checked: bool) -> bool
     ensures { IsTrue result ↔ (checks.now ≡ (if is_checked then cell_check else [])) }
 {
@@ -223,9 +223,9 @@ fn has_checks(checks: &Terms, is_checked: bool) -> bool
 }
 
 impl Shows<Table> for Shape {
-    ghost use Rattle.ft_store.specs.Same.{table_of};
+    ghost use Rattle.ft_store.specs.Same.{table_shaped};
 
-    ghost shown = { table_of };
+    ghost shown = { table_shaped };
 
     fn is(&self, table: &Table) -> bool {
         let Shape(name, tree, columns, Key(key, primary, unique, digits), is_checked) = self;
@@ -240,7 +240,7 @@ impl Shows<Table> for Shape {
     }
 }
 
-/// Whether a text is the name of the index of a table's key.
+// Whether a text is the name of the index of a table's key.
 fn is_index_name(name: &[u8], table: &str) -> bool
     ensures { IsTrue result ↔ (name.now ≡ index_name table.now) }
 {
@@ -270,11 +270,11 @@ impl Shows<Index> for Shape {
     }
 }
 
-/// Whether a schema has these tables, of which all but the first have an index, and nothing else.
+// Whether a schema has these tables, of which all but the first have an index, and nothing else.
 fn has_shapes(schema: &Schema, shapes: &[Shape]) -> bool
     requires { 0 < length shapes.now }
     ensures { IsTrue result ↔ (schema.now ≡ record {
-      tables = map table_of shapes.now;
+      tables = map table_shaped shapes.now;
       indexes = map index_of (drop 1 shapes.now);
       views = [];
     }) }

@@ -1,4 +1,4 @@
-//! The texts of the queries of a store and of its tables.
+//! The texts of the statements of a store: its queries, its changes, and its tables.
 
 /// All cells of a table.
 pub(crate) const CELLS: &str =
@@ -47,6 +47,78 @@ pub(crate) const PREFIX: &str =
 /// The lists of the terms of a range.
 pub(crate) const PREFIX_LISTS: &str =
     "SELECT docid, list FROM posting WHERE tab = ?1 AND term >= ?2 AND term < ?3 ORDER BY tab, term, docid";
+
+// ---- changes
+
+/// The name of a table goes.
+pub(crate) const DROP_NAME: &str = "DELETE FROM tab WHERE id = ?1";
+
+/// The names of its columns go.
+pub(crate) const DROP_COLUMNS: &str = "DELETE FROM col WHERE tab = ?1";
+
+/// Which of them aren't indexed goes.
+pub(crate) const DROP_SKIPS: &str = "DELETE FROM skip WHERE tab = ?1";
+
+/// Its cells go.
+pub(crate) const DROP_CONTENTS: &str = "DELETE FROM cell WHERE tab = ?1";
+
+/// Its lists go.
+pub(crate) const DROP_LISTS: &str = "DELETE FROM posting WHERE tab = ?1";
+
+/// Its sizes go.
+pub(crate) const DROP_SIZES: &str = "DELETE FROM sizes WHERE tab = ?1";
+
+/// Its lists go whose terms aren't below one.
+pub(crate) const DROP_LISTS_FROM: &str = "DELETE FROM posting WHERE tab = ?1 AND term >= ?2";
+
+/// The cells of a document go.
+pub(crate) const DROP_CELLS: &str = "DELETE FROM cell WHERE tab = ?1 AND docid = ?2";
+
+/// One column name goes.
+pub(crate) const DROP_COLUMN: &str = "DELETE FROM col WHERE tab = ?1 AND col = ?2";
+
+/// That one column isn't indexed goes.
+pub(crate) const DROP_SKIP: &str = "DELETE FROM skip WHERE tab = ?1 AND col = ?2";
+
+/// One cell goes.
+pub(crate) const DROP_CELL: &str = "DELETE FROM cell WHERE tab = ?1 AND docid = ?2 AND col = ?3";
+
+/// One list goes.
+pub(crate) const DROP_LIST: &str =
+    "DELETE FROM posting WHERE tab = ?1 AND term = ?2 AND docid = ?3";
+
+/// One size goes.
+pub(crate) const DROP_SIZE: &str = "DELETE FROM sizes WHERE tab = ?1 AND docid = ?2 AND col = ?3";
+
+/// One noted name goes.
+pub(crate) const DROP_NOTE: &str = "DELETE FROM noted WHERE name = ?1";
+
+/// The name of a table comes.
+pub(crate) const ADD_NAME: &str = "INSERT INTO tab (id, name) VALUES (?1, ?2)";
+
+/// A column name comes.
+pub(crate) const ADD_COLUMN: &str = "INSERT INTO col (tab, col, name) VALUES (?1, ?2, ?3)";
+
+/// That a column isn't indexed comes.
+pub(crate) const ADD_SKIP: &str = "INSERT INTO skip (tab, col) VALUES (?1, ?2)";
+
+/// A cell comes.
+pub(crate) const ADD_CELL: &str =
+    "INSERT INTO cell (tab, docid, col, num, txt) VALUES (?1, ?2, ?3, ?4, ?5)";
+
+/// A list comes.
+pub(crate) const ADD_LIST: &str =
+    "INSERT INTO posting (tab, term, docid, list) VALUES (?1, ?2, ?3, ?4)";
+
+/// Eight lists come.
+pub(crate) const ADD_LISTS: &str =
+    "INSERT INTO posting (tab, term, docid, list) VALUES (?, ?, ?, ?), (?, ?, ?, ?), (?, ?, ?, ?), (?, ?, ?, ?), (?, ?, ?, ?), (?, ?, ?, ?), (?, ?, ?, ?), (?, ?, ?, ?)";
+
+/// A size comes.
+pub(crate) const ADD_SIZE: &str = "INSERT INTO sizes (tab, docid, col, n) VALUES (?1, ?2, ?3, ?4)";
+
+/// A noted name comes.
+pub(crate) const ADD_NOTE: &str = "INSERT INTO noted (name) VALUES (?1)";
 
 // ---- tables
 

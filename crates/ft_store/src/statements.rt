@@ -1,5 +1,5 @@
 //! The statements that change rows, each with what it makes of the store's value.
-ghost use Rattle.std.specs.Prelude.{◌≡◌, ◌⊎◌, ◌+◌, Any, List, [], length, not, ◌&&◌, if◌then◌else◌, unwrap_or, None};
+ghost use Rattle.std.specs.Prelude.{◌≡◌, ◌≤◌, ◌⊎◌, ◌+◌, ℕ, Any, List, [], length, take, not, ◌&&◌, if◌then◌else◌, unwrap_or};
 ghost use Rattle.std.specs.List.{flat_map};
 ghost use Rattle.std.specs.Ordering.{int_eq, eq_by_cmp};
 ghost use Rattle.std.specs.FinMap.Entries.{put, where_key, find};
@@ -11,13 +11,19 @@ ghost use Rattle.sqlite.specs.declared.types.Value.TheVariants.{Int};
 ghost use Rattle.ft_rows.specs.Packed.{spots_in};
 ghost use Rattle.ft_rows.specs.Store.{cell_key_cmp, list_key_cmp, column_key_cmp, name_cmp};
 ghost use Rattle.ft_values.specs.Cells.{shown_value};
-ghost use Rattle.ft_store.specs.Blame.{RefusesRun, BlamesOutside};
-ghost use Rattle.ft_store.specs.Puts.{IsFull, IsTooBig, IsBigEntry, GrowsOnOk, GrowsIfAdded, KeepsRestOnOk, BlamesRows, RefusesAdd};
+ghost use Rattle.ft_store.specs.Blame.{RefusesRun};
+ghost use Rattle.ft_store.specs.Puts.{IsFull, IsTooBig, IsBigEntry, GrowsIfAdded, KeepsRestOnOk, BlamesRows, RefusesAdd};
+ghost use Rattle.ft_store.specs.Changes.{TakesRows, ReplacesRow, Changes, Drops};
+ghost use Rattle.ft_rows.specs.Store.{StoreValue};
 ghost use Rattle.ft_store.specs.Rows.{cell_in, num_of, txt_of};
-ghost use Rattle.ft_store.specs.Inside.{DoneInside, StepsInside, RunsOnOk, RunsOrKeeps, without_name, without_columns, without_skips, without_contents, without_lists, without_sizes};
-ghost use Rattle.ft_store.specs.Groups.{Entry, entry_values, with_entries, GoesOnOk};
+ghost use Rattle.ft_store.specs.Inside.{DoneInside, RunsOnOk, RunsOrKeeps};
+ghost use Rattle.ft_store.specs.Groups.{PackedList, entry_values, with_lists, GoesOnOk};
 
 use crate::fault::StoreFault;
+use crate::sql::{
+    ADD_CELL, ADD_COLUMN, ADD_LIST, ADD_LISTS, ADD_NOTE, ADD_SIZE, ADD_SKIP, DROP_CELL, DROP_CELLS,
+    DROP_COLUMN, DROP_LIST, DROP_NOTE, DROP_SIZE, DROP_SKIP,
+};
 use ft_values::Value;
 use sqlite::types::{ToSql, ValueRef};
 use sqlite::{Alter, Error as SqlError, ErrorCode, Transaction};
@@ -37,8 +43,8 @@ pub(crate) fn run<S: Alter>(
     Ok(())
 }
 
-/// One statement that adds rows. False where a rule of their table refuses them, and then nothing
-/// is changed.
+// One statement that adds rows. False where a rule of their table refuses them, and then nothing
+// is changed.
 fn add<S: Alter>(
     tx: &mut Transaction<'_, S>,
     sql: &str,
@@ -63,7 +69,7 @@ pub(crate) fn beside(number: i64, _text: &str) -> ValueRef<'_>
     ValueRef::Int(number)
 }
 
-/// A number as a parameter beside those of a cell.
+// A number as a parameter beside those of a cell.
 fn beside_value(number: i64, _value: &Value) -> ValueRef<'_>
     ensures { owned result ≡ Int number }
 {
@@ -91,70 +97,41 @@ fn text_of(value: &Value) -> ValueRef<'_>
     }
 }
 
-/// Takes the name of a table out.
-pub(crate) fn drop_name<S: Alter>(tx: &mut Transaction<'_, S>, tab: i64) -> Result<(), StoreFault>
-    ensures done { StepsInside S.Store tx.old.conn tx.new.conn result
-        (λ v. without_name tab v) }
-    ensures grown { GrowsOnOk S.Store tx.old.conn.now tx.new.conn.now result 0 }
-    ensures refused { BlamesOutside S.Store tx.old.conn.now tx.new.conn.now result }
-{
-    run(tx, "DELETE FROM tab WHERE id = ?1", &[tab.to_sql()])
-}
-
-/// Takes the names of all columns of a table out.
-pub(crate) fn drop_columns<S: Alter>(
+/// Takes rows out by one statement.
+pub(crate) fn delete<S: Alter>(
     tx: &mut Transaction<'_, S>,
-    tab: i64,
+    sql: &str,
+    params: &[ValueRef<'_>],
 ) -> Result<(), StoreFault>
-    ensures done { StepsInside S.Store tx.old.conn tx.new.conn result
-        (λ v. without_columns tab v) }
-    ensures grown { GrowsOnOk S.Store tx.old.conn.now tx.new.conn.now result 0 }
-    ensures refused { BlamesOutside S.Store tx.old.conn.now tx.new.conn.now result }
+    ensures { (tree : ℕ) (f : StoreValue → StoreValue)
+        → TakesRows S.Store sql.now (bound params.now) tree f
+        → Drops S.Store tx.old.conn tx.new.conn result f }
 {
-    run(tx, "DELETE FROM col WHERE tab = ?1", &[tab.to_sql()])
+    run(tx, sql, params)
 }
 
-/// Takes out which columns of a table aren't indexed.
-pub(crate) fn drop_skips<S: Alter>(tx: &mut Transaction<'_, S>, tab: i64) -> Result<(), StoreFault>
-    ensures done { StepsInside S.Store tx.old.conn tx.new.conn result
-        (λ v. without_skips tab v) }
-    ensures grown { GrowsOnOk S.Store tx.old.conn.now tx.new.conn.now result 0 }
-    ensures refused { BlamesOutside S.Store tx.old.conn.now tx.new.conn.now result }
-{
-    run(tx, "DELETE FROM skip WHERE tab = ?1", &[tab.to_sql()])
-}
-
-/// Takes all cells of a table out.
-pub(crate) fn drop_contents<S: Alter>(
+// Replaces a row by two statements: the one takes out what has its key, the first of its values,
+// and the other adds it.
+fn replace<S: Alter>(
     tx: &mut Transaction<'_, S>,
-    tab: i64,
+    drop: &str,
+    add: &str,
+    keys: usize,
+    row: &[ValueRef<'_>],
 ) -> Result<(), StoreFault>
-    ensures done { StepsInside S.Store tx.old.conn tx.new.conn result
-        (λ v. without_contents tab v) }
-    ensures grown { GrowsOnOk S.Store tx.old.conn.now tx.new.conn.now result 0 }
-    ensures refused { BlamesOutside S.Store tx.old.conn.now tx.new.conn.now result }
+    requires { keys ≤ length row.now }
+    ensures changes { (tree : ℕ) (f : StoreValue → StoreValue) (values count : ℕ)
+        → ReplacesRow S.Store drop.now add.now (bound (take keys row.now)) (bound row.now) tree f
+        values count
+        → Changes S.Store tx.old.conn tx.new.conn result f 1
+        (λ db. IsFull 1 (db tree) ⊎ IsTooBig values count) }
+    ensures others { (tree : ℕ) (f : StoreValue → StoreValue) (values count : ℕ)
+        → ReplacesRow S.Store drop.now add.now (bound (take keys row.now)) (bound row.now) tree f
+        values count
+        → KeepsRestOnOk S.Store tx.old.conn.now tx.new.conn.now result tree }
 {
-    run(tx, "DELETE FROM cell WHERE tab = ?1", &[tab.to_sql()])
-}
-
-/// Takes all lists of a table out.
-pub(crate) fn drop_lists<S: Alter>(tx: &mut Transaction<'_, S>, tab: i64) -> Result<(), StoreFault>
-    ensures done { StepsInside S.Store tx.old.conn tx.new.conn result
-        (λ v. without_lists tab v) }
-    ensures grown { GrowsOnOk S.Store tx.old.conn.now tx.new.conn.now result 0 }
-    ensures refused { BlamesOutside S.Store tx.old.conn.now tx.new.conn.now result }
-{
-    run(tx, "DELETE FROM posting WHERE tab = ?1", &[tab.to_sql()])
-}
-
-/// Takes all sizes of a table out.
-pub(crate) fn drop_sizes<S: Alter>(tx: &mut Transaction<'_, S>, tab: i64) -> Result<(), StoreFault>
-    ensures done { StepsInside S.Store tx.old.conn tx.new.conn result
-        (λ v. without_sizes tab v) }
-    ensures grown { GrowsOnOk S.Store tx.old.conn.now tx.new.conn.now result 0 }
-    ensures refused { BlamesOutside S.Store tx.old.conn.now tx.new.conn.now result }
-{
-    run(tx, "DELETE FROM sizes WHERE tab = ?1", &[tab.to_sql()])
+    run(tx, drop, &row[..keys])?;
+    run(tx, add, row)
 }
 
 /// Takes the cells of a document out.
@@ -163,19 +140,13 @@ pub(crate) fn drop_cells<S: Alter>(
     tab: i64,
     docid: i64,
 ) -> Result<(), StoreFault>
-    ensures done { StepsInside S.Store tx.old.conn tx.new.conn result
+    ensures { Drops S.Store tx.old.conn tx.new.conn result
         (λ v. record v {
           cells = where_key cell_key_cmp
               (λ k. not (int_eq tab k.0 && int_eq docid k.1)) v.cells;
         }) }
-    ensures grown { GrowsOnOk S.Store tx.old.conn.now tx.new.conn.now result 0 }
-    ensures refused { BlamesOutside S.Store tx.old.conn.now tx.new.conn.now result }
 {
-    run(
-        tx,
-        "DELETE FROM cell WHERE tab = ?1 AND docid = ?2",
-        &[tab.to_sql(), docid.to_sql()],
-    )
+    delete(tx, DROP_CELLS, &[tab.to_sql(), docid.to_sql()])
 }
 
 /// Takes a term's list in a document out.
@@ -185,17 +156,15 @@ pub(crate) fn drop_list<S: Alter>(
     term: &str,
     docid: i64,
 ) -> Result<(), StoreFault>
-    ensures done { StepsInside S.Store tx.old.conn tx.new.conn result
+    ensures { Drops S.Store tx.old.conn tx.new.conn result
         (λ v. record v {
           lists = where_key list_key_cmp
               (λ k. not (eq_by_cmp list_key_cmp (tab, term.now, docid) k)) v.lists;
         }) }
-    ensures grown { GrowsOnOk S.Store tx.old.conn.now tx.new.conn.now result 0 }
-    ensures refused { BlamesOutside S.Store tx.old.conn.now tx.new.conn.now result }
 {
-    run(
+    delete(
         tx,
-        "DELETE FROM posting WHERE tab = ?1 AND term = ?2 AND docid = ?3",
+        DROP_LIST,
         &[beside(tab, term), term.to_sql(), beside(docid, term)],
     )
 }
@@ -207,17 +176,15 @@ pub(crate) fn drop_size<S: Alter>(
     docid: i64,
     column: i64,
 ) -> Result<(), StoreFault>
-    ensures done { StepsInside S.Store tx.old.conn tx.new.conn result
+    ensures { Drops S.Store tx.old.conn tx.new.conn result
         (λ v. record v {
           sizes = where_key cell_key_cmp
               (λ k. not (eq_by_cmp cell_key_cmp (tab, docid, column) k)) v.sizes;
         }) }
-    ensures grown { GrowsOnOk S.Store tx.old.conn.now tx.new.conn.now result 0 }
-    ensures refused { BlamesOutside S.Store tx.old.conn.now tx.new.conn.now result }
 {
-    run(
+    delete(
         tx,
-        "DELETE FROM sizes WHERE tab = ?1 AND docid = ?2 AND col = ?3",
+        DROP_SIZE,
         &[tab.to_sql(), docid.to_sql(), column.to_sql()],
     )
 }
@@ -229,23 +196,19 @@ pub(crate) fn add_lists<S: Alter>(
     values: &[ValueRef<'_>],
 ) -> Result<bool, StoreFault>
     ensures done { DoneInside S.Store tx.old.conn tx.new.conn result
-        ((entries : List Entry) → length entries ≡ 8
+        ((entries : List PackedList) → length entries ≡ 8
         → bound values.now ≡ flat_map entry_values entries
         → GoesOnOk S.Store tx.old.conn.now tx.new.conn.now result
-        (λ added v. if added then with_entries entries v else v)) }
-    ensures grown { (entries : List Entry) → length entries ≡ 8
+        (λ added v. if added then with_lists entries v else v)) }
+    ensures grown { (entries : List PackedList) → length entries ≡ 8
         → bound values.now ≡ flat_map entry_values entries
         → GrowsIfAdded S.Store tx.old.conn.now tx.new.conn.now result 8 }
-    ensures refused { (entries : List Entry) → length entries ≡ 8
+    ensures refused { (entries : List PackedList) → length entries ≡ 8
         → bound values.now ≡ flat_map entry_values entries
         → BlamesRows S.Store tx.old.conn.now tx.new.conn.now result
         (λ db. IsFull 8 (db 7) ⊎ Any IsBigEntry entries) }
 {
-    add(
-        tx,
-        "INSERT INTO posting (tab, term, docid, list) VALUES (?, ?, ?, ?), (?, ?, ?, ?), (?, ?, ?, ?), (?, ?, ?, ?), (?, ?, ?, ?), (?, ?, ?, ?), (?, ?, ?, ?), (?, ?, ?, ?)",
-        values,
-    )
+    add(tx, ADD_LISTS, values)
 }
 
 /// Puts a column's name.
@@ -255,20 +218,15 @@ pub(crate) fn put_column<S: Alter>(
     column: i64,
     name: &str,
 ) -> Result<(), StoreFault>
-    ensures done { StepsInside S.Store tx.old.conn tx.new.conn result
-        (λ v. record v { columns = put column_key_cmp (tab, column) name.now v.columns }) }
-    ensures grown { GrowsOnOk S.Store tx.old.conn.now tx.new.conn.now result 1 }
-    ensures refused { BlamesRows S.Store tx.old.conn.now tx.new.conn.now result
-        (λ db. IsFull 1 (db 3) ⊎ IsTooBig 4 (length name.now)) }
+    ensures { Changes S.Store tx.old.conn tx.new.conn result
+        (λ v. record v { columns = put column_key_cmp (tab, column) name.now v.columns })
+        1 (λ db. IsFull 1 (db 3) ⊎ IsTooBig 4 (length name.now)) }
 {
-    run(
+    replace(
         tx,
-        "DELETE FROM col WHERE tab = ?1 AND col = ?2",
-        &[beside(tab, name), beside(column, name)],
-    )?;
-    run(
-        tx,
-        "INSERT INTO col (tab, col, name) VALUES (?1, ?2, ?3)",
+        DROP_COLUMN,
+        ADD_COLUMN,
+        2,
         &[beside(tab, name), beside(column, name), name.to_sql()],
     )
 }
@@ -279,22 +237,11 @@ pub(crate) fn put_skip<S: Alter>(
     tab: i64,
     column: i64,
 ) -> Result<(), StoreFault>
-    ensures done { StepsInside S.Store tx.old.conn tx.new.conn result
-        (λ v. record v { skipped = put column_key_cmp (tab, column) tt v.skipped }) }
-    ensures grown { GrowsOnOk S.Store tx.old.conn.now tx.new.conn.now result 1 }
-    ensures refused { BlamesRows S.Store tx.old.conn.now tx.new.conn.now result
-        (λ db. IsFull 1 (db 13)) }
+    ensures { Changes S.Store tx.old.conn tx.new.conn result
+        (λ v. record v { skipped = put column_key_cmp (tab, column) tt v.skipped })
+        1 (λ db. IsFull 1 (db 13)) }
 {
-    run(
-        tx,
-        "DELETE FROM skip WHERE tab = ?1 AND col = ?2",
-        &[tab.to_sql(), column.to_sql()],
-    )?;
-    run(
-        tx,
-        "INSERT INTO skip (tab, col) VALUES (?1, ?2)",
-        &[tab.to_sql(), column.to_sql()],
-    )
+    replace(tx, DROP_SKIP, ADD_SKIP, 2, &[tab.to_sql(), column.to_sql()])
 }
 
 /// Puts a cell.
@@ -305,28 +252,19 @@ pub(crate) fn put_cell<S: Alter>(
     column: i64,
     value: &Value,
 ) -> Result<(), StoreFault>
-    ensures done { StepsInside S.Store tx.old.conn tx.new.conn result
+    ensures { Changes S.Store tx.old.conn tx.new.conn result
         (λ v. record v {
           cells = put cell_key_cmp (tab, docid, column) (shown_value value.now)
               v.cells;
-        }) }
-    ensures grown { GrowsOnOk S.Store tx.old.conn.now tx.new.conn.now result 1 }
-    ensures refused { BlamesRows S.Store tx.old.conn.now tx.new.conn.now result
-        (λ db. IsFull 1 (db 5)
+        })
+        1 (λ db. IsFull 1 (db 5)
         ⊎ IsTooBig 6 (length (bytes (txt_of (shown_value value.now))))) }
 {
-    run(
+    replace(
         tx,
-        "DELETE FROM cell WHERE tab = ?1 AND docid = ?2 AND col = ?3",
-        &[
-            beside_value(tab, value),
-            beside_value(docid, value),
-            beside_value(column, value),
-        ],
-    )?;
-    run(
-        tx,
-        "INSERT INTO cell (tab, docid, col, num, txt) VALUES (?1, ?2, ?3, ?4, ?5)",
+        DROP_CELL,
+        ADD_CELL,
+        3,
         &[
             beside_value(tab, value),
             beside_value(docid, value),
@@ -339,15 +277,12 @@ pub(crate) fn put_cell<S: Alter>(
 
 /// Puts a noted name.
 pub(crate) fn put_note<S: Alter>(tx: &mut Transaction<'_, S>, name: &str) -> Result<(), StoreFault>
-    ensures done { StepsInside S.Store tx.old.conn tx.new.conn result
-        (λ v. record v { noted = put name_cmp (without_case name.now) name.now v.noted }) }
-    ensures grown { GrowsOnOk S.Store tx.old.conn.now tx.new.conn.now result 1 }
+    ensures changes { Changes S.Store tx.old.conn tx.new.conn result
+        (λ v. record v { noted = put name_cmp (without_case name.now) name.now v.noted })
+        1 (λ db. IsFull 1 (db 11) ⊎ IsTooBig 2 (length name.now)) }
     ensures others { KeepsRestOnOk S.Store tx.old.conn.now tx.new.conn.now result 11 }
-    ensures refused { BlamesRows S.Store tx.old.conn.now tx.new.conn.now result
-        (λ db. IsFull 1 (db 11) ⊎ IsTooBig 2 (length name.now)) }
 {
-    run(tx, "DELETE FROM noted WHERE name = ?1", &[name.to_sql()])?;
-    run(tx, "INSERT INTO noted (name) VALUES (?1)", &[name.to_sql()])
+    replace(tx, DROP_NOTE, ADD_NOTE, 1, &[name.to_sql()])
 }
 
 /// Puts the size of a cell.
@@ -358,16 +293,15 @@ pub(crate) fn put_size<S: Alter>(
     column: i64,
     n: i64,
 ) -> Result<(), StoreFault>
-    ensures done { StepsInside S.Store tx.old.conn tx.new.conn result
-        (λ v. record v { sizes = put cell_key_cmp (tab, docid, column) n v.sizes }) }
-    ensures grown { GrowsOnOk S.Store tx.old.conn.now tx.new.conn.now result 1 }
-    ensures refused { BlamesRows S.Store tx.old.conn.now tx.new.conn.now result
-        (λ db. IsFull 1 (db 9)) }
+    ensures { Changes S.Store tx.old.conn tx.new.conn result
+        (λ v. record v { sizes = put cell_key_cmp (tab, docid, column) n v.sizes })
+        1 (λ db. IsFull 1 (db 9)) }
 {
-    drop_size(tx, tab, docid, column)?;
-    run(
+    replace(
         tx,
-        "INSERT INTO sizes (tab, docid, col, n) VALUES (?1, ?2, ?3, ?4)",
+        DROP_SIZE,
+        ADD_SIZE,
+        3,
         &[tab.to_sql(), docid.to_sql(), column.to_sql(), n.to_sql()],
     )
 }
@@ -380,19 +314,18 @@ pub(crate) fn put_list<'a, S: Alter>(
     docid: i64,
     list: &'a [u8],
 ) -> Result<(), StoreFault>
-    ensures done { StepsInside S.Store tx.old.conn tx.new.conn result
+    ensures { Changes S.Store tx.old.conn tx.new.conn result
         (λ v. record v {
           lists = put list_key_cmp (tab, term.now, docid)
               (unwrap_or (spots_in list.now) []) v.lists;
-        }) }
-    ensures grown { GrowsOnOk S.Store tx.old.conn.now tx.new.conn.now result 1 }
-    ensures refused { BlamesRows S.Store tx.old.conn.now tx.new.conn.now result
-        (λ db. IsFull 1 (db 7) ⊎ IsTooBig 5 (length term.now + length list.now)) }
+        })
+        1 (λ db. IsFull 1 (db 7) ⊎ IsTooBig 5 (length term.now + length list.now)) }
 {
-    drop_list(tx, tab, term, docid)?;
-    run(
+    replace(
         tx,
-        "INSERT INTO posting (tab, term, docid, list) VALUES (?1, ?2, ?3, ?4)",
+        DROP_LIST,
+        ADD_LIST,
+        3,
         &[
             beside(tab, term),
             term.to_sql(),

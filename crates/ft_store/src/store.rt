@@ -10,16 +10,16 @@ ghost use Rattle.sqlite_wal.specs.Files.{image_at};
 ghost use Rattle.sqlite_trees.specs.Tree.{Trees};
 ghost use Rattle.ft_rows.specs.Store.{cell_key_cmp, list_key_cmp, name_cmp, nothing_held, all_applied, AreInOrder};
 ghost use Rattle.ft_rows.specs.Changes.{shown_change, CanApply};
-ghost use Rattle.ft_rows.specs.Shown.{shown_cell, shown_size, shown_note, shown_list, shown_entry, lists_of_term, lists_of_prefix, spot_count, table_listed, tables_listed, shown_table, last_docid_of, entries_of, AreWhole, AreRead, SomeDamaged, AreNamedApart};
+ghost use Rattle.ft_rows.specs.Shown.{shown_cell, shown_size, shown_note, shown_list, shown_entry, lists_under_term, lists_of_prefix, spot_count, table_listed, tables_listed, shown_table, last_docid_of, entries_of, AreWhole, AreListRows, SomeDamaged, AreNamedApart};
 ghost use Rattle.ft_rows.specs.Terms.{lists_by_terms};
 ghost use Rattle.ft_store.specs.Blame.{Blames, AreTableTexts, AreNotedTexts};
 ghost use Rattle.ft_store.specs.Puts.{BlamesPuts};
 ghost use Rattle.ft_store.specs.Docids.{docids_in, cut_to};
-ghost use Rattle.ft_store.specs.Expected.{place_count};
+ghost use Rattle.ft_store.specs.Expected.{posting_count};
 ghost use Rattle.ft_store.specs.Calls.{AreTold, IsPlainFault, IsReadFault, IsChangeFault, IsStored, Keeps, MakesAllOrNone};
 ghost use Rattle.ft_store.specs.declared.examine.Rowids.TheVariants.{Apart};
 ghost use Rattle.ft_store.specs.Settled.{AreAsKnown};
-ghost use Rattle.ft_store.specs.Adopted.{IsTaken, IsNotTaken, IsNotTakenFor, LeavesMade};
+ghost use Rattle.ft_store.specs.Adopted.{IsTakenAsStore, IsNotTaken, IsNotTakenFor, LeavesMade};
 ghost use Rattle.ft_store.specs.Older.{IsOlder};
 ghost use Rattle.ft_store.specs.Parts.{changes_in, CanMake};
 
@@ -141,7 +141,7 @@ impl<S: Alter> Store<S> {
     pub fn adopt_opened(alloc: Global, conn: Connection<S>) -> Result<Store<S>, AdoptFault<S>>
         requires settled { conn.in_transaction ≡ false }
         requires known { AreAsKnown Apart (state S.Store conn) }
-        ensures taken { IfOk result (λ store. IsTaken S.Store conn store.held
+        ensures taken { IfOk result (λ store. IsTakenAsStore S.Store conn store.held
             × LeavesMade S.Store conn store.held × (store.rows_read ≡ 0)) }
         ensures refused { IfErr result (λ fault.
             IsNotTaken S.Store conn fault.connection fault.cause
@@ -168,7 +168,7 @@ impl<S: Alter + Drop> Store<S> {
     fn taken(alloc: Global, conn: Connection<S>) -> Result<Store<S>, StoreFault>
         requires settled { conn.in_transaction ≡ false }
         requires known { AreAsKnown Apart (state S.Store conn) }
-        ensures taken { IfOk result (λ store. IsTaken S.Store conn store.held
+        ensures taken { IfOk result (λ store. IsTakenAsStore S.Store conn store.held
             × LeavesMade S.Store conn store.held × (store.rows_read ≡ 0)) }
         ensures refused { IfErr result (IsNotTakenFor S.Store conn) }
     {
@@ -191,7 +191,8 @@ impl<S: Alter> Store<S> {
     /// One in a transaction is refused, and handed back in it.
     pub fn adopt(alloc: Global, conn: Connection<S>) -> Result<Store<S>, AdoptFault<S>>
         ensures taken { conn.in_transaction ≡ false
-            → IfOk result (λ store. IsTaken S.Store conn store.held × (store.rows_read ≡ 0)) }
+            → IfOk result (λ store. IsTakenAsStore S.Store conn store.held
+            × (store.rows_read ≡ 0)) }
         ensures refused { conn.in_transaction ≡ false
             → IfErr result (λ fault. IsNotTaken S.Store conn fault.connection fault.cause) }
         ensures again { conn.in_transaction ≡ false
@@ -378,12 +379,13 @@ impl<S: Alter> Store<S> {
     /// row.
     pub fn term_lists(&mut self, tab: i64, term: &str) -> Result<Vec<ListRow>, StoreFault>
         ensures rows { HasCleanDisk (shows S.Store self.new)
-            → IfOk result (λ found. AreRead (lists_of_term tab term.now (value_in S.Store self.old))
+            → IfOk result (λ found. AreListRows
+            (lists_under_term tab term.now (value_in S.Store self.old))
             found.items) }
         ensures read { ReadsRows S.Store self.old self.new result
             (λ found. spot_count (map shown_list found.items)) IsReadFault }
         ensures damaged { HasCleanDisk (shows S.Store self.new) → result ≡ Err StoreFault.Damaged
-            → SomeDamaged (lists_of_term tab term.now (value_in S.Store self.old)) }
+            → SomeDamaged (lists_under_term tab term.now (value_in S.Store self.old)) }
         ensures refused { Blames (shows S.Store self.old) (shows S.Store self.new) result }
     {
         let found = lists::term_lists(&mut self.conn, self.alloc, tab, term)?;
@@ -415,7 +417,7 @@ impl<S: Alter> Store<S> {
     /// Each place counts as a row.
     pub fn prefix_lists(&mut self, tab: i64, begin: &str) -> Result<Vec<ListRow>, StoreFault>
         ensures rows { HasCleanDisk (shows S.Store self.new)
-            → IfOk result (λ found. AreRead (lists_of_prefix tab begin.now
+            → IfOk result (λ found. AreListRows (lists_of_prefix tab begin.now
             (value_in S.Store self.old)) found.items) }
         ensures read { ReadsRows S.Store self.old self.new result
             (λ found. spot_count (map shown_list found.items)) IsReadFault }
@@ -455,7 +457,7 @@ impl<S: Alter> Store<S> {
             → IfOk result (λ b. IsTrue b ↔ (where_key list_key_cmp (λ k. int_eq tab k.0)
             (value_in S.Store self.old).lists ≡ lists_by_terms tab terms.items)) }
         ensures read { ReadsRows S.Store self.old self.new result
-            (λ b. if b then place_count terms.items else 0) IsPlainFault }
+            (λ b. if b then posting_count terms.items else 0) IsPlainFault }
         ensures refused { Blames (shows S.Store self.old) (shows S.Store self.new) result }
     {
         let places = count_places(terms.as_slice());

@@ -6,7 +6,7 @@ ghost use Rattle.sqlite.specs.Held.{state};
 ghost use Rattle.ft_rows.specs.declared.terms.TermLists.{TermLists};
 ghost use Rattle.ft_store.specs.Blame.{RefusesRead};
 ghost use Rattle.ft_store.specs.Calls.{IsPlainFault};
-ghost use Rattle.ft_store.specs.Settled.{IsSettled, IsPlainIn, Finds, ReadsFor, GivesRows};
+ghost use Rattle.ft_store.specs.Settled.{IsSettled, IsPlainIn, FindsOrRefuses, ReadsFor, GivesRows};
 
 use crate::fault::StoreFault;
 use sqlite::types::ValueRef;
@@ -79,7 +79,7 @@ pub(crate) trait InRow: Drop {
     ghost is_readable: { order.Row → Type 0 } = { λ _. ⊥ };
 
     fn read(alloc: Global, row: &Row) -> Result<Self, StoreFault>
-        ensures found { Finds result (λ x. (tab : ℤ) → shown tab x ≡ found tab row.now) }
+        ensures found { FindsOrRefuses result (λ x. (tab : ℤ) → shown tab x ≡ found tab row.now) }
         ensures refused { result ≡ Err StoreFault.Refused → is_readable row.now → ⊥ };
 }
 

@@ -3,6 +3,7 @@ ghost use Rattle.std.specs.Prelude.{◌≡◌, ◌⊎◌, ◌+◌, Any, Err, fal
 ghost use Rattle.std.specs.Vec.{vec_items};
 ghost use Rattle.std.specs.List.{enumerate_from, flat_map, sum_by};
 ghost use Rattle.std.specs.FinMap.Entries.{put};
+ghost use Rattle.std.specs.Ordering.{int_cmp};
 ghost use Rattle.sqlite.specs.Held.{state};
 ghost use Rattle.sqlite.specs.Values.{bound};
 ghost use Rattle.sqlite_value.specs.Keys.{without_case};
@@ -15,16 +16,18 @@ ghost use Rattle.ft_store.specs.Inside.{StepsInside, StepsInsideIfOpen, DoneInsi
 ghost use Rattle.ft_store.specs.Groups.{entry_values, entry_put, PutsList, ArePacked, GoesOnOk};
 ghost use Rattle.sqlite.specs.State.{HasCleanDisk};
 ghost use Rattle.ft_store.specs.Blame.{BlamesOutside};
-ghost use Rattle.ft_store.specs.Puts.{IsFull, IsTooBig, rows_of, CantPut, CantPutAll, GrowsOnOk, GrowsIfOpen, GrowsIfAdded, BlamesRows, BlamesIfOpen, BlamesPuts};
+ghost use Rattle.ft_store.specs.Puts.{IsFull, IsTooBig, IsOthers, rows_put, CantPut, CantPutAll, GrowsOnOk, GrowsIfAdded, BlamesRows, BlamesPuts};
+ghost use Rattle.ft_store.specs.Changes.{Changes, ChangesIfOpen, Drops};
 ghost use Rattle.ft_store.specs.Rows.{value_of};
 ghost use Rattle.ft_store.specs.Parts.{changes_in, CanMake};
 
 use crate::clear::{clear_documents, clear_index};
 use crate::fault::StoreFault;
 use crate::parts::Parts;
+use crate::sql::{ADD_NAME, DROP_COLUMNS, DROP_NAME, DROP_SKIPS};
 use crate::statements::{
-    add_lists, beside, drop_cells, drop_columns, drop_list, drop_name, drop_size, drop_skips,
-    put_cell, put_column, put_list, put_note, put_size, put_skip, run,
+    add_lists, beside, delete, drop_cells, drop_list, drop_size, put_cell, put_column, put_list,
+    put_note, put_size, put_skip, run,
 };
 use ft_rows::{can_pack, pack};
 use ft_values::{RowChange, Spot, Value};
@@ -32,7 +35,7 @@ use sqlite::types::{ToSql, ValueRef};
 use sqlite::{Alter, Connection, Transaction};
 use std::alloc::{AllocError, Global};
 
-/// Puts a term's places in a document. Places that can't be packed are Damaged.
+// Puts a term's places in a document. Places that can't be packed are Damaged.
 fn put_entries<S: Alter>(
     tx: &mut Transaction<'_, S>,
     alloc: Global,
@@ -56,44 +59,37 @@ fn put_entries<S: Alter>(
     put_list(tx, tab, term, docid, list.as_slice())
 }
 
-/// Takes the columns of a table out.
+// Takes the columns of a table out.
 fn clear_columns<S: Alter>(tx: &mut Transaction<'_, S>, tab: i64) -> Result<(), StoreFault>
-    ensures done { StepsInside S.Store tx.old.conn tx.new.conn result
+    ensures { Drops S.Store tx.old.conn tx.new.conn result
         (λ v. without_columns tab (without_skips tab v)) }
-    ensures grown { GrowsOnOk S.Store tx.old.conn.now tx.new.conn.now result 0 }
-    ensures refused { BlamesOutside S.Store tx.old.conn.now tx.new.conn.now result }
 {
-    drop_skips(tx, tab)?;
-    drop_columns(tx, tab)
+    delete(tx, DROP_SKIPS, &[tab.to_sql()])?;
+    delete(tx, DROP_COLUMNS, &[tab.to_sql()])
 }
 
-/// Takes all rows of a table out.
+// Takes all rows of a table out.
 fn clear_rows<S: Alter>(tx: &mut Transaction<'_, S>, tab: i64) -> Result<(), StoreFault>
-    ensures done { StepsInside S.Store tx.old.conn tx.new.conn result
+    ensures { Drops S.Store tx.old.conn tx.new.conn result
         (λ v. without_rows tab v) }
-    ensures grown { GrowsOnOk S.Store tx.old.conn.now tx.new.conn.now result 0 }
-    ensures refused { BlamesOutside S.Store tx.old.conn.now tx.new.conn.now result }
 {
     clear_columns(tx, tab)?;
     clear_documents(tx, tab)?;
-    drop_name(tx, tab)
+    delete(tx, DROP_NAME, &[tab.to_sql()])
 }
 
-/// Puts the names of a table's columns, which are numbered from 0.
+// Puts the names of a table's columns, which are numbered from 0.
 fn put_columns<S: Alter>(
     tx: &mut Transaction<'_, S>,
     tab: i64,
     columns: &[String],
 ) -> Result<(), StoreFault>
-    ensures done { StepsInsideIfOpen S.Store tx.old.conn tx.new.conn result
+    ensures { ChangesIfOpen S.Store tx.old.conn tx.new.conn result
         (λ v. record v {
           columns = with_columns tab
               (enumerate_from 0 (map string_bytes columns.now)) v.columns;
-        }) }
-    ensures grown { GrowsIfOpen S.Store tx.old.conn.now tx.new.conn.now result
-        (length columns.now) }
-    ensures refused { BlamesIfOpen S.Store tx.old.conn.now tx.new.conn.now result
-        (λ db. IsFull (length columns.now) (db 3)
+        })
+        (length columns.now) (λ db. IsFull (length columns.now) (db 3)
         ⊎ Any (λ c. IsTooBig 4 (length c)) (map string_bytes columns.now)) }
 {
     for (at, name) in columns.iter().enumerate() {
@@ -102,18 +98,15 @@ fn put_columns<S: Alter>(
     Ok(())
 }
 
-/// Puts which columns of a table aren't indexed.
+// Puts which columns of a table aren't indexed.
 fn put_skips<S: Alter>(
     tx: &mut Transaction<'_, S>,
     tab: i64,
     skipped: &[i64],
 ) -> Result<(), StoreFault>
-    ensures done { StepsInsideIfOpen S.Store tx.old.conn tx.new.conn result
-        (λ v. record v { skipped = with_skipped tab skipped.now v.skipped }) }
-    ensures grown { GrowsIfOpen S.Store tx.old.conn.now tx.new.conn.now result
-        (length skipped.now) }
-    ensures refused { BlamesIfOpen S.Store tx.old.conn.now tx.new.conn.now result
-        (λ db. IsFull (length skipped.now) (db 13)) }
+    ensures { ChangesIfOpen S.Store tx.old.conn tx.new.conn result
+        (λ v. record v { skipped = with_skipped tab skipped.now v.skipped })
+        (length skipped.now) (λ db. IsFull (length skipped.now) (db 13)) }
 {
     for column in skipped {
         put_skip(tx, tab, *column)?;
@@ -121,7 +114,18 @@ fn put_skips<S: Alter>(
     Ok(())
 }
 
-/// Adds a table in place of all rows of its number.
+// Puts the name of a table in place of all rows of its number.
+fn rename<S: Alter>(tx: &mut Transaction<'_, S>, tab: i64, name: &str) -> Result<(), StoreFault>
+    ensures { Changes S.Store tx.old.conn tx.new.conn result
+        (λ v. let bare = without_rows tab v in
+        record bare { tables = put int_cmp tab name.now bare.tables })
+        0 (λ db. IsTooBig 3 (length name.now) ⊎ IsOthers tab name.now (value_of db).tables) }
+{
+    clear_rows(tx, tab)?;
+    run(tx, ADD_NAME, &[beside(tab, name), name.to_sql()])
+}
+
+// Adds a table in place of all rows of its number.
 fn add_table<S: Alter>(
     tx: &mut Transaction<'_, S>,
     tab: i64,
@@ -129,25 +133,18 @@ fn add_table<S: Alter>(
     columns: &[String],
     skipped: &[i64],
 ) -> Result<(), StoreFault>
-    ensures done { StepsInside S.Store tx.old.conn tx.new.conn result
-        (λ v. applied (AddTable tab name.now (map string_bytes columns.now) skipped.now) v) }
-    ensures grown { GrowsOnOk S.Store tx.old.conn.now tx.new.conn.now result
-        (length columns.now + length skipped.now) }
-    ensures refused { BlamesRows S.Store tx.old.conn.now tx.new.conn.now result
+    ensures { Changes S.Store tx.old.conn tx.new.conn result
+        (λ v. applied (AddTable tab name.now (map string_bytes columns.now) skipped.now) v)
+        (length columns.now + length skipped.now)
         (λ db. CantPut (length columns.now + length skipped.now) db (value_of db)
         (AddTable tab name.now (map string_bytes columns.now) skipped.now)) }
 {
-    clear_rows(tx, tab)?;
-    run(
-        tx,
-        "INSERT INTO tab (id, name) VALUES (?1, ?2)",
-        &[beside(tab, name), name.to_sql()],
-    )?;
+    rename(tx, tab, name)?;
     put_columns(tx, tab, columns)?;
     put_skips(tx, tab, skipped)
 }
 
-/// Makes one row change.
+// Makes one row change.
 fn apply<S: Alter>(
     tx: &mut Transaction<'_, S>,
     alloc: Global,
@@ -157,10 +154,10 @@ fn apply<S: Alter>(
         (StepsOnOk S.Store tx.old.conn.now tx.new.conn.now result
         (λ v. applied (shown_change change.now) v)) }
     ensures grown { GrowsOnOk S.Store tx.old.conn.now tx.new.conn.now result
-        (rows_of (shown_change change.now)) }
+        (rows_put (shown_change change.now)) }
     ensures refused { let it = shown_change change.now in
         BlamesRows S.Store tx.old.conn.now tx.new.conn.now result
-        (λ db. CantPut (rows_of it) db (value_of db) it) }
+        (λ db. CantPut (rows_put it) db (value_of db) it) }
 {
     match change {
         RowChange::AddTable(tab, name, columns, skipped) => add_table(
@@ -184,7 +181,7 @@ fn apply<S: Alter>(
     }
 }
 
-/// Makes row changes one by one.
+// Makes row changes one by one.
 fn apply_each<S: Alter>(
     tx: &mut Transaction<'_, S>,
     alloc: Global,
@@ -192,7 +189,7 @@ fn apply_each<S: Alter>(
 ) -> Result<(), StoreFault>
     ensures done { AppliesInside S.Store tx.old.conn tx.new.conn result changes.now }
     ensures grown { GrowsOnOk S.Store tx.old.conn.now tx.new.conn.now result
-        (sum_by rows_of (map shown_change changes.now)) }
+        (sum_by rows_put (map shown_change changes.now)) }
     ensures refused { BlamesRows S.Store tx.old.conn.now tx.new.conn.now result
         (λ db. CantPutAll db (map shown_change changes.now)) }
 {
@@ -211,7 +208,7 @@ fn puts_list(change: &RowChange) -> bool {
     matches!(change, RowChange::PutEntries(_, _, _, _))
 }
 
-/// How many of the first changes are made together: eight that put lists, or else one.
+// How many of the first changes are made together: eight that put lists, or else one.
 fn group_size(changes: &[RowChange]) -> usize
     requires { 0 < length changes.now }
     ensures { (0 < result) × (result ≤ length changes.now) }
@@ -223,7 +220,7 @@ fn group_size(changes: &[RowChange]) -> usize
     }
 }
 
-/// The packed lists of changes, if each puts one that can be packed.
+// The packed lists of changes, if each puts one that can be packed.
 fn packed_lists(alloc: Global, changes: &[RowChange]) -> Result<Option<Vec<Vec<u8>>>, AllocError>
     ensures { IfOk result (λ o. IfSome o
         (λ lists. ArePacked changes.now (map vec_items lists.items))) }
@@ -241,7 +238,7 @@ fn packed_lists(alloc: Global, changes: &[RowChange]) -> Result<Option<Vec<Vec<u
     Ok(Some(lists))
 }
 
-/// Binds the row of a packed list.
+// Binds the row of a packed list.
 fn push_values<'a>(
     values: &mut Vec<ValueRef<'a>>,
     change: &'a RowChange,
@@ -262,7 +259,7 @@ fn push_values<'a>(
     Ok(())
 }
 
-/// What is bound for the rows of packed lists.
+// What is bound for the rows of packed lists.
 fn list_values<'a>(
     alloc: Global,
     changes: &'a [RowChange],
@@ -279,8 +276,8 @@ fn list_values<'a>(
     Ok(values)
 }
 
-/// Adds the lists that eight changes put, by one statement. False where that can't be done, and
-/// then nothing is changed.
+// Adds the lists that eight changes put, by one statement. False where that can't be done, and
+// then nothing is changed.
 fn add_group<S: Alter>(
     tx: &mut Transaction<'_, S>,
     alloc: Global,
@@ -291,7 +288,7 @@ fn add_group<S: Alter>(
         (GoesOnOk S.Store tx.old.conn.now tx.new.conn.now result
         (λ added v. if added then all_applied (map shown_change changes.now) v else v)) }
     ensures grown { GrowsIfAdded S.Store tx.old.conn.now tx.new.conn.now result
-        (sum_by rows_of (map shown_change changes.now)) }
+        (sum_by rows_put (map shown_change changes.now)) }
     ensures refused { BlamesRows S.Store tx.old.conn.now tx.new.conn.now result
         (λ db. CantPutAll db (map shown_change changes.now)) }
 {
@@ -305,7 +302,7 @@ fn add_group<S: Alter>(
     add_lists(tx, values.as_slice())
 }
 
-/// Makes row changes, eight lists by one statement where their keys are new.
+// Makes row changes, eight lists by one statement where their keys are new.
 fn apply_group<S: Alter>(
     tx: &mut Transaction<'_, S>,
     alloc: Global,
@@ -313,7 +310,7 @@ fn apply_group<S: Alter>(
 ) -> Result<(), StoreFault>
     ensures done { AppliesInside S.Store tx.old.conn tx.new.conn result changes.now }
     ensures grown { GrowsOnOk S.Store tx.old.conn.now tx.new.conn.now result
-        (sum_by rows_of (map shown_change changes.now)) }
+        (sum_by rows_put (map shown_change changes.now)) }
     ensures refused { BlamesRows S.Store tx.old.conn.now tx.new.conn.now result
         (λ db. CantPutAll db (map shown_change changes.now)) }
 {
@@ -324,7 +321,7 @@ fn apply_group<S: Alter>(
     apply_each(tx, alloc, changes)
 }
 
-/// Makes row changes in a transaction, in their order.
+// Makes row changes in a transaction, in their order.
 fn apply_all<S: Alter>(
     tx: &mut Transaction<'_, S>,
     alloc: Global,
@@ -332,7 +329,7 @@ fn apply_all<S: Alter>(
 ) -> Result<(), StoreFault>
     ensures done { AppliesInside S.Store tx.old.conn tx.new.conn result changes.now }
     ensures grown { GrowsOnOk S.Store tx.old.conn.now tx.new.conn.now result
-        (sum_by rows_of (map shown_change changes.now)) }
+        (sum_by rows_put (map shown_change changes.now)) }
     ensures refused { BlamesRows S.Store tx.old.conn.now tx.new.conn.now result
         (λ db. CantPutAll db (map shown_change changes.now)) }
 {

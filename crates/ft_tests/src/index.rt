@@ -13,7 +13,7 @@ use sqlite::Alter;
 use std::alloc::Global;
 use std::test::Fail;
 
-// The tables of a store.
+/// The tables of a store.
 pub(crate) fn taken<S: Alter + Drop>(alloc: Global, store: Store<S>) -> Result<FullText<S>, Fail> {
     match FullText::new(alloc, store) {
         Ok(tables) => Ok(tables),

@@ -7,7 +7,7 @@ use Rattle.sqlite_value.specs.Order.{Row}
 use Rattle.sqlite_value.specs.declared.value.Value.{Value}
 use Rattle.sqlite_value.specs.declared.value.Value.TheVariants as value
 use Rattle.shell_text.specs.Print as print
-use Rattle.shell_text.specs.Print.{Settings, Table, printed}
+use Rattle.shell_text.specs.Print.{Settings, PrintedTable, printed}
 use Rattle.shell_io.specs.Outcomes.{Answer, says, blames}
 
 abbrev pub is_float : Value → Bool
@@ -19,12 +19,12 @@ abbrev pub words_or_blob : List ℕ → print.Value
 words_or_blob bytes = if is_utf8 bytes then print.Words bytes else print.Blob bytes
 
 -- a value that is shown; an answer with a float never is
-abbrev pub shown_value : Value → print.Value
-shown_value value.Null = print.Null
-shown_value (value.Int n) = print.Integer n
-shown_value (value.Real x) = print.Null
-shown_value (value.Text bytes) = words_or_blob bytes
-shown_value (value.Blob bytes) = print.Blob bytes
+abbrev pub printed_value : Value → print.Value
+printed_value value.Null = print.Null
+printed_value (value.Int n) = print.Integer n
+printed_value (value.Real x) = print.Null
+printed_value (value.Text bytes) = words_or_blob bytes
+printed_value (value.Blob bytes) = print.Blob bytes
 
 -- A column without a name, or whose name isn't UTF-8, is named by its place (own choice).
 abbrev pub column_name : ℕ → List ℕ → List ℕ
@@ -36,8 +36,8 @@ abbrev pub column_names : ℕ → List (List ℕ) → List (List ℕ)
 column_names place [] = []
 column_names place (name ∷ names) = column_name place name ∷ column_names (place + 1) names
 
-abbrev pub table_of : List (List ℕ) → List Row → Table
-table_of names rows = record { names = column_names 1 names; rows = map (map shown_value) rows }
+abbrev pub answer_table : List (List ℕ) → List Row → PrintedTable
+answer_table names rows = record { names = column_names 1 names; rows = map (map printed_value) rows }
 
 -- whether an answer has a float
 abbrev pub has_float : List Row → Bool
@@ -46,4 +46,4 @@ has_float rows = list_any (list_any is_float) rows
 -- An answer with a float is refused before anything is printed (own choice).
 abbrev pub row_print : Settings → List (List ℕ) → List Row → Answer
 row_print settings names rows =
-    if has_float rows then blames (codes "floating-point value in result") else says (printed settings (table_of names rows))
+    if has_float rows then blames (codes "floating-point value in result") else says (printed settings (answer_table names rows))

@@ -28,15 +28,15 @@ abbrev pub reading_of : List ℕ → List ℕ
 reading_of name = codes "SELECT 1 FROM " ++ (identifier name ++ codes " LIMIT 1")
 
 -- a statement that puts a row of so many values into the table
-abbrev pub insertion_of : List ℕ → ℕ → List ℕ
-insertion_of name n = codes "INSERT INTO " ++ (identifier name ++ (codes " VALUES (" ++ (with_commas (λ mark. mark) (replicate n (codes "?")) ++ codes ")")))
+abbrev pub insert_text : List ℕ → ℕ → List ℕ
+insert_text name n = codes "INSERT INTO " ++ (identifier name ++ (codes " VALUES (" ++ (with_commas (λ mark. mark) (replicate n (codes "?")) ++ codes ")")))
 
 abbrev pub text_column : List ℕ → List ℕ
 text_column column = identifier column ++ codes " TEXT"
 
 -- a statement that makes the table, with columns of texts
-abbrev pub creation_of : List ℕ → List (List ℕ) → List ℕ
-creation_of name columns = codes "CREATE TABLE " ++ (identifier name ++ (codes " (" ++ (with_commas text_column columns ++ codes ")")))
+abbrev pub create_text : List ℕ → List (List ℕ) → List ℕ
+create_text name columns = codes "CREATE TABLE " ++ (identifier name ++ (codes " (" ++ (with_commas text_column columns ++ codes ")")))
 
 -- ---- rows of a full-text table
 

@@ -41,6 +41,6 @@ module _ {P : Type 0} (g : Ghosts P) where
   -- and printed; or memory was wanting.
   pub data Lists (own noted : List (List ℕ)) (old new : Held P) (answer : Answer) : Type 0 where
     tables : (found names : List (List ℕ)) → Finds noted old new found → AreSorted (listed own found) names
-        → Tells (says (print.listed names)) answer → Lists own noted old new answer
+        → Tells (says (print.names_in_columns names)) answer → Lists own noted old new answer
     unsorted : (found : List (List ℕ)) → Finds noted old new found → answer ≡ lacks_memory → Lists own noted old new answer
     untried : StopsTrying noted old new → answer ≡ lacks_memory → Lists own noted old new answer

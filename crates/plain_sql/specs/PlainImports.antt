@@ -18,7 +18,7 @@ use Rattle.sqlite.specs.Steps.{FailsToCommit}
 use Rattle.sqlite.specs.declared.error.Error.{Error}
 use Rattle.plain_sql.specs.declared.plain_import.ImportFault.{ImportFault}
 use Rattle.plain_sql.specs.declared.plain_import.ImportFault.TheVariants.{Refused}
-use Rattle.plain_sql.specs.Imports.{creation_of, insertion_of}
+use Rattle.plain_sql.specs.Imports.{create_text, insert_text}
 use Rattle.plain_sql.specs.PlainStatements.{IfClean, is_memory_error}
 use Rattle.shell_io.specs.Records.{fitted}
 
@@ -26,7 +26,7 @@ use Rattle.shell_io.specs.Records.{fitted}
 
 -- whether so many values may be put into the table
 abbrev pub takes_values : Schema → List ℕ → ℕ → Bool
-takes_values schema name n = is_ok (understood schema (insertion_of name n))
+takes_values schema name n = is_ok (understood schema (insert_text name n))
 
 -- the table's number of columns: the one from 1 to 100 of values that may be put into it
 pub record HasColumns (schema : Schema) (name : List ℕ) (n : ℕ) : Type 0 where
@@ -75,12 +75,12 @@ runs_of text n records = map (λ fields. Run text (row_values n fields)) records
 
 -- the insertion is prepared once, and run for each record
 abbrev pub insertions : List ℕ → ℕ → List (List (List ℕ)) → List Step
-insertions name n records = Prepare (insertion_of name n) ∷ runs_of (insertion_of name n) n records
+insertions name n records = Prepare (insert_text name n) ∷ runs_of (insert_text name n) n records
 
 -- a table that is not there is made first, with columns of these names
 abbrev pub import_steps : Option (List (List ℕ)) → List ℕ → ℕ → List (List (List ℕ)) → List Step
 import_steps None name n records = insertions name n records
-import_steps (Some columns) name n records = Run (creation_of name columns) [] ∷ insertions name n records
+import_steps (Some columns) name n records = Run (create_text name columns) [] ∷ insertions name n records
 
 module _ {P : Type 0} (g : Ghosts P) where
   -- the step is done
@@ -138,14 +138,14 @@ module _ {P : Type 0} (g : Ghosts P) where
   -- want of memory.
   pub data Uncounted (name : List ℕ) (old new : Held P) : Type 0 where
     not_one : IfClean g old new (Stays (state g old) (state g new) × ((n : ℕ) → HasColumns (state g old).now.schema name n → ⊥)) → Uncounted name old new
-    untold : (n : ℕ) (mid : Held P) → IfClean g old mid (Stays (state g old) (state g mid)) → IsRefused (Prepare (insertion_of name n)) mid new
+    untold : (n : ℕ) (mid : Held P) → IfClean g old mid (Stays (state g old) (state g mid)) → IsRefused (Prepare (insert_text name n)) mid new
         → Uncounted name old new
 
   -- It is tried whether so many values may be put into a table: that is answered, and the database
   -- is as before; or `sqlite` refuses to say.
   pub record TriesCount (name : List ℕ) (n : ℕ) (old new : Held P) (result : Result Bool ImportFault) : Type 0 where
     pub told : IfOk result (λ takes. IfClean g old new (Stays (state g old) (state g new) × (takes ≡ takes_values (state g old).now.schema name n)))
-    pub refused : IsErrOf result Refused → IsRefused (Prepare (insertion_of name n)) old new
+    pub refused : IsErrOf result Refused → IsRefused (Prepare (insert_text name n)) old new
 
   -- The columns of a table are counted, and the database is as before; or it has no number of them.
   -- Want of memory says nothing of it.

@@ -32,7 +32,8 @@ fn utf8_of(bytes: &[u8]) -> Option<&str>
 }
 
 fn cell_of(alloc: Global, value: ValueRef<'_>) -> Result<Cell, AllocError>
-    ensures { IfOk result (λ cell. print.value_of cell ≡ forms.shown_value (owned value.entry)) }
+    ensures { IfOk result (λ cell. print.value_of_cell cell
+        ≡ forms.printed_value (owned value.entry)) }
 {
     match value {
         ValueRef::Null | ValueRef::Real(_) => Ok(Cell::Null),
@@ -70,8 +71,8 @@ fn have_float(rows: &[Row]) -> bool
 }
 
 fn row_cells(alloc: Global, row: &Row) -> Result<Vec<Cell>, AllocError>
-    ensures { IfOk result (λ cells. map print.value_of cells.items
-        ≡ map forms.shown_value row.now) }
+    ensures { IfOk result (λ cells. map print.value_of_cell cells.items
+        ≡ map forms.printed_value row.now) }
 {
     let mut cells = Vec::new(alloc);
     for at in 0..row.column_count() {
@@ -81,8 +82,8 @@ fn row_cells(alloc: Global, row: &Row) -> Result<Vec<Cell>, AllocError>
 }
 
 fn all_cells(alloc: Global, rows: &[Row]) -> Result<Vec<Vec<Cell>>, AllocError>
-    ensures { IfOk result (λ cells. map (λ row. map print.value_of row.items) cells.items
-        ≡ map (map forms.shown_value) rows.now) }
+    ensures { IfOk result (λ cells. map (λ row. map print.value_of_cell row.items) cells.items
+        ≡ map (map forms.printed_value) rows.now) }
 {
     let mut cells = Vec::new(alloc);
     for row in rows {

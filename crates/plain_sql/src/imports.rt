@@ -56,7 +56,7 @@ fn push_marks(text: &mut String, count: usize) -> Result<(), AllocError>
 
 /// A statement that puts a row of so many values into a table of this name.
 pub(crate) fn insertion_text(alloc: Global, name: &str, count: usize) -> Result<String, AllocError>
-    ensures { IfOk result (λ text. string_bytes text ≡ forms.insertion_of name.now count) }
+    ensures { IfOk result (λ text. string_bytes text ≡ forms.insert_text name.now count) }
 {
     let mut text = "INSERT INTO ".to_string(alloc)?;
     push_identifier(&mut text, name)?;
@@ -99,7 +99,7 @@ pub(crate) fn creation_text(
     columns: &[String],
 ) -> Result<String, AllocError>
     ensures { IfOk result (λ text. string_bytes text
-        ≡ forms.creation_of name.now (map string_bytes columns.now)) }
+        ≡ forms.create_text name.now (map string_bytes columns.now)) }
 {
     let mut text = "CREATE TABLE ".to_string(alloc)?;
     push_identifier(&mut text, name)?;

@@ -6,7 +6,7 @@ ghost use Rattle.sqlite.specs.Schema.{Schema};
 ghost use Rattle.sqlite.specs.Held.{state};
 ghost use Rattle.sqlite.specs.State.{HasCleanDisk};
 ghost use Rattle.plain_sql.specs.declared.plain_import.ImportFault.TheVariants.{Refused, Memory};
-ghost use Rattle.plain_sql.specs.Imports.{creation_of, insertion_of};
+ghost use Rattle.plain_sql.specs.Imports.{create_text, insert_text};
 ghost use Rattle.plain_sql.specs.PlainImports.{HasColumns, IsOnlyBelow, CommitsNothing, Prepare, Run, runs_of, insertions, import_steps, CommitsAll, CountsColumns, Declines, IsInside, StaysInside, TriesCount, TriesStep, TriesSteps};
 ghost use Rattle.plain_sql.specs.PlainStatements.{IfClean};
 ghost use Rattle.ft_statements.specs.Views.{texts_of};
@@ -132,7 +132,7 @@ fn create_table<P: Alter>(
     names: &[String],
 ) -> Result<(), ImportFault>
     requires inside { IsInside P.Store tx.old.conn.now }
-    ensures step { TriesStep P.Store (Run (creation_of table.now (map string_bytes names.now)) [])
+    ensures step { TriesStep P.Store (Run (create_text table.now (map string_bytes names.now)) [])
         tx.old.conn.now tx.new.conn.now result }
     ensures stays { StaysInside P.Store tx.old.conn tx.new.conn result }
 {
@@ -166,10 +166,10 @@ fn prepared_insertion<P: Alter>(
     columns: usize,
 ) -> Result<Statement, ImportFault>
     requires inside { IsInside P.Store tx.old.conn.now }
-    ensures step { TriesStep P.Store (Prepare (insertion_of table.now columns)) tx.old.conn.now
+    ensures step { TriesStep P.Store (Prepare (insert_text table.now columns)) tx.old.conn.now
         tx.new.conn.now result }
     ensures text { IfOk result (λ statement. HasCleanDisk (state P.Store tx.new.conn.now)
-        → statement.text ≡ insertion_of table.now columns) }
+        → statement.text ≡ insert_text table.now columns) }
     ensures stays { StaysInside P.Store tx.old.conn tx.new.conn result }
 {
     let text = insertion_text(alloc, table, columns)?;

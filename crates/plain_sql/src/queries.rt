@@ -4,7 +4,7 @@ ghost use Rattle.shell_io.specs.OutputViews.{answer_as, complaint_as};
 ghost use Rattle.plain_sql.specs.PlainStatements as turns;
 ghost use Rattle.plain_sql.specs.PlainStatements.{EndsSo, TellsRefusal, Answers, FailsToAnswer, QueryTurn};
 ghost use Rattle.ft_statements.specs.Plain as forms;
-ghost use Rattle.ft_statements.specs.Words.{tokens_of};
+ghost use Rattle.ft_statements.specs.Words.{sql_tokens};
 
 use crate::answers::row_print;
 use ft_statements::FaultText;
@@ -20,7 +20,7 @@ pub(crate) fn is_memory_error(error: Error) -> bool
     matches!(error, Error::SqliteFailure(ErrorCode::OutOfMemory))
 }
 
-/// What is said behind the words of `sqlite` where MATCH is one of those of the statement.
+// What is said behind the words of `sqlite` where MATCH is one of those of the statement.
 fn match_hint(seeks: bool) -> &'static str
     ensures { result.now ≡ turns.match_hint seeks }
 {
@@ -73,7 +73,7 @@ pub fn query_turn<P: Alter>(
     text: &str,
     seeks: bool,
 ) -> Answer
-    requires { seeks ≡ forms.seeks (tokens_of text.now) }
+    requires { seeks ≡ forms.seeks (sql_tokens text.now) }
     ensures { QueryTurn P.Store settings.now text.now plain.old plain.new (answer_as result) }
 {
     match asked(plain, text) {

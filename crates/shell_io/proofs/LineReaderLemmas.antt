@@ -9,7 +9,7 @@ use Rattle.std.specs.Str.{is_utf8}
 use Rattle.shell_text.specs.declared.units.SplitFault.{SplitFault}
 use Rattle.shell_text.specs.declared.units.SplitFault.TheVariants as fault
 use Rattle.shell_text.specs.declared.units.Unit.{Unit as SeenUnit}
-use Rattle.shell_text.specs.Units.{Member, Fault, last_member, tail_in, Reading, Role, Refused, Command, Joins, is_idle, lines_of, onto_line, most_bytes, role_of, size_with, member_of, after_role, after, units_in, without_block}
+use Rattle.shell_text.specs.Units.{Member, Fault, last_member, tail_in, Reading, Role, Refused, Command, Joins, is_idle, lines_of, onto_line, most_bytes, role_of, size_with, member_of, after_role, after_line, units_in, without_block}
 use Rattle.shell_text.specs.Splitting.{Finishes, Splitting, TakesLine, given_by, without_ended}
 use Rattle.shell_text.specs.Words.{next_is, first_byte, pieces_from}
 use Rattle.shell_io.specs.LinesRead.{EndsWith, LinesRead, HasNoEnd, Way, at_end, behind, end_line, members_left}
@@ -142,12 +142,12 @@ pub taken_line : (a : LinesRead) (new : Splitting) (u : Unit {0}) (way : Way) �
 taken_line a new u way plain none takes =
     let r = a.splitting.reading in
     let lines = lines_of way.ends way.rest in
-    let next = without_ended (after r a.line) in
+    let next = without_ended (after_line r a.line) in
     ap (λ w. w ++ given_by way.ends r (lines_of way.ends (a.line ++ 10 ∷ way.rest))) none ∙ ap (given_by way.ends r) (ended way.ends a.line way.rest plain)
-    ∙ sym ((λ i. takes.2 i ++ given_by way.ends (takes.1 i) lines) ∙ ap (λ w. ((w ++ member_of (role_of r a.line) r a.line) ++ units_in (after r a.line)) ++ given_by way.ends next lines) none)
+    ∙ sym ((λ i. takes.2 i ++ given_by way.ends (takes.1 i) lines) ∙ ap (λ w. ((w ++ member_of (role_of r a.line) r a.line) ++ units_in (after_line r a.line)) ++ given_by way.ends next lines) none)
 
 abbrev Refuses : List ℕ → Splitting → Splitting → SplitFault → Type 0
-Refuses line old new why = (role_of old.reading line ≡ Refused why) × (new ≡ record old { reading = after old.reading line })
+Refuses line old new why = (role_of old.reading line ≡ Refused why) × (new ≡ record old { reading = after_line old.reading line })
 
 refuses : (line : List ℕ) (old new : Splitting) (why : SplitFault) → why ≢ fault.Memory → TakesLine line old new (Err why) → Refuses line old new why
 refuses line old new fault.TooLong other takes = takes
@@ -166,7 +166,7 @@ refused_line a new why number way plain none same other takes =
     ap (λ w. w ++ given_by ends r (lines_of ends (a.line ++ 10 ∷ way.rest))) none ∙ ap (given_by ends r) (ended ends a.line way.rest plain)
     ∙ refused_given ends why r a.line lines is.0
     ∙ (λ i. Fault (sym same i) why ∷ given_by ends (after_role (sym is.0 i) r a.line) lines)
-    ∙ sym (ap (λ (s : Splitting). Fault number why ∷ (s.waiting ++ given_by ends s.reading lines)) is.1 ∙ ap (λ w. Fault number why ∷ (w ++ given_by ends (after r a.line) lines)) none)
+    ∙ sym (ap (λ (s : Splitting). Fault number why ∷ (s.waiting ++ given_by ends s.reading lines)) is.1 ∙ ap (λ w. Fault number why ∷ (w ++ given_by ends (after_line r a.line) lines)) none)
 
 -- ---- the end of the input
 

@@ -14,8 +14,8 @@ abbrev pub Files : Type 0
 Files = List ℕ → File
 
 -- the bytes of a file are those that the name holds, where these are known
-abbrev pub Gives : Files → List ℕ → List ℕ → Type 0
-Gives files name bytes = IfSome (files name).bytes (λ known. bytes ≡ known)
+abbrev pub GivesFile : Files → List ℕ → List ℕ → Type 0
+GivesFile files name bytes = IfSome (files name).bytes (λ known. bytes ≡ known)
 
 -- a fetch of the name may be refused with this fault
 abbrev pub Refuses : Files → List ℕ → SourceFault → Type 0

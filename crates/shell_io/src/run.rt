@@ -4,7 +4,7 @@ ghost use Rattle.std.specs.Io.KnownBytes.{Consumes, IsAtEnd, Keeps};
 ghost use Rattle.shell_io.specs.declared.run.RunFault.TheVariants.{Memory, Write};
 ghost use Rattle.shell_io.specs.Outcomes as forms;
 ghost use Rattle.shell_io.specs.OutputViews.{answer_as};
-ghost use Rattle.shell_io.specs.Writing.{SameWriters, Sends, Writes};
+ghost use Rattle.shell_io.specs.Writing.{SameWriters, Sends, WritesOutcome};
 
 use crate::output::{Answer, Output};
 use crate::written::{Refused, write_answer, write_parts};
@@ -101,7 +101,7 @@ pub fn tell<O: Write, E: Write>(
     bail: bool,
     outputs: &mut Outputs<'_, O, E>,
 ) -> Result<(), RunFault>
-    ensures writes { Writes O.contents E.contents result outputs.old outputs.new
+    ensures writes { WritesOutcome O.contents E.contents result outputs.old outputs.new
         (forms.outcome_of bail line (answer_as answer.now)) }
     ensures writers { SameWriters outputs.old outputs.new }
 {

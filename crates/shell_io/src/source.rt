@@ -1,6 +1,6 @@
 //! Where an import's file comes from.
 ghost use Rattle.std.specs.Prelude.{◌≡◌, ℕ, List, IfOk, IfErr};
-ghost use Rattle.shell_io.specs.Sources.{Files, Gives, Refuses};
+ghost use Rattle.shell_io.specs.Sources.{Files, GivesFile, Refuses};
 
 use std::alloc::Global;
 use thiserror::Error;
@@ -26,7 +26,7 @@ pub trait Source {
 
     /// A file's bytes, at most 64 MiB of them.
     fn fetch(&mut self, alloc: Global, name: &str) -> Result<Vec<u8>, SourceFault>
-        ensures bytes { IfOk result (λ bytes. Gives (holds self.old) name.now bytes.items) }
+        ensures bytes { IfOk result (λ bytes. GivesFile (holds self.old) name.now bytes.items) }
         ensures refused { IfErr result (λ fault. Refuses (holds self.old) name.now fault) }
         ensures same { (other : List ℕ) → holds self.new other ≡ holds self.old other };
 }

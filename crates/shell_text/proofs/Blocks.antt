@@ -9,7 +9,7 @@ use Rattle.std.specs.List.{list_all, list_any, onto_first}
 use Rattle.std.proofs.lemmas.List.{append_assoc, append-nil}
 use Rattle.shell_text.specs.Words.{Piece, first_byte, is_gap, next_is, pieces_from, pieces_of, text_of}
 use Rattle.shell_text.specs.declared.words.Place.TheVariants.{Between}
-use Rattle.shell_text.specs.Units.{Member, Reading, Role, Refused, Command, Joins, after, after_role, closed_by, ended_unit, ended_units, ends_statement, last_member, line_behind, lines_of, member_of, members_from, most_bytes, numbered, parts_of, role_of, start, tail_in, tail_of, units_in, with_line}
+use Rattle.shell_text.specs.Units.{Member, Reading, Role, Refused, Command, Joins, after_line, after_role, closed_by, ended_unit, ended_units, ends_statement, last_member, line_behind, lines_of, member_of, members_from, most_bytes, numbered, at_semicolons, role_of, start, tail_in, tail_of, units_in, with_line}
 use Rattle.shell_text.specs.Splitting.{given_by, without_ended}
 use Rattle.shell_text.proofs.Restart.{Cuts, cut, cuts, uncut, text_of-pieces}
 
@@ -29,9 +29,9 @@ first_if : (ends : Bool) (p : Piece) (parts : List (List Piece)) → HasFirst (i
 first_if true p parts = record { part = p ∷ []; more = parts; is = refl }
 first_if false p parts = first_onto p parts
 
-has_first : (ps : List Piece) → HasFirst (parts_of ps)
+has_first : (ps : List Piece) → HasFirst (at_semicolons ps)
 has_first [] = record { part = []; more = []; is = refl }
-has_first (p ∷ ps) = first_if (ends_statement p) p (parts_of ps)
+has_first (p ∷ ps) = first_if (ends_statement p) p (at_semicolons ps)
 
 -- ---- units and tail of parts that go on
 
@@ -59,13 +59,13 @@ tail_on (e ∷ f ∷ es) n tail p ps = tail_on (f ∷ es) (line_behind n (text_o
 
 -- the same for parts of any pieces
 units_past : (es : List (List Piece)) (n : ℕ) (tail ps : List Piece)
-    → ended_units n (es ++ parts_of ps) ≡ ended_units n (es ++ tail ∷ []) ++ ended_units (end_line n es tail) (parts_of ps)
+    → ended_units n (es ++ at_semicolons ps) ≡ ended_units n (es ++ tail ∷ []) ++ ended_units (end_line n es tail) (at_semicolons ps)
 units_past es n tail ps =
     let f = has_first ps in
     ap (λ parts. ended_units n (es ++ parts)) f.is ∙ units_on es n tail f.part f.more
     ∙ sym (ap (λ parts. ended_units n (es ++ tail ∷ []) ++ ended_units (end_line n es tail) parts) f.is)
 
-tail_past : (es : List (List Piece)) (n : ℕ) (tail ps : List Piece) → tail_of n (es ++ parts_of ps) ≡ tail_of (end_line n es tail) (parts_of ps)
+tail_past : (es : List (List Piece)) (n : ℕ) (tail ps : List Piece) → tail_of n (es ++ at_semicolons ps) ≡ tail_of (end_line n es tail) (at_semicolons ps)
 tail_past es n tail ps =
     let f = has_first ps in
     ap (λ parts. tail_of n (es ++ parts)) f.is ∙ tail_on es n tail f.part f.more ∙ sym (ap (tail_of (end_line n es tail)) f.is)
@@ -85,7 +85,7 @@ reading at_line first text = record { line = at_line; first = first; block = Som
 abbrev pub with_parts : ℕ → ℕ → List (List Piece) → Reading
 with_parts at_line first parts = reading at_line (tail_of first parts).0 (text_of (tail_of first parts).1)
 
-goes_uncut : (at_line first : ℕ) (text : List ℕ) → parts_of (pieces_of text) ≡ pieces_of text ∷ [] → GoesOn (reading at_line first text)
+goes_uncut : (at_line first : ℕ) (text : List ℕ) → at_semicolons (pieces_of text) ≡ pieces_of text ∷ [] → GoesOn (reading at_line first text)
 goes_uncut at_line first text h =
     let r = reading at_line first text in
     let same : without_ended r ≡ r = ap (with_parts at_line first) h ∙ ap (reading at_line first) (text_of-pieces text Between) in
@@ -97,8 +97,8 @@ goes_uncut at_line first text h =
       tails = λ line. sym (ap (λ s. tail_in (with_line s line)) same);
     }
 
-goes_cut : (at_line first : ℕ) (text : List ℕ) (es : List (List Piece)) (tail : List ℕ) → parts_of (pieces_of text) ≡ es ++ pieces_of tail ∷ [] → parts_of (pieces_of tail) ≡ pieces_of tail ∷ []
-    → ((more : List ℕ) → parts_of (pieces_of (text ++ more)) ≡ es ++ parts_of (pieces_of (tail ++ more))) → GoesOn (reading at_line first text)
+goes_cut : (at_line first : ℕ) (text : List ℕ) (es : List (List Piece)) (tail : List ℕ) → at_semicolons (pieces_of text) ≡ es ++ pieces_of tail ∷ [] → at_semicolons (pieces_of tail) ≡ pieces_of tail ∷ []
+    → ((more : List ℕ) → at_semicolons (pieces_of (text ++ more)) ≡ es ++ at_semicolons (pieces_of (tail ++ more))) → GoesOn (reading at_line first text)
 goes_cut at_line first text es tail h u g =
     let r = reading at_line first text in
     let at = end_line first es (pieces_of tail) in
@@ -167,7 +167,7 @@ pub members_from-given : (ends : Bool) (lines : List (List ℕ)) (r : Reading) �
 members_from-given true [] r = ap (λ t. units_in r ++ last_member t) (sym (goes_on r).tail)
 members_from-given false [] r = refl
 members_from-given ends (line ∷ lines) r =
-    one_line ends (role_of r line) r line lines (members_from-given ends lines (after r line))
+    one_line ends (role_of r line) r line lines (members_from-given ends lines (after_line r line))
     ∙ sym (ap (λ role. units_in r ++ ((member_of role (without_ended r) line ++ units_in (after_role role (without_ended r) line))
     ++ given_by ends (without_ended (after_role role (without_ended r) line)) lines)) (same_role r line))
 

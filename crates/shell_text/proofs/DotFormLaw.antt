@@ -5,7 +5,7 @@ use Rattle.std.proofs.lemmas.Bool.{eqb-true, ne_eqb, and_parts, or_parts, or_fro
 use Rattle.std.proofs.lemmas.List.{append_assoc}
 use Rattle.shell_text.specs.Dot.{is_blank, is_escape, escaped_char, begins_escape, dot_turn, dot_words_from, dot_word_chars, first_char, onto_word, place_behind, with_turn}
 use Rattle.shell_text.specs.WordForms.{Lacks}
-use Rattle.shell_text.specs.DotForms.{StandsFor, nothing, itself, escape, is_quotation_mark, begins_other, ends_bare, IsDotWord, in_apostrophes, open_apostrophe, in_marks, open_mark, bare, AreDotWords, no_word, blank, next_word}
+use Rattle.shell_text.specs.DotForms.{StandForWord, nothing, itself, escape, is_quotation_mark, begins_other, ends_bare, IsDotWord, in_apostrophes, open_apostrophe, in_marks, open_mark, bare, AreDotWords, no_word, blank, next_word}
 use Rattle.shell_text.specs.declared.dot.Place.{Place}
 use Rattle.shell_text.specs.declared.dot.Place.TheVariants.{Between, Bare, Single, Double, BareEscape, DoubleEscape}
 use Rattle.shell_text.specs.declared.dot.Turn.{Turn}
@@ -65,7 +65,7 @@ in_bare = record {
   adds_escaped = λ c cs. refl;
 }
 
-stands_on : {ends : ℕ → Bool} {behind cs word : List ℕ} (p : EscapePlaces ends) → StandsFor ends behind cs word
+stands_on : {ends : ℕ → Bool} {behind cs word : List ℕ} (p : EscapePlaces ends) → StandForWord ends behind cs word
     → dot_words_from p.inside (cs ++ behind) ≡ onto_word word (dot_words_from p.inside behind)
 stands_on {behind = behind} p nothing = sym (onto-nil (dot_words_from p.inside behind))
 stands_on {behind = behind} p (itself {c} {cs} {word} other none more) =
@@ -158,8 +158,8 @@ word_read (bare {c} {cs} {word} {behind} other s stop) =
 -- characters with escapes go up to one that ends them, or to the line's end
 data UpToEnd (ends : ℕ → Bool) (line : List ℕ) : Type 0 where
   ended : (cs word : List ℕ) (last : ℕ) (behind : List ℕ) → line ≡ cs ++ (last ∷ behind) → ends last ≡ true
-      → StandsFor ends (last ∷ behind) cs word → UpToEnd ends line
-  not_ended : (word : List ℕ) → StandsFor ends [] line word → UpToEnd ends line
+      → StandForWord ends (last ∷ behind) cs word → UpToEnd ends line
+  not_ended : (word : List ℕ) → StandForWord ends [] line word → UpToEnd ends line
 
 -- a backslash stands before an escape
 data EscapesHere (c : ℕ) (cs : List ℕ) : Type 0 where
@@ -212,7 +212,7 @@ mark_begins c line e = subst (λ d. Begins (d ∷ line)) (sym (eqb-true c 0x22 e
         let mark : last ≡ 0x22 = eqb-true last 0x22 ending in
         with_word 0x22 (cs ++ 0x22 ∷ []) word behind
         (ap (λ ds. 0x22 ∷ ds) (is ∙ ap (λ x. cs ++ (x ∷ behind)) mark ∙ sym (append_assoc cs (0x22 ∷ []) behind)))
-        (in_marks (subst (λ x. StandsFor is_quotation_mark (x ∷ behind) cs word) mark s))
+        (in_marks (subst (λ x. StandForWord is_quotation_mark (x ∷ behind) cs word) mark s))
     by_end (not_ended word s) = with_word 0x22 line word [] (ap (λ ds. 0x22 ∷ ds) (sym (append-nil line))) (open_mark s)
 
 bare_begins_word : (c : ℕ) (line : List ℕ) → begins_other c ≡ false → Begins (c ∷ line)
@@ -222,7 +222,7 @@ bare_begins_word c line other = by_end (to_end is_blank (c ∷ line))
     blank_none = (or_parts (is_blank c) ((c == 0x27) || is_quotation_mark c) other).0
 
     filled : (cs word : List ℕ) (last : ℕ) (behind : List ℕ) → c ∷ line ≡ cs ++ (last ∷ behind) → is_blank last ≡ true
-        → StandsFor is_blank (last ∷ behind) cs word → Begins (c ∷ line)
+        → StandForWord is_blank (last ∷ behind) cs word → Begins (c ∷ line)
     filled [] word last behind is ending s =
         let same : c ≡ last = cc in
         let clash : true ≡ false = sym ending ∙ ap is_blank (sym same) ∙ blank_none in

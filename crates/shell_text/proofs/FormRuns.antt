@@ -8,7 +8,7 @@ use Rattle.std.proofs.lemmas.Bool.Decides.{nat_tests}
 use Rattle.std.proofs.lemmas.List.{append_assoc}
 use Rattle.std.proofs.lemmas.List.Elements.{recursion_from_All}
 use Rattle.shell_text.specs.Words.{Piece, PieceKind, Open, begun, turn, is_space, begins_word, goes_on_word, ends_line, in_marks, in_number, in_word, next_is, first_byte, onto_piece, pieces_from}
-use Rattle.shell_text.specs.WordForms.{Lacks, IsMark, apostrophe, quotation_mark, backquote, IsMarked, nothing, other_byte, doubled_mark, IsForm, white_space, line_comment, block_comment, open_comment, marked, open_mark, bracketed, open_bracket, bare_word, number}
+use Rattle.shell_text.specs.WordForms.{Lacks, IsMark, apostrophe, quotation_mark, backquote, IsInMarks, nothing, other_byte, doubled_mark, IsForm, white_space, line_comment, block_comment, open_comment, marked, open_mark, bracketed, open_bracket, bare_word, number}
 use Rattle.shell_text.specs.Lexed.{onto}
 use Rattle.shell_text.specs.declared.words.SqlKind.{SqlKind}
 use Rattle.shell_text.specs.declared.words.SqlKind.TheVariants as kinds
@@ -171,7 +171,7 @@ places apostrophe = record { inside = InText; doubled = TextMark; begins = λ ne
 places quotation_mark = record { inside = InDouble; doubled = DoubleMark; begins = λ next. refl; inside_turn = λ b next. refl; doubled_turn = λ b next. refl }
 places backquote = record { inside = InBackquotes; doubled = BackquoteMark; begins = λ next. refl; inside_turn = λ b next. refl; doubled_turn = λ b next. refl }
 
-marked_on : {mark : ℕ} {kind : SqlKind} {bytes : List ℕ} (p : MarkPlaces mark kind) → IsMarked mark bytes → (rest : List ℕ)
+marked_on : {mark : ℕ} {kind : SqlKind} {bytes : List ℕ} (p : MarkPlaces mark kind) → IsInMarks mark bytes → (rest : List ℕ)
     → pieces_from p.inside (bytes ++ rest) ≡ onto bytes (pieces_from p.inside rest)
 marked_on p nothing rest = refl
 marked_on {mark} {kind} p (other_byte {b} {bytes} other m) rest =

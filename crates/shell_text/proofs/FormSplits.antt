@@ -6,7 +6,7 @@ use Rattle.std.proofs.lemmas.Bool.{eqb-true, eqb-false}
 use Rattle.std.proofs.lemmas.List.{append_assoc}
 use Rattle.std.proofs.lemmas.List.Elements.{All-nil, All-cons}
 use Rattle.shell_text.specs.Words.{PieceKind, Closed, Open, begun, is_space, begins_word, goes_on_word, next_is, first_byte}
-use Rattle.shell_text.specs.WordForms.{Lacks, IsRun, IsMark, apostrophe, quotation_mark, backquote, IsMarked, nothing, other_byte, doubled_mark, IsForm, white_space, line_comment, block_comment, open_comment, marked, open_mark, bracketed, open_bracket, bare_word, number}
+use Rattle.shell_text.specs.WordForms.{Lacks, IsRun, IsMark, apostrophe, quotation_mark, backquote, IsInMarks, nothing, other_byte, doubled_mark, IsForm, white_space, line_comment, block_comment, open_comment, marked, open_mark, bracketed, open_bracket, bare_word, number}
 use Rattle.shell_text.specs.declared.words.SqlKind.{SqlKind}
 use Rattle.shell_text.specs.declared.words.SqlKind.TheVariants as kinds
 use Rattle.shell_text.specs.declared.words.Ended.TheVariants.{Word, Gap}
@@ -92,9 +92,9 @@ up_to_end (b ∷ text) = at_byte (closes b text) refl (up_to_end text)
 -- ---- up to a closing mark
 
 pub data ToMark (mark : ℕ) (text : List ℕ) : Type 0 where
-  closed_at : (inside behind : List ℕ) → text ≡ inside ++ (mark ∷ behind) → IsMarked mark inside
+  closed_at : (inside behind : List ℕ) → text ≡ inside ++ (mark ∷ behind) → IsInMarks mark inside
       → next_is (λ b. b == mark) (first_byte behind) ≡ false → ToMark mark text
-  not_closed : IsMarked mark text → ToMark mark text
+  not_closed : IsInMarks mark text → ToMark mark text
 
 pub to_mark : (mark : ℕ) (text : List ℕ) → ToMark mark text
 to_mark mark [] = not_closed nothing

@@ -5,8 +5,8 @@ use Rattle.std.specs.List.{list_any, list_all, prefix_len}
 use Rattle.std.specs.Str.{IsUtf8}
 use Rattle.std.proofs.lemmas.List.{append_assoc, append-nil, take-append-drop}
 use Rattle.shell_text.specs.Words.{Piece, PieceKind, Closed, Open, turn, first_byte, is_gap, is_open, is_word, pieces_from, pieces_of, text_of}
-use Rattle.shell_text.specs.Units.{Sql, Fault, ended_unit, ended_units, ends_statement, from_first_word, gaps_before, last_member, line_behind, line_of, numbered, parts_of, tail_of, unit_of}
-use Rattle.shell_text.specs.Lexed.{IsFront, KeepsPending, Reads, first_word, handed, is_between, is_semicolon, last_of, onto}
+use Rattle.shell_text.specs.Units.{Sql, Fault, ended_unit, ended_units, ends_statement, from_first_word, gaps_before, last_member, line_behind, unit_line, numbered, at_semicolons, tail_of, unit_of}
+use Rattle.shell_text.specs.Lexed.{IsFront, KeepsPending, HasRead, first_word, handed, is_between, is_semicolon, last_of, onto}
 use Rattle.shell_text.specs.declared.units.SplitFault.TheVariants as fault
 use Rattle.shell_text.specs.declared.words.SqlKind.{SqlKind}
 use Rattle.shell_text.specs.declared.words.SqlKind.TheVariants as kinds
@@ -49,7 +49,7 @@ keeps_goes {before} {rest} {b} {p} to k e = record {
 abbrev pub behind_piece : Pending → ℕ → ℕ → Option Spot → Pending
 behind_piece p b at word = record { first = p.first; line = byte_line p b; place = Between; piece = record { at = at; line = byte_line p b }; word = word }
 
-whole_piece : {before rest front : List ℕ} {b : ℕ} {place : Place} {done : List Piece} (what : Ended) → Reads before (b ∷ rest) place front done
+whole_piece : {before rest front : List ℕ} {b : ℕ} {place : Place} {done : List Piece} (what : Ended) → HasRead before (b ∷ rest) place front done
     → text_of (done ++ closed what (front ++ b ∷ []) ∷ []) ≡ before ++ b ∷ []
 whole_piece {before} {rest} {front} {b} {place} {done} what r =
     text_of-more done (closed what (front ++ b ∷ [])) ∙ sym (append_assoc (text_of done) front (b ∷ [])) ∙ ap (λ t. t ++ b ∷ []) (sym r.text)
@@ -121,10 +121,10 @@ symbol_place CommentMark b next e = absurd (no_symbol CommentMark b next (Word k
 symbol_place BlockComment b next e = absurd (no_symbol BlockComment b next (Word kinds.Symbol) tt e refl)
 symbol_place Star b next e = absurd (no_symbol Star b next (Word kinds.Symbol) tt e refl)
 
-symbol_front : {before rest front : List ℕ} {b : ℕ} {place : Place} {done : List Piece} → Reads before (b ∷ rest) place front done → turn place b (first_byte rest) ≡ Ends (Word kinds.Symbol) → front ≡ []
+symbol_front : {before rest front : List ℕ} {b : ℕ} {place : Place} {done : List Piece} → HasRead before (b ∷ rest) place front done → turn place b (first_byte rest) ≡ Ends (Word kinds.Symbol) → front ≡ []
 symbol_front {before} {rest} {front} {b} {place} r e = subst (λ at. IsFront at front) (symbol_place place b (first_byte rest) e) r.begins
 
-semicolon_piece : {before rest front : List ℕ} {b : ℕ} {place : Place} {done : List Piece} (kind : SqlKind) → Reads before (b ∷ rest) place front done → turn place b (first_byte rest) ≡ Ends (Word kind)
+semicolon_piece : {before rest front : List ℕ} {b : ℕ} {place : Place} {done : List Piece} (kind : SqlKind) → HasRead before (b ∷ rest) place front done → turn place b (first_byte rest) ≡ Ends (Word kind)
     → ends_statement (closed (Word kind) (front ++ b ∷ [])) ≡ is_semicolon kind b
 semicolon_piece kinds.Word r e = refl
 semicolon_piece kinds.Quoted r e = refl
@@ -140,8 +140,8 @@ keeps_word {before} {rest} {b} {p} kind at k e here other =
 
 -- a statement ends
 pub record EndsStatement (before rest : List ℕ) (b : ℕ) (p : Pending) : Type 0 where
-  pub units : ended_units p.first (parts_of (pieces_of (before ++ b ∷ rest))) ≡ handed p.word (before ++ b ∷ []) ++ ended_units (byte_line p b) (parts_of (pieces_of rest))
-  pub tail : tail_of p.first (parts_of (pieces_of (before ++ b ∷ rest))) ≡ tail_of (byte_line p b) (parts_of (pieces_of rest))
+  pub units : ended_units p.first (at_semicolons (pieces_of (before ++ b ∷ rest))) ≡ handed p.word (before ++ b ∷ []) ++ ended_units (byte_line p b) (at_semicolons (pieces_of rest))
+  pub tail : tail_of p.first (at_semicolons (pieces_of (before ++ b ∷ rest))) ≡ tail_of (byte_line p b) (at_semicolons (pieces_of rest))
 
 pub keeps_semicolon : {before rest : List ℕ} {b : ℕ} {p : Pending} (kind : SqlKind) → KeepsPending before (b ∷ rest) p → turn p.place b (first_byte rest) ≡ Ends (Word kind) → is_semicolon kind b ≡ true
     → EndsStatement before rest b p
@@ -153,20 +153,20 @@ keeps_semicolon {before} {rest} {b} {p} kind k e ends =
     let pieces : pieces_of (before ++ b ∷ rest) ≡ k.done ++ q ∷ pieces_of rest =
     ap (λ r. pieces_of (before ++ r)) (sym (append-nil (b ∷ rest))) ∙ k.reads.pieces [] refl ∙ ap (λ r. k.done ++ onto k.front (pieces_from p.place r)) (append-nil (b ∷ rest))
     ∙ ap (λ ps. k.done ++ onto k.front ps) (pieces_by p.place b rest (Ends (Word kind)) e) ∙ ap (λ ps. k.done ++ ps) (onto-closed k.front b (Word kind) (pieces_of rest)) in
-    let parts : parts_of (pieces_of (before ++ b ∷ rest)) ≡ part ∷ parts_of (pieces_of rest) = ap parts_of pieces ∙ first_part k.done q (pieces_of rest) k.ends is in
+    let parts : at_semicolons (pieces_of (before ++ b ∷ rest)) ≡ part ∷ at_semicolons (pieces_of rest) = ap at_semicolons pieces ∙ first_part k.done q (pieces_of rest) k.ends is in
     let line : line_behind p.first (text_of part) ≡ byte_line p b = ap (line_behind p.first) all ∙ sym (line_on b k) in
     record {
       units = ap (ended_units p.first) parts ∙ ended_first p.first part (pieces_of rest)
-          ∙ ap (λ n. ended_unit p.first part ++ ended_units n (parts_of (pieces_of rest))) line
-          ∙ ap (λ us. us ++ ended_units (byte_line p b) (parts_of (pieces_of rest))) (ended_by p.first k.done q p.word k.reads.whole is (sym k.word) ∙ ap (handed p.word) all);
-      tail = ap (tail_of p.first) parts ∙ tail_first p.first part (pieces_of rest) ∙ ap (λ n. tail_of n (parts_of (pieces_of rest))) line;
+          ∙ ap (λ n. ended_unit p.first part ++ ended_units n (at_semicolons (pieces_of rest))) line
+          ∙ ap (λ us. us ++ ended_units (byte_line p b) (at_semicolons (pieces_of rest))) (ended_by p.first k.done q p.word k.reads.whole is (sym k.word) ∙ ap (handed p.word) all);
+      tail = ap (tail_of p.first) parts ∙ tail_first p.first part (pieces_of rest) ∙ ap (λ n. tail_of n (at_semicolons (pieces_of rest))) line;
     }
 
 -- ---- at the end of a line
 
 -- what is known of the pieces of a pending text
 pub record AtEnd (text : List ℕ) (p : Pending) : Type 0 where
-  pub one : parts_of (pieces_of text) ≡ pieces_of text ∷ []
+  pub one : at_semicolons (pieces_of text) ≡ pieces_of text ∷ []
   pub idle : list_all is_gap (pieces_of text) ≡ is_between p.place && is_none p.word
   pub last : last_member (p.first, pieces_of text) ≡ last_of p text
 
@@ -208,11 +208,11 @@ any_words (q ∷ done) at n h =
 -- the last statement, where all pieces are closed
 closed_last : (n : ℕ) (done : List Piece) (word : Option Spot) → list_any is_open done ≡ false → first_word 0 n done ≡ word → last_member (n, done) ≡ handed word (text_of done)
 closed_last n done None o f =
-    ap (λ b. if b then Fault (line_of n done) (fault.Incomplete (line_of n done)) ∷ [] else (if list_any is_word done then unit_of n done ∷ [] else [])) o
+    ap (λ b. if b then Fault (unit_line n done) (fault.Incomplete (unit_line n done)) ∷ [] else (if list_any is_word done then unit_of n done ∷ [] else [])) o
     ∙ ap (λ b. if b then unit_of n done ∷ [] else []) (any_words done 0 n o ∙ ap is_some f)
 closed_last n done (Some w) o f =
     let is = is_first done 0 n w f in
-    ap (λ b. if b then Fault (line_of n done) (fault.Incomplete (line_of n done)) ∷ [] else (if list_any is_word done then unit_of n done ∷ [] else [])) o
+    ap (λ b. if b then Fault (unit_line n done) (fault.Incomplete (unit_line n done)) ∷ [] else (if list_any is_word done then unit_of n done ∷ [] else [])) o
     ∙ ap (λ b. if b then unit_of n done ∷ [] else []) (any_words done 0 n o ∙ ap is_some f)
     ∙ ap (λ l. Sql l (text_of (from_first_word done)) ∷ []) (sym is.line)
     ∙ ap (λ t. Sql w.line t ∷ []) (from_first done ∙ ap (λ k. drop k (text_of done)) (sym (is.place ∙ zero-add (length (text_of (gaps_before done))))))
@@ -225,15 +225,15 @@ open_last {text} {rest} {p} k =
     let ps = k.done ++ open_piece k.front ∷ [] in
     let w = unwrap_or p.word p.piece in
     let is = is_first ps 0 p.first w (sym (word_with k (open_piece k.front) refl)) in
-    ap (λ b. if b then Fault (line_of p.first ps) (fault.Incomplete (line_of p.first ps)) ∷ [] else (if list_any is_word ps then unit_of p.first ps ∷ [] else [])) (any_last k.done (open_piece k.front) refl)
+    ap (λ b. if b then Fault (unit_line p.first ps) (fault.Incomplete (unit_line p.first ps)) ∷ [] else (if list_any is_word ps then unit_of p.first ps ∷ [] else [])) (any_last k.done (open_piece k.front) refl)
     ∙ ap (λ l. Fault l (fault.Incomplete l) ∷ []) (sym is.line)
 
 at_end_between : {text : List ℕ} {p : Pending} → KeepsPending text [] p → p.place ≡ Between → AtEnd text p
 at_end_between {text} {p} k e =
-    let pieces : pieces_of text ≡ k.done = between_pieces (subst (λ at. Reads text [] at k.front k.done) e k.reads) in
+    let pieces : pieces_of text ≡ k.done = between_pieces (subst (λ at. HasRead text [] at k.front k.done) e k.reads) in
     let whole : text_of k.done ≡ text = ap text_of (sym pieces) ∙ text_of-pieces text Between in
     record {
-      one = ap parts_of pieces ∙ one_part k.done k.ends ∙ ap (λ ps. ps ∷ []) (sym pieces);
+      one = ap at_semicolons pieces ∙ one_part k.done k.ends ∙ ap (λ ps. ps ∷ []) (sym pieces);
       idle = ap (list_all is_gap) pieces ∙ all_gaps k.done 0 p.first k.reads.whole ∙ ap is_none (sym k.word) ∙ sym (ap (λ at. is_between at && is_none p.word) e);
       last = ap (λ ps. last_member (p.first, ps)) pieces ∙ closed_last p.first k.done p.word k.reads.whole (sym k.word) ∙ ap (handed p.word) whole
           ∙ sym (ap (λ at. last_of (record p { place = at }) text) e);
@@ -260,7 +260,7 @@ at_end_inside {text} {p} k h =
     let pieces : pieces_of text ≡ k.done ++ open_piece k.front ∷ [] = inside_piece h k.reads in
     let outside = not_between p.place h in
     record {
-      one = ap parts_of pieces ∙ one_part (k.done ++ open_piece k.front ∷ []) (any-more ends_statement k.done (open_piece k.front) refl k.ends) ∙ ap (λ ps. ps ∷ []) (sym pieces);
+      one = ap at_semicolons pieces ∙ one_part (k.done ++ open_piece k.front ∷ []) (any-more ends_statement k.done (open_piece k.front) refl k.ends) ∙ ap (λ ps. ps ∷ []) (sym pieces);
       idle = ap (list_all is_gap) pieces ∙ all_more k.done (open_piece k.front) refl ∙ sym (ap (λ b. b && is_none p.word) outside);
       last = ap (λ ps. last_member (p.first, ps)) pieces ∙ open_last k
           ∙ sym (ap (λ b. if b then handed p.word text else (let line = (unwrap_or p.word p.piece).line in Fault line (fault.Incomplete line) ∷ [])) outside);

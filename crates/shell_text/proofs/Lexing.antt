@@ -10,7 +10,7 @@ use Rattle.shell_text.specs.declared.words.Place.TheVariants.{Between, InWord, I
 use Rattle.shell_text.specs.declared.words.Ended.{Ended}
 use Rattle.shell_text.specs.declared.words.Turn.{Turn}
 use Rattle.shell_text.specs.declared.words.Turn.TheVariants.{Goes, Ends}
-use Rattle.shell_text.specs.Lexed.{IsFront, Reads, onto}
+use Rattle.shell_text.specs.Lexed.{IsFront, HasRead, onto}
 use Rattle.shell_text.proofs.Restart.{IsInside, goes_inside}
 
 -- ---- what is read of a piece
@@ -92,7 +92,7 @@ inside_front Star front b h = omega (arith, length-append front (b ∷ []))
 
 -- a byte leads on
 pub reads_goes : {before rest front : List ℕ} {b : ℕ} {place : Place} {done : List Piece} (to : Place)
-    → Reads before (b ∷ rest) place front done → turn place b (first_byte rest) ≡ Goes to → Reads (before ++ b ∷ []) rest to (front ++ b ∷ []) done
+    → HasRead before (b ∷ rest) place front done → turn place b (first_byte rest) ≡ Goes to → HasRead (before ++ b ∷ []) rest to (front ++ b ∷ []) done
 reads_goes {before} {rest} {front} {b} {place} {done} to r e = record {
   pieces = λ more h. ap pieces_of (longer before b (rest ++ more)) ∙ r.pieces more h
       ∙ ap (λ ps. done ++ onto front ps) (pieces_before place b rest more (Goes to) h e)
@@ -121,7 +121,7 @@ any-more test (q ∷ done) p h k =
 
 -- a byte ends a piece
 pub reads_ends : {before rest front : List ℕ} {b : ℕ} {place : Place} {done : List Piece} (what : Ended)
-    → Reads before (b ∷ rest) place front done → turn place b (first_byte rest) ≡ Ends what → Reads (before ++ b ∷ []) rest Between [] (done ++ closed what (front ++ b ∷ []) ∷ [])
+    → HasRead before (b ∷ rest) place front done → turn place b (first_byte rest) ≡ Ends what → HasRead (before ++ b ∷ []) rest Between [] (done ++ closed what (front ++ b ∷ []) ∷ [])
 reads_ends {before} {rest} {front} {b} {place} {done} what r e =
     let p = closed what (front ++ b ∷ []) in
     record {
@@ -135,5 +135,5 @@ reads_ends {before} {rest} {front} {b} {place} {done} what r e =
     }
 
 -- the next line follows
-pub reads_on : {before front : List ℕ} {place : Place} {done : List Piece} (line : List ℕ) → Reads before [] place front done → Reads before (0x0A ∷ line) place front done
+pub reads_on : {before front : List ℕ} {place : Place} {done : List Piece} (line : List ℕ) → HasRead before [] place front done → HasRead before (0x0A ∷ line) place front done
 reads_on line r = record { pieces = λ more h. r.pieces (0x0A ∷ (line ++ more)) refl; text = r.text; whole = r.whole; begins = r.begins }

@@ -6,7 +6,7 @@ use Rattle.std.specs.Str.{IsUtf8}
 use Rattle.std.proofs.lemmas.List.{append_assoc, append-nil, take-append-drop, drop-drop, take_all, drop_all, length-drop, length-take, take-take, length-take-le, get_or-take, get_or-drop}
 use Rattle.std.proofs.lemmas.Str.{IsUtf8-drop, IsCharBoundary-after_ascii, IsCharBoundary-start}
 use Rattle.shell_text.specs.Words.{turn, first_byte, pieces_of}
-use Rattle.shell_text.specs.Units.{Member, ended_units, parts_of, tail_of}
+use Rattle.shell_text.specs.Units.{Member, ended_units, at_semicolons, tail_of}
 use Rattle.shell_text.specs.Lexed.{KeepsPending, Splits, handed, is_semicolon}
 use Rattle.shell_text.specs.declared.words.SqlKind.{SqlKind}
 use Rattle.shell_text.specs.declared.words.SqlKind.TheVariants as kinds
@@ -18,8 +18,8 @@ use Rattle.shell_text.proofs.WordLoop.{IsByte, is_byte, first_byte-drop}
 use Rattle.shell_text.proofs.Keeping.{EndsStatement, at_end, byte_line, word_boundary, word_within}
 
 pub record ReadTo (n : ℕ) (text : List ℕ) (told now : List Member) (cut i : ℕ) (p : Pending) : Type 0 where
-  pub units : now ++ ended_units p.first (parts_of (pieces_of (drop cut text))) ≡ told ++ ended_units n (parts_of (pieces_of text))
-  pub tail : tail_of n (parts_of (pieces_of text)) ≡ tail_of p.first (parts_of (pieces_of (drop cut text)))
+  pub units : now ++ ended_units p.first (at_semicolons (pieces_of (drop cut text))) ≡ told ++ ended_units n (at_semicolons (pieces_of text))
+  pub tail : tail_of n (at_semicolons (pieces_of text)) ≡ tail_of p.first (at_semicolons (pieces_of (drop cut text)))
   pub keeps : KeepsPending (take (i - cut) (drop cut text)) (drop i text) p
   pub low : cut ≤ i
   pub boundary : IsCharBoundary text cut
@@ -29,8 +29,8 @@ sub-zero i = omega arith
 
 pub read_none : (n : ℕ) (text : List ℕ) (told : List Member) (i : ℕ) (p : Pending) → IsUtf8 text → p.first ≡ n → KeepsPending (take i text) (drop i text) p → ReadTo n text told told 0 i p
 read_none n text told i p utf8 e k = record {
-  units = ap (λ m. told ++ ended_units m (parts_of (pieces_of text))) e;
-  tail = ap (λ m. tail_of m (parts_of (pieces_of text))) (sym e);
+  units = ap (λ m. told ++ ended_units m (at_semicolons (pieces_of text))) e;
+  tail = ap (λ m. tail_of m (at_semicolons (pieces_of text))) (sym e);
   keeps = subst (λ m. KeepsPending (take m text) (drop i text) p) (sub-zero i) k;
   low = omega arith;
   boundary = IsCharBoundary-start text utf8;
@@ -67,8 +67,8 @@ turned text i = sym (first_byte-drop text (i + 1))
 pub read_more : {n : ℕ} {text : List ℕ} {told now : List Member} {cut i : ℕ} {p : Pending} (b : ℕ) (q : Pending) → IsByte text i b → ReadTo n text told now cut i p → q.first ≡ p.first
     → KeepsPending (take (i - cut) (drop cut text) ++ b ∷ []) (drop (i + 1) text) q → ReadTo n text told now cut (i + 1) q
 read_more {n} {text} {told} {now} {cut} {i} {p} b q at r e k = record {
-  units = ap (λ m. now ++ ended_units m (parts_of (pieces_of (drop cut text)))) e ∙ r.units;
-  tail = r.tail ∙ ap (λ m. tail_of m (parts_of (pieces_of (drop cut text)))) (sym e);
+  units = ap (λ m. now ++ ended_units m (at_semicolons (pieces_of (drop cut text)))) e ∙ r.units;
+  tail = r.tail ∙ ap (λ m. tail_of m (at_semicolons (pieces_of (drop cut text)))) (sym e);
   keeps = subst (λ before. KeepsPending before (drop (i + 1) text) q) (sym (front_more text i b cut at r.low)) k;
   low = let low = r.low in omega arith;
   boundary = r.boundary;
@@ -87,12 +87,12 @@ read_semicolon {n} {text} {told} {now} {cut} {i} {p} b q later utf8 low at r end
     let rest = drop (i + 1) text in
     let same : front ++ b ∷ rest ≡ drop cut text = whole_front text i b cut at r.low in
     record {
-      units = ap (λ us. us ++ ended_units q.first (parts_of (pieces_of rest))) told_now
-          ∙ ap (λ m. (now ++ handed p.word (take (i + 1 - cut) (drop cut text))) ++ ended_units m (parts_of (pieces_of rest))) first
-          ∙ append_assoc now (handed p.word (take (i + 1 - cut) (drop cut text))) (ended_units (byte_line p b) (parts_of (pieces_of rest)))
-          ∙ ap (λ t. now ++ (handed p.word t ++ ended_units (byte_line p b) (parts_of (pieces_of rest)))) (front_more text i b cut at r.low)
-          ∙ ap (λ us. now ++ us) (sym ends.units) ∙ ap (λ t. now ++ ended_units p.first (parts_of (pieces_of t))) same ∙ r.units;
-      tail = r.tail ∙ ap (λ t. tail_of p.first (parts_of (pieces_of t))) (sym same) ∙ ends.tail ∙ ap (λ m. tail_of m (parts_of (pieces_of rest))) (sym first);
+      units = ap (λ us. us ++ ended_units q.first (at_semicolons (pieces_of rest))) told_now
+          ∙ ap (λ m. (now ++ handed p.word (take (i + 1 - cut) (drop cut text))) ++ ended_units m (at_semicolons (pieces_of rest))) first
+          ∙ append_assoc now (handed p.word (take (i + 1 - cut) (drop cut text))) (ended_units (byte_line p b) (at_semicolons (pieces_of rest)))
+          ∙ ap (λ t. now ++ (handed p.word t ++ ended_units (byte_line p b) (at_semicolons (pieces_of rest)))) (front_more text i b cut at r.low)
+          ∙ ap (λ us. now ++ us) (sym ends.units) ∙ ap (λ t. now ++ ended_units p.first (at_semicolons (pieces_of t))) same ∙ r.units;
+      tail = r.tail ∙ ap (λ t. tail_of p.first (at_semicolons (pieces_of t))) (sym same) ∙ ends.tail ∙ ap (λ m. tail_of m (at_semicolons (pieces_of rest))) (sym first);
       keeps = subst (λ m. KeepsPending (take m rest) rest q) (let none : 0 ≡ i + 1 - (i + 1) = omega arith in none) k;
       low = omega arith;
       boundary = IsCharBoundary-after_ascii text i utf8 at.within (subst (λ c. c < 128) (sym at.byte) low);

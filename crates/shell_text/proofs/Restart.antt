@@ -10,7 +10,7 @@ use Rattle.shell_text.specs.declared.words.Ended.{Ended}
 use Rattle.shell_text.specs.declared.words.Ended.TheVariants.{Word, Gap}
 use Rattle.shell_text.specs.declared.words.Turn.{Turn}
 use Rattle.shell_text.specs.declared.words.Turn.TheVariants.{Goes, Ends}
-use Rattle.shell_text.specs.Units.{ends_statement, parts_of}
+use Rattle.shell_text.specs.Units.{ends_statement, at_semicolons}
 use Rattle.shell_text.specs.declared.words.SqlKind.{SqlKind}
 use Rattle.shell_text.specs.declared.words.SqlKind.TheVariants as kinds
 
@@ -159,32 +159,32 @@ ends_by_symbol : (p : Piece) → is_symbol_kind p.kind ≡ false → ends_statem
 ends_by_symbol p h = ap (λ symbol. symbol && next_is (λ b. b == 0x3B) (first_byte p.text)) h
 
 -- the parts of pieces that begin with one that ends no statement
-pub kept_part : (p : Piece) (ps : List Piece) → ends_statement p ≡ false → parts_of (p ∷ ps) ≡ onto_first p (parts_of ps)
-kept_part p ps h = ap (λ ends. if ends then (p ∷ []) ∷ parts_of ps else onto_first p (parts_of ps)) h
+pub kept_part : (p : Piece) (ps : List Piece) → ends_statement p ≡ false → at_semicolons (p ∷ ps) ≡ onto_first p (at_semicolons ps)
+kept_part p ps h = ap (λ ends. if ends then (p ∷ []) ∷ at_semicolons ps else onto_first p (at_semicolons ps)) h
 
-pub ended_part : (p : Piece) (ps : List Piece) → ends_statement p ≡ true → parts_of (p ∷ ps) ≡ (p ∷ []) ∷ parts_of ps
-ended_part p ps h = ap (λ ends. if ends then (p ∷ []) ∷ parts_of ps else onto_first p (parts_of ps)) h
+pub ended_part : (p : Piece) (ps : List Piece) → ends_statement p ≡ true → at_semicolons (p ∷ ps) ≡ (p ∷ []) ∷ at_semicolons ps
+ended_part p ps h = ap (λ ends. if ends then (p ∷ []) ∷ at_semicolons ps else onto_first p (at_semicolons ps)) h
 
 onto_part-first : (b : ℕ) (p : Piece) (parts : List (List Piece)) → onto_first (record p { text = b ∷ p.text }) parts ≡ onto_part b (onto_first p parts)
 onto_part-first b p [] = refl
 onto_part-first b p (part ∷ parts) = refl
 
-parts_of-onto : (b : ℕ) (ps : List Piece) → BeginsPlain ps → parts_of (onto_piece b ps) ≡ onto_part b (parts_of ps)
+parts_of-onto : (b : ℕ) (ps : List Piece) → BeginsPlain ps → at_semicolons (onto_piece b ps) ≡ onto_part b (at_semicolons ps)
 parts_of-onto b [] h = refl
 parts_of-onto b (p ∷ ps) h =
     kept_part (record p { text = b ∷ p.text }) ps (ends_by_symbol (record p { text = b ∷ p.text }) h)
-    ∙ onto_part-first b p (parts_of ps) ∙ sym (ap (onto_part b) (kept_part p ps (ends_by_symbol p h)))
+    ∙ onto_part-first b p (at_semicolons ps) ∙ sym (ap (onto_part b) (kept_part p ps (ends_by_symbol p h)))
 
 -- ---- cuts
 
 -- a text from a place is one part; or some statements end in it, and what follows the last of them
 -- is read anew, whatever comes after it
 pub data Cuts (at : Place) (text : List ℕ) : Type 0 where
-  uncut : parts_of (pieces_from at text) ≡ pieces_from at text ∷ [] → Cuts at text
+  uncut : at_semicolons (pieces_from at text) ≡ pieces_from at text ∷ [] → Cuts at text
   cut : (first : List Piece) (ended : List (List Piece)) (tail : List ℕ)
-      → parts_of (pieces_from at text) ≡ (first ∷ ended) ++ pieces_from Between tail ∷ []
-      → parts_of (pieces_from Between tail) ≡ pieces_from Between tail ∷ []
-      → ((more : List ℕ) → parts_of (pieces_from at (text ++ more)) ≡ (first ∷ ended) ++ parts_of (pieces_from Between (tail ++ more)))
+      → at_semicolons (pieces_from at text) ≡ (first ∷ ended) ++ pieces_from Between tail ∷ []
+      → at_semicolons (pieces_from Between tail) ≡ pieces_from Between tail ∷ []
+      → ((more : List ℕ) → at_semicolons (pieces_from at (text ++ more)) ≡ (first ∷ ended) ++ at_semicolons (pieces_from Between (tail ++ more)))
       → Cuts at text
 
 both : (x y : Bool) → (x && y) ≡ true → (x ≡ true) × (y ≡ true)
@@ -236,53 +236,53 @@ abbrev pub IsSame : Place → ℕ → List ℕ → Turn → Type 0
 IsSame at b rest t = (more : List ℕ) → turn at b (first_byte (rest ++ more)) ≡ t
 
 goes_uncut : (at : Place) (b : ℕ) (rest : List ℕ) (to : Place) → turn at b (first_byte rest) ≡ Goes to → IsInside to
-    → parts_of (pieces_from to rest) ≡ pieces_from to rest ∷ [] → Cuts at (b ∷ rest)
+    → at_semicolons (pieces_from to rest) ≡ pieces_from to rest ∷ [] → Cuts at (b ∷ rest)
 goes_uncut at b rest to e inside h =
-    uncut (ap parts_of (opens at b rest (Goes to) e) ∙ parts_of-onto b (pieces_from to rest) (begins_plain rest to inside) ∙ ap (onto_part b) h
+    uncut (ap at_semicolons (opens at b rest (Goes to) e) ∙ parts_of-onto b (pieces_from to rest) (begins_plain rest to inside) ∙ ap (onto_part b) h
     ∙ sym (ap (λ ps. ps ∷ []) (opens at b rest (Goes to) e)))
 
 goes_on : (at : Place) (b : ℕ) (rest : List ℕ) (to : Place) → turn at b (first_byte rest) ≡ Goes to → IsSame at b rest (Goes to) → IsInside to → Cuts to rest → Cuts at (b ∷ rest)
 goes_on at b rest to e same inside (uncut h) = goes_uncut at b rest to e inside h
 goes_on at b rest to e same inside (cut first ended tail h u g) =
     cut (onto_piece b first) ended tail
-    (ap parts_of (opens at b rest (Goes to) e) ∙ parts_of-onto b (pieces_from to rest) (begins_plain rest to inside) ∙ ap (onto_part b) h)
+    (ap at_semicolons (opens at b rest (Goes to) e) ∙ parts_of-onto b (pieces_from to rest) (begins_plain rest to inside) ∙ ap (onto_part b) h)
     u
-    (λ more. ap parts_of (opens at b (rest ++ more) (Goes to) (same more))
+    (λ more. ap at_semicolons (opens at b (rest ++ more) (Goes to) (same more))
     ∙ parts_of-onto b (pieces_from to (rest ++ more)) (begins_plain (rest ++ more) to inside) ∙ ap (onto_part b) (g more))
 
 ends_uncut : (at : Place) (b : ℕ) (rest : List ℕ) (kind : Ended) → turn at b (first_byte rest) ≡ Ends kind → ends_statement (byte_piece kind b) ≡ false
-    → parts_of (pieces_from Between rest) ≡ pieces_from Between rest ∷ [] → Cuts at (b ∷ rest)
+    → at_semicolons (pieces_from Between rest) ≡ pieces_from Between rest ∷ [] → Cuts at (b ∷ rest)
 ends_uncut at b rest kind e q h =
-    uncut (ap parts_of (opens at b rest (Ends kind) e) ∙ kept_part (byte_piece kind b) (pieces_from Between rest) q ∙ ap (onto_first (byte_piece kind b)) h
+    uncut (ap at_semicolons (opens at b rest (Ends kind) e) ∙ kept_part (byte_piece kind b) (pieces_from Between rest) q ∙ ap (onto_first (byte_piece kind b)) h
     ∙ sym (ap (λ ps. ps ∷ []) (opens at b rest (Ends kind) e)))
 
 ends_there : (at : Place) (b : ℕ) (rest : List ℕ) (kind : Ended) → turn at b (first_byte rest) ≡ Ends kind → IsSame at b rest (Ends kind) → ends_statement (byte_piece kind b) ≡ true → Cuts Between rest → Cuts at (b ∷ rest)
 ends_there at b rest kind e same q (uncut h) =
     cut (byte_piece kind b ∷ []) [] rest
-    (ap parts_of (opens at b rest (Ends kind) e) ∙ ended_part (byte_piece kind b) (pieces_from Between rest) q ∙ ap (λ x. (byte_piece kind b ∷ []) ∷ x) h)
+    (ap at_semicolons (opens at b rest (Ends kind) e) ∙ ended_part (byte_piece kind b) (pieces_from Between rest) q ∙ ap (λ x. (byte_piece kind b ∷ []) ∷ x) h)
     h
-    (λ more. ap parts_of (opens at b (rest ++ more) (Ends kind) (same more)) ∙ ended_part (byte_piece kind b) (pieces_from Between (rest ++ more)) q)
+    (λ more. ap at_semicolons (opens at b (rest ++ more) (Ends kind) (same more)) ∙ ended_part (byte_piece kind b) (pieces_from Between (rest ++ more)) q)
 ends_there at b rest kind e same q (cut first ended tail h u g) =
     cut (byte_piece kind b ∷ []) (first ∷ ended) tail
-    (ap parts_of (opens at b rest (Ends kind) e) ∙ ended_part (byte_piece kind b) (pieces_from Between rest) q ∙ ap (λ x. (byte_piece kind b ∷ []) ∷ x) h)
+    (ap at_semicolons (opens at b rest (Ends kind) e) ∙ ended_part (byte_piece kind b) (pieces_from Between rest) q ∙ ap (λ x. (byte_piece kind b ∷ []) ∷ x) h)
     u
-    (λ more. ap parts_of (opens at b (rest ++ more) (Ends kind) (same more)) ∙ ended_part (byte_piece kind b) (pieces_from Between (rest ++ more)) q
+    (λ more. ap at_semicolons (opens at b (rest ++ more) (Ends kind) (same more)) ∙ ended_part (byte_piece kind b) (pieces_from Between (rest ++ more)) q
     ∙ ap (λ x. (byte_piece kind b ∷ []) ∷ x) (g more))
 
 ends_other : (at : Place) (b : ℕ) (rest : List ℕ) (kind : Ended) → turn at b (first_byte rest) ≡ Ends kind → IsSame at b rest (Ends kind) → ends_statement (byte_piece kind b) ≡ false → Cuts Between rest → Cuts at (b ∷ rest)
 ends_other at b rest kind e same q (uncut h) = ends_uncut at b rest kind e q h
 ends_other at b rest kind e same q (cut first ended tail h u g) =
     cut (byte_piece kind b ∷ first) ended tail
-    (ap parts_of (opens at b rest (Ends kind) e) ∙ kept_part (byte_piece kind b) (pieces_from Between rest) q ∙ ap (onto_first (byte_piece kind b)) h)
+    (ap at_semicolons (opens at b rest (Ends kind) e) ∙ kept_part (byte_piece kind b) (pieces_from Between rest) q ∙ ap (onto_first (byte_piece kind b)) h)
     u
-    (λ more. ap parts_of (opens at b (rest ++ more) (Ends kind) (same more)) ∙ kept_part (byte_piece kind b) (pieces_from Between (rest ++ more)) q
+    (λ more. ap at_semicolons (opens at b (rest ++ more) (Ends kind) (same more)) ∙ kept_part (byte_piece kind b) (pieces_from Between (rest ++ more)) q
     ∙ ap (onto_first (byte_piece kind b)) (g more))
 
 ends_by : (at : Place) (b : ℕ) (rest : List ℕ) (kind : Ended) → turn at b (first_byte rest) ≡ Ends kind → IsSame at b rest (Ends kind) → (ends : Bool) → ends_statement (byte_piece kind b) ≡ ends → Cuts Between rest → Cuts at (b ∷ rest)
 ends_by at b rest kind e same true q c = ends_there at b rest kind e same q c
 ends_by at b rest kind e same false q c = ends_other at b rest kind e same q c
 
-none_from : (at : Place) → parts_of (pieces_from at []) ≡ pieces_from at [] ∷ []
+none_from : (at : Place) → at_semicolons (pieces_from at []) ≡ pieces_from at [] ∷ []
 unfolding pieces_from
 none_from at = refl
 

@@ -6,7 +6,7 @@ use Rattle.std.proofs.lemmas.List.Sums.{sum_by-append, sum_by-cons}
 use Rattle.std.specs.List.{list_any, onto_first, prefix_len}
 use Rattle.std.proofs.lemmas.List.{drop-drop, drop_at}
 use Rattle.shell_text.specs.Words.{Piece, PieceKind, Closed, Open, is_gap, is_open, is_word, text_of}
-use Rattle.shell_text.specs.Units.{Sql, ended_unit, ended_units, ends_statement, from_first_word, gaps_before, line_behind, line_feeds, numbered, parts_of, tail_of, unit_of}
+use Rattle.shell_text.specs.Units.{Sql, ended_unit, ended_units, ends_statement, from_first_word, gaps_before, line_behind, line_feeds, numbered, at_semicolons, tail_of, unit_of}
 use Rattle.shell_text.specs.Lexed.{first_word, handed}
 use Rattle.shell_text.specs.declared.words.Ended.TheVariants.{Word, Gap}
 use Rattle.shell_text.specs.declared.units.Spot.{Spot}
@@ -112,9 +112,9 @@ from_first (p ∷ ps) = from_if (is_gap p) p ps refl (from_first ps)
 abbrev pub HasParts : List (List Piece) → Type 0
 HasParts parts = (part : List Piece) × (more : List (List Piece)) × (parts ≡ part ∷ more)
 
-pub has_parts : (ps : List Piece) → HasParts (parts_of ps)
+pub has_parts : (ps : List Piece) → HasParts (at_semicolons ps)
 has_parts [] = ([], [], refl)
-has_parts (p ∷ ps) = parts_if (ends_statement p) p (parts_of ps)
+has_parts (p ∷ ps) = parts_if (ends_statement p) p (at_semicolons ps)
   where
     parts_onto : (p : Piece) (parts : List (List Piece)) → HasParts (onto_first p parts)
     parts_onto p [] = (p ∷ [], [], refl)
@@ -128,21 +128,21 @@ none_ends : (q : Piece) (done : List Piece) → list_any ends_statement (q ∷ d
 none_ends q done h = any-or (ends_statement q) (list_any ends_statement done) h
 
 -- pieces of which none ends a statement are one part
-pub one_part : (done : List Piece) → list_any ends_statement done ≡ false → parts_of done ≡ done ∷ []
+pub one_part : (done : List Piece) → list_any ends_statement done ≡ false → at_semicolons done ≡ done ∷ []
 one_part [] h = refl
 one_part (q ∷ done) h = let k = none_ends q done h in kept_part q done k.0 ∙ ap (onto_first q) (one_part done k.1)
 
 -- and with one that does, after them, they are the first part
-pub first_part : (done : List Piece) (p : Piece) (ps : List Piece) → list_any ends_statement done ≡ false → ends_statement p ≡ true → parts_of (done ++ p ∷ ps) ≡ (done ++ p ∷ []) ∷ parts_of ps
+pub first_part : (done : List Piece) (p : Piece) (ps : List Piece) → list_any ends_statement done ≡ false → ends_statement p ≡ true → at_semicolons (done ++ p ∷ ps) ≡ (done ++ p ∷ []) ∷ at_semicolons ps
 first_part [] p ps h e = ended_part p ps e
 first_part (q ∷ done) p ps h e = let k = none_ends q done h in kept_part q (done ++ p ∷ ps) k.0 ∙ ap (onto_first q) (first_part done p ps k.1 e)
 
-pub ended_first : (n : ℕ) (part ps : List Piece) → ended_units n (part ∷ parts_of ps) ≡ ended_unit n part ++ ended_units (line_behind n (text_of part)) (parts_of ps)
+pub ended_first : (n : ℕ) (part ps : List Piece) → ended_units n (part ∷ at_semicolons ps) ≡ ended_unit n part ++ ended_units (line_behind n (text_of part)) (at_semicolons ps)
 ended_first n part ps =
     let some = has_parts ps in
     ap (λ parts. ended_units n (part ∷ parts)) some.2 ∙ sym (ap (λ parts. ended_unit n part ++ ended_units (line_behind n (text_of part)) parts) some.2)
 
-pub tail_first : (n : ℕ) (part ps : List Piece) → tail_of n (part ∷ parts_of ps) ≡ tail_of (line_behind n (text_of part)) (parts_of ps)
+pub tail_first : (n : ℕ) (part ps : List Piece) → tail_of n (part ∷ at_semicolons ps) ≡ tail_of (line_behind n (text_of part)) (at_semicolons ps)
 tail_first n part ps =
     let some = has_parts ps in
     ap (λ parts. tail_of n (part ∷ parts)) some.2 ∙ sym (ap (λ parts. tail_of (line_behind n (text_of part)) parts) some.2)

@@ -8,9 +8,9 @@ use Rattle.std.proofs.lemmas.Bool.Decides.{nat_tests}
 use Rattle.std.proofs.lemmas.List.{append-nil, take_at, drop_at}
 use Rattle.std.proofs.lemmas.Str.{IsUtf8-from_is_utf8}
 use Rattle.shell_text.specs.Words.{Piece, first_byte, is_gap, next_is, pieces_from, pieces_of, text_of}
-use Rattle.shell_text.specs.Units.{Member, Dot, Fault, Reading, Role, Refused, Command, after_role, ended_units, is_idle, joined, last_member, member_of, most_bytes, numbered, parts_of, pending_in, role_of, size_with, tail_in, tail_of, units_in, with_line, without_block}
+use Rattle.shell_text.specs.Units.{Member, Dot, Fault, Reading, Role, Refused, Command, after_role, ended_units, is_idle, block_with, last_member, member_of, most_bytes, numbered, at_semicolons, pending_in, role_of, size_with, tail_in, tail_of, units_in, with_line, without_block}
 use Rattle.shell_text.specs.Lexed.{KeepsPending, handed, is_between, last_of}
-use Rattle.shell_text.specs.Splitting.{IsAccepted, IsKept, Splitting, TakesLine, TakesText, block_as, emptied, first_as, without_ended}
+use Rattle.shell_text.specs.Splitting.{IsAccepted, IsKeptText, Splitting, TakesLine, TakesText, block_as, emptied, first_as, without_ended}
 use Rattle.shell_text.specs.declared.units.SplitFault.TheVariants as fault
 use Rattle.shell_text.specs.declared.units.Pending.{Pending}
 use Rattle.shell_text.specs.declared.units.Spot.{Spot}
@@ -18,7 +18,7 @@ use Rattle.shell_text.specs.declared.words.Place.TheVariants.{Between}
 use Rattle.shell_text.proofs.Keeping.{at_end, keeps_on}
 use Rattle.shell_text.proofs.Restart.{text_of-pieces}
 
-pub start_keeps : (kept : Option Pending) (text line whole : List ℕ) (fresh : Pending) → IsKept kept text → whole ≡ text ++ (if is_some kept then 0x0A ∷ line else line) → ((rest : List ℕ) → KeepsPending [] rest fresh)
+pub start_keeps : (kept : Option Pending) (text line whole : List ℕ) (fresh : Pending) → IsKeptText kept text → whole ≡ text ++ (if is_some kept then 0x0A ∷ line else line) → ((rest : List ℕ) → KeepsPending [] rest fresh)
     → KeepsPending (take (length text) whole) (drop (length text) whole) (unwrap_or kept fresh)
 start_keeps None text line whole fresh k e f =
     subst (λ w. KeepsPending (take (length text) w) (drop (length text) w) fresh) (sym e)
@@ -46,7 +46,7 @@ pub record KeptReading (kept : Option Pending) (line : ℕ) (text : List ℕ) : 
   pub idle : is_idle (reading_of kept line text) ≡ idle_as kept
   pub last : last_member (tail_in (reading_of kept line text)) ≡ last_as kept text
 
-pub kept_reading : (kept : Option Pending) (line : ℕ) (text : List ℕ) → IsKept kept text → KeptReading kept line text
+pub kept_reading : (kept : Option Pending) (line : ℕ) (text : List ℕ) → IsKeptText kept text → KeptReading kept line text
 unfolding pieces_from
 kept_reading None line text k = record { tail = ap (λ t. (line, pieces_of t)) (sym k); idle = refl; last = refl }
 kept_reading (Some p) line text k =
@@ -54,7 +54,7 @@ kept_reading (Some p) line text k =
     let tail : tail_in (reading_of (Some p) line text) ≡ (p.first, pieces_of text) = ap (tail_of p.first) end.one in
     record { tail = tail; idle = ap (λ t. list_all is_gap t.1) tail ∙ end.idle; last = ap last_member tail ∙ end.last }
 
-pub kept_pending : (kept : Option Pending) (line : ℕ) (text : List ℕ) → IsKept kept text → is_idle (reading_of kept line text) ≡ false → pending_in (reading_of kept line text) ≡ text
+pub kept_pending : (kept : Option Pending) (line : ℕ) (text : List ℕ) → IsKeptText kept text → is_idle (reading_of kept line text) ≡ false → pending_in (reading_of kept line text) ≡ text
 kept_pending kept line text k h =
     let r = kept_reading kept line text k in
     ap (λ b. if b then [] else text_of (tail_in (reading_of kept line text)).1) h ∙ ap (λ t. text_of t.1) r.tail ∙ text_of-pieces text Between
@@ -73,10 +73,10 @@ first_is (Some p) line text = refl
 abbrev pub splitting : Reading → List Member → Splitting
 splitting reading waiting = record { reading = reading; waiting = waiting }
 
-pub joined_view : (kept : Option Pending) (line : ℕ) (text added : List ℕ) (told now : List Member) (new : List ℕ) (p : Pending) → TakesText (first_as kept line) (joined (block_as kept text) added) told now new p
+pub joined_view : (kept : Option Pending) (line : ℕ) (text added : List ℕ) (told now : List Member) (new : List ℕ) (p : Pending) → TakesText (first_as kept line) (block_with (block_as kept text) added) told now new p
     → splitting (reading_of (Some p) (numbered (line + 1)) new) now ≡ splitting (without_ended (with_line (reading_of kept line text) added)) (told ++ units_in (with_line (reading_of kept line text) added))
 joined_view kept line text added told now new p t =
-    let parts = parts_of (pieces_of (joined (block_as kept text) added)) in
+    let parts = at_semicolons (pieces_of (block_with (block_as kept text) added)) in
     let from : ℕ × List Piece → List Member → Splitting = λ tail units. splitting (record { line = numbered (line + 1); first = tail.0; block = Some (text_of tail.1) }) (told ++ units) in
     ap (λ w. splitting (reading_of (Some p) (numbered (line + 1)) new) w) t.units
     ∙ ap (λ b. splitting (reading_of (Some p) (numbered (line + 1)) b) (told ++ ended_units (first_as kept line) parts)) (sym (text_of-pieces new Between))
@@ -124,8 +124,8 @@ not_utf8 bytes h = by_test (is_utf8 bytes) refl
 pub none_emptied : (kept : Option Pending) (line : ℕ) (text : List ℕ) (waiting : List Member) → kept ≡ None → splitting (reading_of kept line text) waiting ≡ emptied (splitting (reading_of kept line text) waiting)
 none_emptied kept line text waiting e = subst (λ k. splitting (reading_of k line text) waiting ≡ emptied (splitting (reading_of k line text) waiting)) (sym e) refl
 
-pub kept_keeps : (kept : Option Pending) (p : Pending) (text : List ℕ) → kept ≡ Some p → IsKept kept text → KeepsPending text [] p
-kept_keeps kept p text e k = subst (λ o. IsKept o text) e k
+pub kept_keeps : (kept : Option Pending) (p : Pending) (text : List ℕ) → kept ≡ Some p → IsKeptText kept text → KeepsPending text [] p
+kept_keeps kept p text e k = subst (λ o. IsKeptText o text) e k
 
 pub last_open : (p : Pending) (text : List ℕ) (n : ℕ) → is_between p.place ≡ false → n ≡ (unwrap_or p.word p.piece).line → last_of p text ≡ Fault n (fault.Incomplete n) ∷ []
 last_open p text n e f =

@@ -12,7 +12,7 @@ use Rattle.shell_text.specs.declared.words.Ended.{Ended}
 use Rattle.shell_text.specs.declared.words.Ended.TheVariants.{Word, Gap}
 use Rattle.shell_text.specs.declared.words.Turn.{Turn}
 use Rattle.shell_text.specs.declared.words.Turn.TheVariants.{Goes, Ends}
-use Rattle.shell_text.specs.Lexed.{IsFront, Reads, onto}
+use Rattle.shell_text.specs.Lexed.{IsFront, HasRead, onto}
 use Rattle.shell_text.proofs.Lexing.{closed, onto-none, text_of-more, reads_goes, reads_ends}
 
 pub first_byte-drop : (text : List ℕ) (i : ℕ) → first_byte (drop i text) ≡ slice_get text i
@@ -25,7 +25,7 @@ first_byte-drop (c ∷ cs) (suc i) = first_byte-drop cs i
 pub record WordsTo (text : List ℕ) (i start : ℕ) (place : Place) (words : List SqlWord) : Type 0 where
   pub front : List ℕ
   pub done : List Piece
-  pub reads : Reads (take i text) (drop i text) place front done
+  pub reads : HasRead (take i text) (drop i text) place front done
   pub start_is : start ≡ length (text_of done)
   pub words_are : words ≡ words_at 0 done
 
@@ -57,18 +57,18 @@ turned text i b place t e = ap (turn place b) (first_byte-drop text (i + 1)) ∙
 -- ---- one byte, over what is read
 
 pub goes_to : {text front : List ℕ} {i b : ℕ} {place : Place} {done : List Piece} (to : Place) → IsByte text i b → turn place b (slice_get text (i + 1)) ≡ Goes to
-    → Reads (take i text) (drop i text) place front done → Reads (take (i + 1) text) (drop (i + 1) text) to (front ++ b ∷ []) done
+    → HasRead (take i text) (drop i text) place front done → HasRead (take (i + 1) text) (drop (i + 1) text) to (front ++ b ∷ []) done
 goes_to {text} {front} {i} {b} {place} {done} to at e r =
-    subst (λ before. Reads before (drop (i + 1) text) to (front ++ b ∷ []) done) (sym at.front)
-    (reads_goes to (subst (λ rest. Reads (take i text) rest place front done) at.rest r) (turned text i b place (Goes to) e))
+    subst (λ before. HasRead before (drop (i + 1) text) to (front ++ b ∷ []) done) (sym at.front)
+    (reads_goes to (subst (λ rest. HasRead (take i text) rest place front done) at.rest r) (turned text i b place (Goes to) e))
 
 pub ends_as : {text front : List ℕ} {i b : ℕ} {place : Place} {done : List Piece} (what : Ended) → IsByte text i b → turn place b (slice_get text (i + 1)) ≡ Ends what
-    → Reads (take i text) (drop i text) place front done → Reads (take (i + 1) text) (drop (i + 1) text) Between [] (done ++ closed what (front ++ b ∷ []) ∷ [])
+    → HasRead (take i text) (drop i text) place front done → HasRead (take (i + 1) text) (drop (i + 1) text) Between [] (done ++ closed what (front ++ b ∷ []) ∷ [])
 ends_as {text} {front} {i} {b} {place} {done} what at e r =
-    subst (λ before. Reads before (drop (i + 1) text) Between [] (done ++ closed what (front ++ b ∷ []) ∷ [])) (sym at.front)
-    (reads_ends what (subst (λ rest. Reads (take i text) rest place front done) at.rest r) (turned text i b place (Ends what) e))
+    subst (λ before. HasRead before (drop (i + 1) text) Between [] (done ++ closed what (front ++ b ∷ []) ∷ [])) (sym at.front)
+    (reads_ends what (subst (λ rest. HasRead (take i text) rest place front done) at.rest r) (turned text i b place (Ends what) e))
 
-pub read_length : {before rest front : List ℕ} {place : Place} {done : List Piece} → Reads before rest place front done → length before ≡ length (text_of done) + length front
+pub read_length : {before rest front : List ℕ} {place : Place} {done : List Piece} → HasRead before rest place front done → length before ≡ length (text_of done) + length front
 read_length {front = front} {done = done} r = ap length r.text ∙ length-append (text_of done) front
 
 -- ---- one byte, over the words
@@ -79,7 +79,7 @@ words_goes {b = b} to at e w = record { front = w.front ++ b ∷ []; done = w.do
 
 -- how long the piece is that ends
 piece_length : {text front : List ℕ} {i b start : ℕ} {place : Place} {done : List Piece} → IsByte text i b → start ≡ length (text_of done)
-    → Reads (take i text) (drop i text) place front done → length (front ++ b ∷ []) ≡ i + 1 - start
+    → HasRead (take i text) (drop i text) place front done → length (front ++ b ∷ []) ≡ i + 1 - start
 piece_length {text} {front} {i} {b} {start} {place} {done} at from r =
     let within = at.within in
     let low : i ≤ length text = omega arith in
@@ -89,7 +89,7 @@ piece_length {text} {front} {i} {b} {start} {place} {done} at from r =
 
 -- the next piece begins after the byte
 next_start : {text front : List ℕ} {i b start : ℕ} {place : Place} {done : List Piece} (what : Ended) → IsByte text i b → start ≡ length (text_of done)
-    → Reads (take i text) (drop i text) place front done → i + 1 ≡ length (text_of (done ++ closed what (front ++ b ∷ []) ∷ []))
+    → HasRead (take i text) (drop i text) place front done → i + 1 ≡ length (text_of (done ++ closed what (front ++ b ∷ []) ∷ []))
 next_start {text} {front} {i} {b} {start} {place} {done} what at from r =
     let within = at.within in
     let low : i ≤ length text = omega arith in
@@ -130,16 +130,16 @@ words_gap {text} {i} {b} {start} {place} {words} at e w =
 -- ---- at the end
 
 -- a text that is read to its end
-pub all_read : {text front : List ℕ} {place : Place} {done : List Piece} → Reads text [] place front done → pieces_of text ≡ done ++ onto front []
+pub all_read : {text front : List ℕ} {place : Place} {done : List Piece} → HasRead text [] place front done → pieces_of text ≡ done ++ onto front []
 unfolding pieces_from
 all_read {text} r = ap pieces_of (sym (append-nil text)) ∙ r.pieces [] refl
 
-pub to_end : {text front : List ℕ} {i : ℕ} {place : Place} {done : List Piece} → length text ≤ i → Reads (take i text) (drop i text) place front done → Reads text [] place front done
+pub to_end : {text front : List ℕ} {i : ℕ} {place : Place} {done : List Piece} → length text ≤ i → HasRead (take i text) (drop i text) place front done → HasRead text [] place front done
 to_end {text} {front} {i} {place} {done} past r =
-    subst (λ before. Reads before [] place front done) (take_all i text past) (subst (λ rest. Reads (take i text) rest place front done) (drop_all i text past) r)
+    subst (λ before. HasRead before [] place front done) (take_all i text past) (subst (λ rest. HasRead (take i text) rest place front done) (drop_all i text past) r)
 
 -- between pieces all of them are closed
-pub between_pieces : {text front : List ℕ} {done : List Piece} → Reads text [] Between front done → pieces_of text ≡ done
+pub between_pieces : {text front : List ℕ} {done : List Piece} → HasRead text [] Between front done → pieces_of text ≡ done
 between_pieces {text} {front} {done} r = all_read r ∙ ap (λ f. done ++ onto f []) r.begins ∙ append-nil done
 
 pub words_all : {text : List ℕ} {i start : ℕ} {words : List SqlWord} → length text ≤ i → WordsTo text i start Between words → words ≡ words_of text
@@ -179,7 +179,7 @@ has_first place [] h k = absurd (none place h k)
 has_first place (b ∷ more) h k = (b, more, refl)
 
 -- inside a piece that one is open
-pub inside_piece : {text front : List ℕ} {place : Place} {done : List Piece} → place ≢ Between → Reads text [] place front done → pieces_of text ≡ done ++ record { kind = Open; text = front } ∷ []
+pub inside_piece : {text front : List ℕ} {place : Place} {done : List Piece} → place ≢ Between → HasRead text [] place front done → pieces_of text ≡ done ++ record { kind = Open; text = front } ∷ []
 inside_piece {text} {front} {place} {done} h r =
     let first = has_first place front h r.begins in
     all_read r ∙ ap (λ f. done ++ onto f []) first.2 ∙ ap (λ ps. done ++ ps) (onto-none first.0 first.1) ∙ ap (λ f. done ++ record { kind = Open; text = f } ∷ []) (sym first.2)

@@ -8,14 +8,14 @@ use Rattle.csv.specs.declared.writer.QuoteStyle.TheVariants as style
 use Rattle.csv.specs.declared.writer.Writer.{Writer}
 use Rattle.csv.specs.Writing.{fields_written, has_written, row_text, text_written, writer_setup}
 use Rattle.shell_text.specs.Print.{csv_writer, written}
-use Rattle.shell_text.specs.Units.{Member, joined}
+use Rattle.shell_text.specs.Units.{Member, block_with}
 use Rattle.shell_text.specs.Lexed.{KeepsPending}
 use Rattle.shell_text.specs.Splitting.{TakesText, block_as, first_as, member_of_unit}
 use Rattle.shell_text.specs.declared.units.Pending.{Pending}
 use Rattle.shell_text.specs.declared.units.Unit.{Unit as SeenUnit}
 
 -- what is answered, or why it is refused
-pub record Answers {X F : Type 0} (result : Result X F) (Is : X → Type 0) (IsFault : F → Type 0) : Type 0 where
+pub record IsAnswered {X F : Type 0} (result : Result X F) (Is : X → Type 0) (IsFault : F → Type 0) : Type 0 where
   pub ok : IfOk result Is
   pub err : IfErr result IsFault
 
@@ -42,7 +42,7 @@ pub record IsReadUpTo (from : ℕ) (text : List ℕ) (p : Pending) : Type 0 wher
 
 -- Units are put after those that wait: which ones, is said of what waited and waits, as members.
 -- Those that waited still do, after a fault too.
-pub record Tells {X F : Type 0} (old new : List SeenUnit) (result : Result X F) (Are : X → List Member → List Member → Type 0) : Type 0 where
+pub record PutsUnits {X F : Type 0} (old new : List SeenUnit) (result : Result X F) (Are : X → List Member → List Member → Type 0) : Type 0 where
   pub ok : IfOk result (λ r. Are r (map member_of_unit old) (map member_of_unit new))
   pub kept : KeepsFront old new
 
@@ -50,7 +50,7 @@ pub record Tells {X F : Type 0} (old new : List SeenUnit) (result : Result X F) 
 -- statements are given
 abbrev pub ReadsBehind : Option Pending → ℕ → List ℕ → List ℕ → List ℕ → List SeenUnit → List SeenUnit → Pending → Type 0
 ReadsBehind kept number line before after old new p =
-    TakesText (first_as kept number) (joined (block_as kept before) line) (map member_of_unit old) (map member_of_unit new) after p
+    TakesText (first_as kept number) (block_with (block_as kept before) line) (map member_of_unit old) (map member_of_unit new) after p
 
 -- so a line is read; after a fault what was there is the front of what is there
 pub record Extends {F : Type 0} (kept : Option Pending) (number : ℕ) (line before after : List ℕ) (old new : List SeenUnit)

@@ -9,11 +9,11 @@ use Rattle.shell_text.specs.WordForms.{Lacks}
 -- What characters of a word stand for, none of which ends it, with `behind` behind the last of
 -- them: a character for itself, or an escape, a backslash with the character that it escapes. So a
 -- backslash that is itself escaped escapes nothing.
-pub data StandsFor (ends : ℕ → Bool) (behind : List ℕ) : List ℕ → List ℕ → Type 0 where
-  nothing : StandsFor ends behind [] []
+pub data StandForWord (ends : ℕ → Bool) (behind : List ℕ) : List ℕ → List ℕ → Type 0 where
+  nothing : StandForWord ends behind [] []
   itself : {c : ℕ} {cs word : List ℕ} → ends c ≡ false → begins_escape c (first_char (cs ++ behind)) ≡ false
-      → StandsFor ends behind cs word → StandsFor ends behind (c ∷ cs) (c ∷ word)
-  escape : {c : ℕ} {cs word : List ℕ} → is_escape c ≡ true → StandsFor ends behind cs word → StandsFor ends behind (0x5C ∷ c ∷ cs) (escaped_char c ∷ word)
+      → StandForWord ends behind cs word → StandForWord ends behind (c ∷ cs) (c ∷ word)
+  escape : {c : ℕ} {cs word : List ℕ} → is_escape c ≡ true → StandForWord ends behind cs word → StandForWord ends behind (0x5C ∷ c ∷ cs) (escaped_char c ∷ word)
 
 abbrev pub is_quotation_mark : ℕ → Bool
 is_quotation_mark c = c == 0x22
@@ -35,10 +35,10 @@ pub data IsDotWord : List ℕ → List ℕ → List ℕ → Type 0 where
   in_apostrophes : {word behind : List ℕ} → Lacks (codes "'") word → IsDotWord (codes "'" ++ (word ++ codes "'")) word behind
   open_apostrophe : {word : List ℕ} → Lacks (codes "'") word → IsDotWord (codes "'" ++ word) word []
   -- in quotation marks up to the next one that isn't escaped
-  in_marks : {cs word behind : List ℕ} → StandsFor is_quotation_mark (0x22 ∷ behind) cs word → IsDotWord (0x22 ∷ (cs ++ 0x22 ∷ [])) word behind
-  open_mark : {cs word : List ℕ} → StandsFor is_quotation_mark [] cs word → IsDotWord (0x22 ∷ cs) word []
+  in_marks : {cs word behind : List ℕ} → StandForWord is_quotation_mark (0x22 ∷ behind) cs word → IsDotWord (0x22 ∷ (cs ++ 0x22 ∷ [])) word behind
+  open_mark : {cs word : List ℕ} → StandForWord is_quotation_mark [] cs word → IsDotWord (0x22 ∷ cs) word []
   -- bare up to the next blank (that it has escapes too is our own choice)
-  bare : {c : ℕ} {cs word behind : List ℕ} → begins_other c ≡ false → StandsFor is_blank behind (c ∷ cs) word → ends_bare behind ≡ true
+  bare : {c : ℕ} {cs word behind : List ℕ} → begins_other c ≡ false → StandForWord is_blank behind (c ∷ cs) word → ends_bare behind ≡ true
       → IsDotWord (c ∷ cs) word behind
 
 -- The words of a line, with blanks before, between and after them.

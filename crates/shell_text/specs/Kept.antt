@@ -1,6 +1,6 @@
 -- Steps. What clauses see of a splitter (own choice).
 use Rattle.std.specs.Prelude.{map, string_bytes}
-use Rattle.shell_text.specs.Splitting.{IsKept, Splitting, block_as, first_as, member_of_unit}
+use Rattle.shell_text.specs.Splitting.{IsKeptText, Splitting, block_as, first_as, member_of_unit}
 use Rattle.shell_text.specs.declared.units.Splitter.TheInside.{Inside}
 
 -- a splitter as the reading that it is in, and the units that wait
@@ -12,4 +12,4 @@ splitting_of s = record {
 
 -- what a splitter keeps is what was read of its text
 abbrev pub IsSplitter : Inside → Type 0
-IsSplitter s = IsKept s.kept (string_bytes s.text)
+IsSplitter s = IsKeptText s.kept (string_bytes s.text)

@@ -4,7 +4,7 @@ use Rattle.std.specs.Prelude.{ℕ, ◌+◌, ◌<◌, ◌≤◌, ◌≡◌, ◌==
 use Rattle.std.specs.Prelude.{None, unwrap_or, IsCharBoundary, if◌then◌else◌}
 use Rattle.std.specs.List.{list_any}
 use Rattle.shell_text.specs.Words.{Piece, ends_line, first_byte, is_gap, is_open, onto_piece, pieces_from, pieces_of, text_of}
-use Rattle.shell_text.specs.Units.{Member, Sql, Fault, ends_statement, ended_units, line_behind, numbered, parts_of, tail_of}
+use Rattle.shell_text.specs.Units.{Member, Sql, Fault, ends_statement, ended_units, line_behind, numbered, at_semicolons, tail_of}
 use Rattle.shell_text.specs.declared.units.SplitFault.TheVariants as fault
 use Rattle.shell_text.specs.declared.words.SqlKind.{SqlKind}
 use Rattle.shell_text.specs.declared.words.SqlKind.TheVariants as kinds
@@ -25,7 +25,7 @@ IsFront _ front = 0 < length front
 
 -- of a text that goes on with `rest` the bytes `before` are read: the pieces `done` ended there,
 -- and `front` is read of the next; and that is so whatever lines follow
-pub record Reads (before rest : List ℕ) (place : Place) (front : List ℕ) (done : List Piece) : Type 0 where
+pub record HasRead (before rest : List ℕ) (place : Place) (front : List ℕ) (done : List Piece) : Type 0 where
   pub pieces : (more : List ℕ) → ends_line (first_byte more) ≡ true
       → pieces_of (before ++ (rest ++ more)) ≡ done ++ onto front (pieces_from place (rest ++ more))
   pub text : before ≡ text_of done ++ front
@@ -41,7 +41,7 @@ first_word at n (p ∷ ps) = if is_gap p then first_word (at + length p.text) (l
 pub record KeepsPending (before rest : List ℕ) (p : Pending) : Type 0 where
   pub front : List ℕ
   pub done : List Piece
-  pub reads : Reads before rest p.place front done
+  pub reads : HasRead before rest p.place front done
   pub ends : list_any ends_statement done ≡ false
   pub piece_at : p.piece.at ≡ length (text_of done)
   pub piece_line : p.piece.line ≡ line_behind p.first (text_of done)
@@ -72,8 +72,8 @@ last_of p text =
 -- of a text that begins on line n, the statements that semicolons end are given after `told`, and
 -- what follows byte `cut` is kept
 pub record Splits (n : ℕ) (text : List ℕ) (told now : List Member) (cut : ℕ) (p : Pending) : Type 0 where
-  pub units : now ≡ told ++ ended_units n (parts_of (pieces_of text))
-  pub tail : tail_of n (parts_of (pieces_of text)) ≡ (p.first, pieces_of (drop cut text))
+  pub units : now ≡ told ++ ended_units n (at_semicolons (pieces_of text))
+  pub tail : tail_of n (at_semicolons (pieces_of text)) ≡ (p.first, pieces_of (drop cut text))
   pub keeps : KeepsPending (drop cut text) [] p
   pub within : cut ≤ length text
   pub boundary : IsCharBoundary text cut

@@ -7,8 +7,8 @@ use Rattle.std.specs.Str.{is_utf8}
 use Rattle.shell_text.specs.Words.{pieces_of, text_of}
 use Rattle.shell_text.specs.Lexed.{KeepsPending}
 use Rattle.shell_text.specs.declared.units.Pending.{Pending}
-use Rattle.shell_text.specs.Units.{Member, at_line, end_of, ended_units, parts_of, tail_of, Sql, Dot, Fault, Reading, Role, Refused, Command}
-use Rattle.shell_text.specs.Units.{Joins, after, last_member, member_of, role_of, tail_in, units_in}
+use Rattle.shell_text.specs.Units.{Member, at_line, end_of, ended_units, at_semicolons, tail_of, Sql, Dot, Fault, Reading, Role, Refused, Command}
+use Rattle.shell_text.specs.Units.{Joins, after_line, last_member, member_of, role_of, tail_in, units_in}
 use Rattle.shell_text.specs.declared.units.SplitFault.{SplitFault}
 use Rattle.shell_text.specs.declared.units.SplitFault.TheVariants as fault
 use Rattle.shell_text.specs.declared.units.Unit.{Unit as SeenUnit}
@@ -52,10 +52,10 @@ role_as false = Joins
 -- what `line` does: it takes the line, or refuses it for a fault of the line, or has no memory and
 -- changes nothing
 abbrev pub TakesLine : List ℕ → Splitting → Splitting → Result Unit SplitFault → Type 0
-TakesLine line old new (Ok _) = IsAccepted (role_of old.reading line) × (new.reading ≡ without_ended (after old.reading line))
-    × (new.waiting ≡ old.waiting ++ member_of (role_of old.reading line) old.reading line ++ units_in (after old.reading line))
+TakesLine line old new (Ok _) = IsAccepted (role_of old.reading line) × (new.reading ≡ without_ended (after_line old.reading line))
+    × (new.waiting ≡ old.waiting ++ member_of (role_of old.reading line) old.reading line ++ units_in (after_line old.reading line))
 TakesLine line old new (Err fault.Memory) = new ≡ old
-TakesLine line old new (Err why) = (role_of old.reading line ≡ Refused why) × (new ≡ record old { reading = after old.reading line })
+TakesLine line old new (Err why) = (role_of old.reading line ≡ Refused why) × (new ≡ record old { reading = after_line old.reading line })
 
 -- what `next` does
 abbrev pub HandsOut : Splitting → Splitting → Option SeenUnit → Type 0
@@ -77,7 +77,7 @@ Finishes old new (Err _) = ⊥
 -- the members that lines give, where each statement is handed out as its line comes
 abbrev pub given_by : (ends : Bool) → Reading → List (List ℕ) → List Member
 given_by ends r [] = end_of ends r
-given_by ends r (line ∷ lines) = member_of (role_of r line) r line ++ units_in (after r line) ++ given_by ends (without_ended (after r line)) lines
+given_by ends r (line ∷ lines) = member_of (role_of r line) r line ++ units_in (after_line r line) ++ given_by ends (without_ended (after_line r line)) lines
 
 -- the block that is kept, where one is begun
 abbrev pub block_as : Option Pending → List ℕ → Option (List ℕ)
@@ -90,13 +90,13 @@ first_as None line = line
 first_as (Some p) line = p.first
 
 -- what is kept is that of the text; without a block there is no text
-abbrev pub IsKept : Option Pending → List ℕ → Type 0
-IsKept None text = text ≡ []
-IsKept (Some p) text = KeepsPending text [] p
+abbrev pub IsKeptText : Option Pending → List ℕ → Type 0
+IsKeptText None text = text ≡ []
+IsKeptText (Some p) text = KeepsPending text [] p
 
 -- a text that begins on line n was read: its statements are given after `told`, and `text` is what
 -- follows the last of them
 pub record TakesText (n : ℕ) (whole : List ℕ) (told now : List Member) (text : List ℕ) (p : Pending) : Type 0 where
-  pub units : now ≡ told ++ ended_units n (parts_of (pieces_of whole))
-  pub tail : tail_of n (parts_of (pieces_of whole)) ≡ (p.first, pieces_of text)
+  pub units : now ≡ told ++ ended_units n (at_semicolons (pieces_of whole))
+  pub tail : tail_of n (at_semicolons (pieces_of whole)) ≡ (p.first, pieces_of text)
   pub keeps : KeepsPending text [] p

@@ -47,9 +47,9 @@ abbrev pub ends_statement : Piece → Bool
 ends_statement p = is_symbol_kind p.kind && next_is (λ b. b == 0x3B) (first_byte p.text)
 
 -- pieces up to each semicolon, with it; the last part is what follows the last of them
-abbrev pub parts_of : List Piece → List (List Piece)
-parts_of [] = [] ∷ []
-parts_of (p ∷ ps) = if ends_statement p then (p ∷ []) ∷ parts_of ps else onto_first p (parts_of ps)
+abbrev pub at_semicolons : List Piece → List (List Piece)
+at_semicolons [] = [] ∷ []
+at_semicolons (p ∷ ps) = if ends_statement p then (p ∷ []) ∷ at_semicolons ps else onto_first p (at_semicolons ps)
 
 -- the white space and comments before the first word
 abbrev pub gaps_before : List Piece → List Piece
@@ -60,12 +60,12 @@ abbrev pub from_first_word : List Piece → List Piece
 from_first_word ps = drop (prefix_len is_gap ps) ps
 
 -- the line on which pieces begin, after the gaps before them, where the gaps begin on line n
-abbrev pub line_of : ℕ → List Piece → ℕ
-line_of n ps = line_behind n (text_of (gaps_before ps))
+abbrev pub unit_line : ℕ → List Piece → ℕ
+unit_line n ps = line_behind n (text_of (gaps_before ps))
 
 -- a statement goes from its first word on, and has the line of that word (own choice)
 abbrev pub unit_of : ℕ → List Piece → Member
-unit_of n ps = Sql (line_of n ps) (text_of (from_first_word ps))
+unit_of n ps = Sql (unit_line n ps) (text_of (from_first_word ps))
 
 -- the unit of a part that ends with a semicolon, if it has another word: a statement without words
 -- is none (own choice)
@@ -99,7 +99,7 @@ start = record { line = 1; first = 1; block = None }
 
 -- the parts of the block
 abbrev pub parts_in : Reading → List (List Piece)
-parts_in r = parts_of (pieces_of (unwrap_or r.block []))
+parts_in r = at_semicolons (pieces_of (unwrap_or r.block []))
 
 -- the units that semicolons of the block end
 abbrev pub units_in : Reading → List Member
@@ -143,16 +143,16 @@ role_of r line =
     else Joins
 
 -- a block with one more line
-abbrev pub joined : Option (List ℕ) → List ℕ → List ℕ
-joined None line = line
-joined (Some block) line = block ++ 0x0A ∷ line
+abbrev pub block_with : Option (List ℕ) → List ℕ → List ℕ
+block_with None line = line
+block_with (Some block) line = block ++ 0x0A ∷ line
 
 -- a line joins the block, or begins one
 abbrev pub with_line : Reading → List ℕ → Reading
 with_line r line = record {
   line = numbered (r.line + 1);
   first = if is_some r.block then r.first else r.line;
-  block = Some (joined r.block line);
+  block = Some (block_with r.block line);
 }
 
 -- no block is begun, and a line comes next
@@ -177,8 +177,8 @@ member_of Command r line = Dot r.line (strip_carriage_return line) ∷ []
 member_of Joins r line = []
 
 -- how reading goes on after a line
-abbrev pub after : Reading → List ℕ → Reading
-after r line = after_role (role_of r line) r line
+abbrev pub after_line : Reading → List ℕ → Reading
+after_line r line = after_role (role_of r line) r line
 
 -- a line that doesn't join the block closes it: the block's units, and then what the line is
 abbrev pub closed_by : Role → Reading → List Member
@@ -193,7 +193,7 @@ told_by r line = closed_by (role_of r line) r ++ member_of (role_of r line) r li
 -- has a word (own choice)
 abbrev pub last_member : ℕ × List Piece → List Member
 last_member tail =
-    if list_any is_open tail.1 then Fault (line_of tail.0 tail.1) (fault.Incomplete (line_of tail.0 tail.1)) ∷ []
+    if list_any is_open tail.1 then Fault (unit_line tail.0 tail.1) (fault.Incomplete (unit_line tail.0 tail.1)) ∷ []
     else if list_any is_word tail.1 then unit_of tail.0 tail.1 ∷ []
     else []
 
@@ -205,7 +205,7 @@ end_of false r = []
 -- the members of the lines that follow a reading
 abbrev pub members_from : (ends : Bool) → Reading → List (List ℕ) → List Member
 members_from ends r [] = units_in r ++ end_of ends r
-members_from ends r (line ∷ lines) = told_by r line ++ members_from ends (after r line) lines
+members_from ends r (line ∷ lines) = told_by r line ++ members_from ends (after_line r line) lines
 
 -- the units and faults of an input, in order
 abbrev pub members_of : List ℕ → List Member

@@ -26,10 +26,10 @@ pub data IsMark : ℕ → SqlKind → Type 0 where
   backquote : IsMark 0x60 kinds.Quoted
 
 -- What stands between two marks: other bytes, and the mark itself only doubled.
-pub data IsMarked (mark : ℕ) : List ℕ → Type 0 where
-  nothing : IsMarked mark []
-  other_byte : {b : ℕ} {bytes : List ℕ} → b ≢ mark → IsMarked mark bytes → IsMarked mark (b ∷ bytes)
-  doubled_mark : {bytes : List ℕ} → IsMarked mark bytes → IsMarked mark (mark ∷ mark ∷ bytes)
+pub data IsInMarks (mark : ℕ) : List ℕ → Type 0 where
+  nothing : IsInMarks mark []
+  other_byte : {b : ℕ} {bytes : List ℕ} → b ≢ mark → IsInMarks mark bytes → IsInMarks mark (b ∷ bytes)
+  doubled_mark : {bytes : List ℕ} → IsInMarks mark bytes → IsInMarks mark (mark ∷ mark ∷ bytes)
 
 -- The forms of pieces: their kind, their bytes, and what stands after them up to the text's end.
 pub data IsForm : PieceKind → List ℕ → List ℕ → Type 0 where
@@ -43,9 +43,9 @@ pub data IsForm : PieceKind → List ℕ → List ℕ → Type 0 where
   block_comment : {inside behind : List ℕ} → Lacks (codes "*/") inside → IsForm (Closed Gap) (codes "/*" ++ (inside ++ codes "*/")) behind
   open_comment : {inside : List ℕ} → Lacks (codes "*/") inside → IsForm Open (codes "/*" ++ inside) []
   -- a literal or a name between marks; one more mark after it would double the last one
-  marked : {mark : ℕ} {kind : SqlKind} {inside behind : List ℕ} → IsMark mark kind → IsMarked mark inside
+  marked : {mark : ℕ} {kind : SqlKind} {inside behind : List ℕ} → IsMark mark kind → IsInMarks mark inside
       → next_is (λ b. b == mark) (first_byte behind) ≡ false → IsForm (Closed (Word kind)) (mark ∷ (inside ++ mark ∷ [])) behind
-  open_mark : {mark : ℕ} {kind : SqlKind} {inside : List ℕ} → IsMark mark kind → IsMarked mark inside → IsForm Open (mark ∷ inside) []
+  open_mark : {mark : ℕ} {kind : SqlKind} {inside : List ℕ} → IsMark mark kind → IsInMarks mark inside → IsForm Open (mark ∷ inside) []
   -- a name in brackets goes up to the next closing one, and else is open ("SQLite Keywords")
   bracketed : {inside behind : List ℕ} → Lacks (codes "]") inside → IsForm (Closed (Word kinds.Quoted)) (codes "[" ++ (inside ++ codes "]")) behind
   open_bracket : {inside : List ℕ} → Lacks (codes "]") inside → IsForm Open (codes "[" ++ inside) []

@@ -1,7 +1,7 @@
 //! Names in columns.
 
 ghost use Rattle.std.specs.Prelude.{◌≡◌, ◌+◌, ◌-◌, ◌/◌, ◌<◌, map, max, string_bytes, IfOk};
-ghost use Rattle.shell_text.specs.Print.{bytes_of, listed, names_on, widest, Prints};
+ghost use Rattle.shell_text.specs.Print.{bytes_of, names_in_columns, names_on, widest, Prints};
 ghost use Rattle.shell_text.specs.Calls.{StandAcross};
 
 use crate::print::{PrintFault, push_columns, write_out};
@@ -60,7 +60,7 @@ fn names_on(
 }
 
 fn listed(alloc: Global, names: &[String]) -> Result<Vec<u8>, AllocError>
-    ensures { IfOk result (λ text. text.items ≡ listed (map string_bytes names.now)) }
+    ensures { IfOk result (λ text. text.items ≡ names_in_columns (map string_bytes names.now)) }
 {
     let width = widest(names);
     let across = across(width);
@@ -78,7 +78,7 @@ fn listed(alloc: Global, names: &[String]) -> Result<Vec<u8>, AllocError>
 /// as 80 have room for, with two spaces between. The text is made whole before the first byte goes
 /// out: after `Memory` nothing was written, after `Write` a front of it and not the whole.
 pub fn write_names<W: Write>(alloc: Global, names: &[String], out: &mut W) -> Result<(), PrintFault>
-    ensures { Prints (listed (map string_bytes names.now)) (W.contents out.old)
+    ensures { Prints (names_in_columns (map string_bytes names.now)) (W.contents out.old)
         (W.contents out.new) result }
 {
     let text = listed(alloc, names)?;

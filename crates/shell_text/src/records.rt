@@ -7,7 +7,7 @@ ghost use Rattle.shell_text.specs.Print.{bytes_of, is_csv_separator};
 ghost use Rattle.shell_text.specs.Records.{AreTexts, ReadsAs, csv_reader, ReadsRecords};
 ghost use Rattle.csv.specs.Records.{fields_of};
 ghost use Rattle.shell_text.specs.declared.records.RecordFault.TheVariants.{Memory};
-ghost use Rattle.shell_text.specs.Calls.{Answers};
+ghost use Rattle.shell_text.specs.Calls.{IsAnswered};
 
 use csv::{ByteRecord, ReaderBuilder};
 use std::alloc::{AllocError, AllocFailed, Global};
@@ -84,7 +84,7 @@ fn with_record(
 
 // The texts of a record's fields.
 fn field_texts(alloc: Global, row: &ByteRecord) -> Result<Vec<String>, RecordFault>
-    ensures { Answers result (λ texts. bytes_of texts ≡ fields_of row.now)
+    ensures { IsAnswered result (λ texts. bytes_of texts ≡ fields_of row.now)
         (λ e. e ≡ RecordFault.NotUtf8 → list_all is_utf8 (fields_of row.now) ≡ false) }
 {
     let mut texts = Vec::with_capacity(alloc, row.len())?;

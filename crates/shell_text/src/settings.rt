@@ -208,7 +208,7 @@ impl Settings {
         self.bail
     }
 
-    // Whether a grid is printed with its header.
+    /// Whether a grid is printed with its header.
     pub(crate) fn shows_headers(&self) -> bool
         ensures { result ≡ shows_headers self.now }
     {

@@ -2,7 +2,7 @@
 ghost use Rattle.std.specs.Prelude.{◌≡◌, length};
 ghost use Rattle.std.specs.Ordering.{int_eq};
 ghost use Rattle.ft_query.specs.Documents.{plain_list};
-ghost use Rattle.ft_query.specs.Taken.{Takes};
+ghost use Rattle.ft_query.specs.Taken.{TakesSteps};
 
 use crate::lists::place::Place;
 use crate::walk::Steps;
@@ -38,7 +38,7 @@ impl DocList {
     /// Looks at the docid.
     pub(crate) fn docid(&self, steps: &mut Steps) -> i64
         ensures docid { result ≡ (plain_list self.now).docid }
-        ensures step { Takes 1 steps.old steps.new }
+        ensures step { TakesSteps 1 steps.old steps.new }
     {
         steps.take();
         self.docid
@@ -47,7 +47,7 @@ impl DocList {
     /// Looks whether it is this document's.
     pub(crate) fn is_of(&self, docid: i64, steps: &mut Steps) -> bool
         ensures is { result ≡ int_eq (plain_list self.now).docid docid }
-        ensures step { Takes 1 steps.old steps.new }
+        ensures step { TakesSteps 1 steps.old steps.new }
     {
         self.docid(steps) == docid
     }

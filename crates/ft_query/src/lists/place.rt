@@ -2,7 +2,7 @@
 ghost use Rattle.std.specs.Prelude.{◌≡◌};
 ghost use Rattle.ft_query.specs.Occurs.{are_near};
 ghost use Rattle.ft_query.specs.Visit.{place_order, is_behind, may_begin, offset_at};
-ghost use Rattle.ft_query.specs.Taken.{Takes};
+ghost use Rattle.ft_query.specs.Taken.{TakesSteps};
 
 use crate::walk::{Offset, Steps};
 use std::cmp::Ordering;
@@ -32,7 +32,7 @@ impl Place {
     // Looks at the position.
     fn look(&self, steps: &mut Steps) -> usize
         ensures pos { result ≡ self.now.pos }
-        ensures step { Takes 1 steps.old steps.new }
+        ensures step { TakesSteps 1 steps.old steps.new }
     {
         steps.take();
         self.pos
@@ -41,7 +41,7 @@ impl Place {
     /// The order of this place, moved by i, and the other, moved by j: by column, then position.
     pub(crate) fn order(&self, i: usize, other: &Place, j: usize, steps: &mut Steps) -> Ordering
         ensures order { result ≡ place_order i self.now j other.now }
-        ensures step { Takes 1 steps.old steps.new }
+        ensures step { TakesSteps 1 steps.old steps.new }
     {
         let here = self.look(steps) as u128 + i as u128;
         let there = other.pos as u128 + j as u128;
@@ -51,7 +51,7 @@ impl Place {
     /// This occurrence, of k terms, ends too far before the other one to be near it.
     pub(crate) fn is_behind(&self, k: usize, other: &Place, most: usize, steps: &mut Steps) -> bool
         ensures behind { result ≡ is_behind most k self.now other.now }
-        ensures step { Takes 1 steps.old steps.new }
+        ensures step { TakesSteps 1 steps.old steps.new }
     {
         let last = self.look(steps) as u128 + k as u128 + most as u128;
         self.column < other.column || self.column == other.column && last < other.pos as u128
@@ -68,7 +68,7 @@ impl Place {
         steps: &mut Steps,
     ) -> bool
         ensures near { result ≡ are_near most k self.now m other.now }
-        ensures step { Takes 1 steps.old steps.new }
+        ensures step { TakesSteps 1 steps.old steps.new }
     {
         let pos = self.look(steps) as u128;
         let end = pos + k as u128;
@@ -83,7 +83,7 @@ impl Place {
     /// A phrase with this filter may begin here, where its first term may want position 0.
     pub(crate) fn may_begin(&self, only: Option<usize>, first: bool, steps: &mut Steps) -> bool
         ensures begins { result ≡ may_begin only first self.now }
-        ensures step { Takes 1 steps.old steps.new }
+        ensures step { TakesSteps 1 steps.old steps.new }
     {
         let pos = self.look(steps);
         let is_within = match only {
@@ -97,7 +97,7 @@ impl Place {
     /// two places comes first.
     pub(crate) fn offset(&self, number: usize, steps: &mut Steps) -> Offset
         ensures offset { result ≡ offset_at number self.now }
-        ensures step { Takes 1 steps.old steps.new }
+        ensures step { TakesSteps 1 steps.old steps.new }
     {
         let _pos = self.look(steps);
         Offset {

@@ -1,9 +1,9 @@
 //! One term's list of documents, passed from front to back.
 ghost use Rattle.std.specs.Prelude.{◌≡◌, map, IfOk};
 ghost use Rattle.ft_query.specs.Documents.{plain_list};
-ghost use Rattle.ft_query.specs.Cursors.{lists_left, lists_kept, next_docid, is_next, next_places, after_next};
+ghost use Rattle.ft_query.specs.Cursors.{lists_left, lists_kept, docid_ahead, is_next, next_places, after_next};
 ghost use Rattle.ft_query.specs.Sought.{StandsAt, SearchesOn};
-ghost use Rattle.ft_query.specs.Taken.{Takes, LooksAt};
+ghost use Rattle.ft_query.specs.Taken.{TakesSteps, LooksForNext};
 
 use crate::lists::DocList;
 use crate::walk::Steps;
@@ -58,8 +58,8 @@ impl Cursor {
 
     /// The next docid here, if there is one, which is looked at.
     pub(super) fn docid(&self, steps: &mut Steps) -> Option<i64>
-        ensures docid { result ≡ next_docid (lists_left self.now) }
-        ensures steps { LooksAt (lists_left self.now) result steps.old steps.new }
+        ensures docid { result ≡ docid_ahead (lists_left self.now) }
+        ensures steps { LooksForNext (lists_left self.now) result steps.old steps.new }
     {
         let list = self.lists.get(self.at)?;
         Some(list.docid(steps))
@@ -68,7 +68,7 @@ impl Cursor {
     /// This document is the next one here. It is a step to ask, also where there is no next one.
     pub(super) fn is_at(&self, docid: i64, steps: &mut Steps) -> bool
         ensures next { result ≡ is_next docid (lists_left self.now) }
-        ensures step { Takes 1 steps.old steps.new }
+        ensures step { TakesSteps 1 steps.old steps.new }
     {
         match self.lists.get(self.at) {
             Some(list) => list.is_of(docid, steps),

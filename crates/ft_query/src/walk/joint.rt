@@ -1,6 +1,6 @@
 //! A right side of a query, whose joint is seen here alone: each visit of one is a step.
 ghost use Rattle.std.specs.Prelude.{◌≡◌};
-ghost use Rattle.ft_query.specs.Taken.{Takes};
+ghost use Rattle.ft_query.specs.Taken.{TakesSteps};
 
 use crate::query::Query;
 use crate::walk::Steps;
@@ -32,7 +32,7 @@ impl<'q> Joint<'q> {
     /// Visits it for a document.
     pub(crate) fn visit(&self, steps: &mut Steps) -> By
         ensures by { result ≡ self.now.by }
-        ensures step { Takes 1 steps.old steps.new }
+        ensures step { TakesSteps 1 steps.old steps.new }
     {
         steps.take();
         self.by

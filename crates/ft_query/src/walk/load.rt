@@ -4,7 +4,7 @@ ghost use Rattle.ft_query.specs.Documents.{Document, plain_list, place_count};
 ghost use Rattle.ft_query.specs.Trees.{plain_term, plain_link, tree_of};
 ghost use Rattle.ft_query.specs.Work.{terms_in};
 ghost use Rattle.ft_query.specs.Cursors.{lists_kept, listed_for};
-ghost use Rattle.ft_query.specs.Loaded.{plain_terms, AreCursorsOf, Asks, Loads};
+ghost use Rattle.ft_query.specs.Loaded.{plain_terms, AreCursorsOf, AsksLists, Loads};
 ghost use Rattle.ft_query.specs.Spines.{leaf_tree};
 
 use crate::lists::{DocList, ListFault, Lists};
@@ -15,7 +15,7 @@ use std::alloc::{AllocError, Global};
 
 // ---- the terms, in the text's order
 
-/// Adds some terms.
+// Adds some terms.
 fn add_terms<'q>(terms: &'q [QueryTerm], all: &mut Vec<&'q QueryTerm>) -> Result<(), AllocError>
     ensures { OnOk result
         (plain_terms all.new.items ≡ plain_terms all.old.items ++ map plain_term terms.now) }
@@ -26,7 +26,7 @@ fn add_terms<'q>(terms: &'q [QueryTerm], all: &mut Vec<&'q QueryTerm>) -> Result
     Ok(())
 }
 
-/// Adds the terms of some links.
+// Adds the terms of some links.
 fn add_links<'q>(links: &'q [Link], all: &mut Vec<&'q QueryTerm>) -> Result<(), AllocError>
     ensures { OnOk result (plain_terms all.new.items ≡ plain_terms all.old.items
         ++ flat_map (λ link. link.to.terms) (map plain_link links.now)) }
@@ -37,7 +37,7 @@ fn add_links<'q>(links: &'q [Link], all: &mut Vec<&'q QueryTerm>) -> Result<(), 
     Ok(())
 }
 
-/// Adds the terms of a first operand.
+// Adds the terms of a first operand.
 fn add_leaf<'q>(leaf: Leaf<'q>, all: &mut Vec<&'q QueryTerm>) -> Result<(), AllocError>
     ensures { OnOk result (plain_terms all.new.items
         ≡ plain_terms all.old.items ++ terms_in (leaf_tree leaf.entry)) }
@@ -51,7 +51,7 @@ fn add_leaf<'q>(leaf: Leaf<'q>, all: &mut Vec<&'q QueryTerm>) -> Result<(), Allo
     }
 }
 
-/// Adds the terms of a query.
+// Adds the terms of a query.
 fn add_query<'q>(
     alloc: Global,
     query: &'q Query,
@@ -71,11 +71,11 @@ fn add_query<'q>(
 // ---- their lists
 
 #[tactic(auto, using(crate::proofs::Reaching::one_call))]
-/// The answer for a term.
+// The answer for a term.
 fn ask<L: Lists>(alloc: Global, term: &QueryTerm, lists: &mut L) -> Result<Vec<DocList>, ListFault>
     ensures list { IfOk result (λ r. L.is_clean lists.new
         → map plain_list r.items ≡ listed_for (L.documents lists.new) (plain_term term.now)) }
-    ensures asks { Asks L.Lists lists.old lists.new result }
+    ensures asks { AsksLists L.Lists lists.old lists.new result }
     ensures becomes { OnOk result (L.becomes lists.old true lists.new) }
     ensures given { IfOk result (λ r. L.given_so_far lists.new
         ≡ min (L.given_so_far lists.old + place_count (map plain_list r.items)) (2 ^ 64 - 1)) }
@@ -88,7 +88,7 @@ fn ask<L: Lists>(alloc: Global, term: &QueryTerm, lists: &mut L) -> Result<Vec<D
     Ok(list)
 }
 
-/// Whether both terms have one list.
+// Whether both terms have one list.
 fn are_alike(one: &QueryTerm, other: &QueryTerm) -> bool
     ensures { IsTrue result
         → (documents : List Document) → listed_for documents (plain_term one.now)
@@ -97,7 +97,7 @@ fn are_alike(one: &QueryTerm, other: &QueryTerm) -> bool
     one.prefix == other.prefix && one.text == other.text
 }
 
-/// Of these cursors, which are those of the first of these terms, one whose list is this term's.
+// Of these cursors, which are those of the first of these terms, one whose list is this term's.
 fn held<'c>(terms: &[&QueryTerm], cursors: &'c [Cursor], term: &QueryTerm) -> Option<&'c Cursor>
     requires { length cursors.now ≤ length terms.now }
     ensures { IfSome result (λ c. (documents : List Document)
@@ -112,7 +112,7 @@ fn held<'c>(terms: &[&QueryTerm], cursors: &'c [Cursor], term: &QueryTerm) -> Op
     None
 }
 
-/// A cursor over a term's list: over one that is held, if there is one, or over this answer.
+// A cursor over a term's list: over one that is held, if there is one, or over this answer.
 fn cursor_of(
     alloc: Global,
     terms: &[&QueryTerm],
@@ -133,7 +133,7 @@ fn cursor_of(
 }
 
 #[tactic(auto, using(crate::proofs::Reaching::reaches_on))]
-/// The lists of these terms.
+// The lists of these terms.
 fn load_terms<L: Lists>(
     alloc: Global,
     terms: &[&QueryTerm],
@@ -141,7 +141,7 @@ fn load_terms<L: Lists>(
 ) -> Result<Vec<Cursor>, ListFault>
     ensures loads { IfOk result
         (Loads L.Lists (plain_terms terms.now) lists.old lists.new) }
-    ensures asks { Asks L.Lists lists.old lists.new result }
+    ensures asks { AsksLists L.Lists lists.old lists.new result }
 {
     let mut cursors = Vec::new(alloc);
     for term in terms {
@@ -160,7 +160,7 @@ pub(crate) fn load<L: Lists>(
 ) -> Result<Vec<Cursor>, ListFault>
     ensures loads { IfOk result
         (Loads L.Lists (terms_in (tree_of query.now)) lists.old lists.new) }
-    ensures asks { Asks L.Lists lists.old lists.new result }
+    ensures asks { AsksLists L.Lists lists.old lists.new result }
 {
     let mut terms = Vec::new(alloc);
     add_query(alloc, query, &mut terms)?;

@@ -2,7 +2,7 @@
 ghost use Rattle.std.specs.Prelude.{◌≡◌, ◌+◌, ◌-◌, ◌^◌, ◌<◌, ◌≤◌, ◌||◌, List, length, map, min, is_ok, IfOk, IfSome, OnOk, OnErr};
 ghost use Rattle.ft_query.specs.Documents.{Document};
 ghost use Rattle.ft_query.specs.Trees.{tree_of};
-ghost use Rattle.ft_query.specs.Lists.{is_failed, Reaches, Answers};
+ghost use Rattle.ft_query.specs.Lists.{is_failed, Reaches, AllAnswer};
 ghost use Rattle.ft_query.specs.Work.{terms_in, entry_count};
 ghost use Rattle.ft_query.specs.Cursors.{lists_left, lists_kept};
 ghost use Rattle.ft_query.specs.Walk.{lists_to_come, StandsBefore, Walked, WalkedTo};
@@ -62,7 +62,7 @@ impl<'q> Matches<'q> {
             × (L.documents lists.new ≡ L.documents lists.old) }
         ensures failed { L.has_failed lists.new ≡ (L.has_failed lists.old || is_failed result) }
         ensures becomes { Reaches L.becomes lists.old (is_ok result) lists.new }
-        ensures asks { OnOk result (Answers L.becomes (length (terms_in (tree_of query.now)))
+        ensures asks { OnOk result (AllAnswer L.becomes (length (terms_in (tree_of query.now)))
             lists.old lists.new) }
     {
         Ok(Matches {

@@ -1,7 +1,7 @@
 //! Places of tokens in one document, passed from front to back.
 ghost use Rattle.std.specs.Prelude.{◌≡◌, ◌∷◌, ◌++◌, [], length, MatchOption, IfOk, OnOk};
 ghost use Rattle.ft_query.specs.Documents.{is_filled};
-ghost use Rattle.ft_query.specs.Taken.{Takes};
+ghost use Rattle.ft_query.specs.Taken.{TakesSteps};
 
 use crate::lists::Place;
 use crate::walk::Steps;
@@ -70,7 +70,7 @@ impl Starts {
         steps: &mut Steps,
     ) -> Result<Starts, AllocError>
         ensures starts { IfOk result (λ s. s.places.items ≡ places.entry.places.now) }
-        ensures steps { Takes (length places.entry.places.now) steps.old steps.new }
+        ensures steps { TakesSteps (length places.entry.places.now) steps.old steps.new }
     {
         steps.take_all(places.places.len());
         let places = places.places.to_vec(alloc)?;

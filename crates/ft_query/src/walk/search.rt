@@ -5,7 +5,7 @@ ghost use Rattle.ft_query.specs.Work.{terms_in};
 ghost use Rattle.ft_query.specs.Cursors.{lists_left, lists_kept, passed, least_of, least_from};
 ghost use Rattle.ft_query.specs.Search.{walk_at, stands_at, ConsidersNext, FindsNext};
 ghost use Rattle.ft_query.specs.Sought.{SearchesOn, AllSearchOn};
-ghost use Rattle.ft_query.specs.Taken.{Takes, LooksAt, LooksAtAll};
+ghost use Rattle.ft_query.specs.Taken.{TakesSteps, LooksForNext, LooksAtAll};
 
 use crate::query::Query;
 use crate::walk::cursor::Cursor;
@@ -22,10 +22,10 @@ enum Considered {
 }
 
 impl Cursor {
-    /// The lesser of this docid and the next one here, which is looked at if there is one.
+    // The lesser of this docid and the next one here, which is looked at if there is one.
     fn lesser(&self, docid: Option<i64>, steps: &mut Steps) -> Option<i64>
         ensures docid { result ≡ least_of docid (lists_left self.now) }
-        ensures steps { LooksAt (lists_left self.now) result steps.old steps.new }
+        ensures steps { LooksForNext (lists_left self.now) result steps.old steps.new }
     {
         let Some(next) = self.docid(steps) else {
             return docid;
@@ -36,10 +36,10 @@ impl Cursor {
         }
     }
 
-    /// Goes on past this document.
+    // Goes on past this document.
     fn pass(&mut self, docid: i64, steps: &mut Steps)
         ensures goes { SearchesOn self.old self.new (passed docid (lists_left self.old)) }
-        ensures step { Takes 1 steps.old steps.new }
+        ensures step { TakesSteps 1 steps.old steps.new }
     {
         if self.is_at(docid, steps) {
             self.go_on();
@@ -47,7 +47,7 @@ impl Cursor {
     }
 }
 
-/// The least docid that is next in some list.
+// The least docid that is next in some list.
 fn least(cursors: &[Cursor], steps: &mut Steps) -> Option<i64>
     ensures docid { result ≡ least_from None (map lists_left cursors.now) }
     ensures steps { LooksAtAll (length cursors.now) result steps.old steps.new }
@@ -59,18 +59,18 @@ fn least(cursors: &[Cursor], steps: &mut Steps) -> Option<i64>
     docid
 }
 
-/// Goes on past this document in each list.
+// Goes on past this document in each list.
 fn pass(cursors: &mut [Cursor], docid: i64, steps: &mut Steps)
     ensures go { AllSearchOn cursors.old cursors.new
         (map (passed docid) (map lists_left cursors.old)) }
-    ensures steps { Takes (length cursors.old) steps.old steps.new }
+    ensures steps { TakesSteps (length cursors.old) steps.old steps.new }
 {
     for cursor in cursors.iter_mut() {
         cursor.pass(docid, steps);
     }
 }
 
-/// Considers the next document that has one of the query's terms, and goes on past it.
+// Considers the next document that has one of the query's terms, and goes on past it.
 fn consider(
     alloc: Global,
     query: &Query,
@@ -96,7 +96,7 @@ fn consider(
     }
 }
 
-/// Begins a search where the walk stands.
+// Begins a search where the walk stands.
 fn begin(cursors: &mut [Cursor])
     ensures { AllSearchOn cursors.old cursors.new (map lists_kept cursors.old) }
 {
@@ -105,7 +105,7 @@ fn begin(cursors: &mut [Cursor])
     }
 }
 
-/// The walk now stands where the search is.
+// The walk now stands where the search is.
 fn keep(cursors: &mut [Cursor])
     ensures { map lists_kept cursors.new ≡ map lists_left cursors.old }
 {
@@ -114,8 +114,8 @@ fn keep(cursors: &mut [Cursor])
     }
 }
 
-/// The next document that the query accepts, without offsets where they aren't wanted. The search
-/// then stands after it.
+// The next document that the query accepts, without offsets where they aren't wanted. The search
+// then stands after it.
 fn search_on(
     alloc: Global,
     query: &Query,

@@ -3,7 +3,7 @@
 ghost use Rattle.std.specs.Prelude.{◌≡◌, ◌<◌, ◌+◌, ◌^◌, length, map, vec_len, flat_map, IfOk};
 ghost use Rattle.ft_query.specs.Trees.{plain_phrase, plain_link, tree_of, chain};
 ghost use Rattle.ft_query.specs.Marked.{chain_tree};
-ghost use Rattle.ft_query.specs.Taken.{Takes};
+ghost use Rattle.ft_query.specs.Taken.{TakesSteps};
 ghost use Rattle.ft_query.specs.Work.{terms_in, node_count};
 ghost use Rattle.ft_query.specs.Spines.{leaf_tree, whole, AddsSpine};
 
@@ -60,7 +60,7 @@ pub(crate) fn spine_of<'q>(
 pub(crate) fn chain_count(near: &Chain, steps: &mut Steps) -> usize
     requires { length (terms_in (chain_tree near.now)) < 2 ^ 64 }
     ensures count { result ≡ length (terms_in (chain_tree near.now)) }
-    ensures steps { Takes (vec_len near.now.links) steps.old steps.new }
+    ensures steps { TakesSteps (vec_len near.now.links) steps.old steps.new }
 {
     steps.take_all(near.links.len());
     let mut count = near.first.terms.len();
@@ -75,7 +75,7 @@ pub(crate) fn chain_count(near: &Chain, steps: &mut Steps) -> usize
 pub(crate) fn term_count(query: &Query, steps: &mut Steps) -> usize
     requires { length (terms_in (tree_of query.now)) < 2 ^ 64 }
     ensures count { result ≡ length (terms_in (tree_of query.now)) }
-    ensures steps { Takes (node_count (tree_of query.now)) steps.old steps.new }
+    ensures steps { TakesSteps (node_count (tree_of query.now)) steps.old steps.new }
 {
     let mut count = 0;
     let mut part = query;

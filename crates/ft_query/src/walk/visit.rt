@@ -7,7 +7,7 @@ ghost use Rattle.ft_query.specs.Occurs.{accepts, offsets_of};
 ghost use Rattle.ft_query.specs.Trees.{plain_term, plain_phrase, plain_link, tree_of, phrase, chain};
 ghost use Rattle.ft_query.specs.Marked.{chain_tree, own_lists, lists_after, AreNumbered, HaveLists, IsEmpty, AreLinked, Marks, Evaluates, Joins};
 ghost use Rattle.ft_query.specs.Spines.{leaf_tree};
-ghost use Rattle.ft_query.specs.Taken.{more_steps, Takes, TakesAtMost, TakesOf, LooksForAll};
+ghost use Rattle.ft_query.specs.Taken.{more_steps, TakesSteps, TakesAtMost, TakesOf, LooksForAll};
 ghost use Rattle.ft_query.specs.Work.{terms_in, node_count, width};
 ghost use Rattle.ft_query.specs.Visit.{among, followed, if_wanted, starts_of, marks_from, linked, link_marks, plain_starts, plain_lists, listed_places, precedes, places_in, total, linked_cost, link_cost, visit_cost};
 
@@ -429,7 +429,7 @@ impl Cursor {
     // The places in this document, if it is the next one here.
     fn places(&self, docid: i64, steps: &mut Steps) -> Places<'_>
         ensures places { result.places.now ≡ places_at docid (lists_left self.now) }
-        ensures step { Takes 1 steps.old steps.new }
+        ensures step { TakesSteps 1 steps.old steps.new }
     {
         if self.is_at(docid, steps) {
             self.here()

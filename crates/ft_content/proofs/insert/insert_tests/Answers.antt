@@ -11,7 +11,7 @@ use Rattle.std.specs.declared.alloc.Global.{Global}
 use Rattle.ft_values.specs.declared.rows.Value.{Value}
 use Rattle.ft_values.specs.Cells.{Cell, shown_value}
 use Rattle.ft_content.specs.Content.{is_docid, is_too_long, has_nul}
-use Rattle.ft_content.specs.Deserved.{has_column, is_text, docids_in}
+use Rattle.ft_content.specs.Deserved.{has_column, is_text, docids_named}
 use Rattle.ft_content.specs.Views.{bare_content, cells_of}
 use Rattle.ft_content.proofs.Lists.{any_of_map, any_shown, all_shown, length_of_map}
 use Rattle.ft_content.proofs.insert.insert_tests.Goals as goal
@@ -33,8 +33,8 @@ wide c =
 told : (c : After-any-else-any) → c.any-else-any.result ≡ list_any (λ row. list_any (λ v. is_docid v.0 && is_text v.1) (zip (texts c.args.names.now) row)) (map cells_of c.args.rows.now)
 told c = any_shown (λ row. list_any (λ (v : List ℕ × Cell). is_docid v.0 && is_text v.1) (zip (texts c.args.names.now) row)) cells_of _ _ _ c.any-else-any.ensures.ran (YieldsList-from_slice c.args.rows.now cc) (λ x b q k. search (rules, tests))
 
-two : (c : After-any-else-any-2) → c.any-else-any-2.result ≡ list_any (λ row. nat_lt 1 (length (docids_in (zip (texts c.args.names.now) row)))) (map cells_of c.args.rows.now)
-two c = any_shown (λ row. nat_lt 1 (length (docids_in (zip (texts c.args.names.now) row)))) cells_of _ _ _ c.any-else-any-2.ensures.ran (YieldsList-from_slice c.args.rows.now cc) (λ x b q k. search (rules, tests))
+two : (c : After-any-else-any-2) → c.any-else-any-2.result ≡ list_any (λ row. nat_lt 1 (length (docids_named (zip (texts c.args.names.now) row)))) (map cells_of c.args.rows.now)
+two c = any_shown (λ row. nat_lt 1 (length (docids_named (zip (texts c.args.names.now) row)))) cells_of _ _ _ c.any-else-any-2.ensures.ran (YieldsList-from_slice c.args.rows.now cc) (λ x b q k. search (rules, tests))
 
 -- all values of the rows, one after the other
 any_of_rows : (p : Cell → Bool) (rows : List (Vec Value Global)) → list_any (λ v. p (shown_value v)) (flat_map (λ row. row.items) rows) ≡ list_any (list_any p) (map cells_of rows)

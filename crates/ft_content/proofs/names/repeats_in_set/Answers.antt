@@ -6,19 +6,19 @@ use Rattle.std.specs.Str.{bytes_eq, str_to_ascii_lowercase}
 use Rattle.std.proofs.lemmas.List.Folds.{list_any-append}
 use Rattle.std.proofs.lemmas.Map.Text.{btree_set_updates_text}
 use Rattle.ft_content.specs.Content.{same_name}
-use Rattle.ft_content.specs.Small.{AreSmall}
+use Rattle.ft_content.specs.Small.{HasLowercase}
 use Rattle.ft_content.proofs.SmallLemmas.{or_added, small_again, small_more}
 use Rattle.ft_content.proofs.names.repeats_in_set.Goals as goal
 use Rattle.ft_content.proofs.names.repeats_in_set.Goals.{In_ok-insert}
 
 -- the name in small letters is new where the set didn't have it
-told : (g : _) (c : In_ok-insert g) (names : List (List ℕ)) → AreSmall c.loop-one.small names → c.in_ok-insert.field-0 ≡ not (list_any (λ n. same_name n c.name.result.now) names)
+told : (g : _) (c : In_ok-insert g) (names : List (List ℕ)) → HasLowercase c.loop-one.small names → c.in_ok-insert.field-0 ≡ not (list_any (λ n. same_name n c.name.result.now) names)
 told g c names are =
     let bytes = string_bytes c.in_ok-to_ascii_lowercase.field-0 in
     c.in_ok-insert.ensures.added
     ∙ ap not (are.has bytes ∙ ap (λ bs. list_any (λ n. bytes_eq (str_to_ascii_lowercase n) bs) names) c.in_ok-to_ascii_lowercase.ensures.ok)
 
-added : (g : _) (c : In_ok-insert g) (names : List (List ℕ)) → AreSmall c.loop-one.small names → AreSmall c.insert.new.self (names ++ c.name.result.now ∷ [])
+added : (g : _) (c : In_ok-insert g) (names : List (List ℕ)) → HasLowercase c.loop-one.small names → HasLowercase c.insert.new.self (names ++ c.name.result.now ∷ [])
 added g c names are =
     let bytes = string_bytes c.in_ok-to_ascii_lowercase.field-0 in
     let small = str_to_ascii_lowercase c.name.result.now in

@@ -2,8 +2,8 @@
 use Rattle.std.proofs.Common.{◌≡◌, false, map}
 use Rattle.std.specs.Prelude.{take}
 use Rattle.ft_content.specs.Content as content
-use Rattle.ft_content.specs.Small.{AreSmall}
+use Rattle.ft_content.specs.Small.{HasLowercase}
 use Rattle.ft_content.proofs.names.repeats_in_set.Given as goal
 
 abbrev pub invariant-loop-one : goal.invariant-loop-one
-invariant-loop-one g l = AreSmall l.small (map g.T.Named.name_of (take l.one-index l.named)) × (content.repeats_name (map g.T.Named.name_of (take l.one-index l.named)) ≡ false)
+invariant-loop-one g l = HasLowercase l.small (map g.T.Named.name_of (take l.one-index l.named)) × (content.repeats_name (map g.T.Named.name_of (take l.one-index l.named)) ≡ false)

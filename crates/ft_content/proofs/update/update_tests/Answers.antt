@@ -6,7 +6,7 @@ use Rattle.std.proofs.lemmas.Iterator.Consumers.{YieldsList-from_filter_map, cou
 use Rattle.std.specs.declared.alloc.Global.{Global}
 use Rattle.ft_values.specs.declared.rows.Value.{Value}
 use Rattle.ft_content.specs.Content.{is_docid, is_too_long, has_nul}
-use Rattle.ft_content.specs.Deserved.{has_column, is_text, is_null, docids_in, names_unknown}
+use Rattle.ft_content.specs.Deserved.{has_column, is_text, is_null, docids_named, names_unknown}
 use Rattle.ft_content.specs.Views.{bare_content, filter_of, set_of}
 use Rattle.ft_content.proofs.Lists.{any_shown, all_shown}
 use Rattle.ft_content.proofs.GivenLemmas.{filter_map_of_map, docid_given, docids_are}
@@ -25,7 +25,7 @@ unknown c =
 other : (c : After-any) → c.any.result ≡ list_any (λ s. is_docid s.0 && (is_text s.1 || is_null s.1)) (map set_of c.args.sets.now)
 other c = any_shown (λ s. is_docid s.0 && (is_text s.1 || is_null s.1)) set_of _ _ _ c.any.ensures.ran (YieldsList-from_slice c.args.sets.now cc) (λ x b q k. search (rules, tests))
 
-counted : (c : After-count-docids) → c.count-docids.result ≡ length (docids_in (map set_of c.args.sets.now))
+counted : (c : After-count-docids) → c.count-docids.result ≡ length (docids_named (map set_of c.args.sets.now))
 counted c =
     count_from_yields_List _ _ c.count-docids.ensures.ran (YieldsList-from_filter_map _ (λ (s : String Global × Value). docid_given (set_of s)) (YieldsList-from_slice c.args.sets.now cc) c.filter_map.ensures.closure (λ x r q k. search (rules, tests)))
     ∙ ap length (sym (filter_map_of_map docid_given set_of c.args.sets.now) ∙ sym (docids_are (map set_of c.args.sets.now)))

@@ -5,7 +5,7 @@ use Rattle.ft_values.specs.declared.rows.Value.{Value}
 use Rattle.ft_values.specs.Cells.{shown_value}
 use Rattle.ft_content.specs.Content.{gathered}
 use Rattle.ft_documents.specs.declared.documents.Document.{Document}
-use Rattle.ft_documents.specs.Gathered.{shown_document, shown_row, with_last}
+use Rattle.ft_documents.specs.Gathered.{shown_document, gathered_row, with_last}
 use Rattle.ft_documents.proofs.GatheredRows.{joined, behind, first_of_all, gathered_more, gathered_none}
 use Rattle.ft_documents.proofs.documents.gathered.Goals as goal
 use Rattle.ft_documents.proofs.documents.gathered.Goals.{in-Some-pop+then-last-docid, in-Some-pop+else-last-docid+in_ok-push, in_default}
@@ -15,7 +15,7 @@ loop-row-init c = ap (map shown_document) c.new-documents.ensures.items ∙ gath
 
 pub loop-row-preserved : goal.loop-row-preserved
 loop-row-preserved c =
-    let row = shown_row c.in-Some.row in
+    let row = gathered_row c.in-Some.row in
     let fits : FitsSigned w64 c.in-Some.row.docid = search rules in
     let documents : List Document = c.match-pop.documents.items in
     let cells : List Value = c.match-pop.cells.items in
@@ -40,4 +40,4 @@ loop-row-preserved c =
           ∙ first_of_all row c.pop.new.self.items c.loop-row.documents.items w.in_default.ensures.items (omega (arith, w.in_default.ensures.cases.0, c.loop-row.documents.ok.0))
     ]) in
     one ∙ ap (with_last row) c.loop-row.invariant
-    ∙ sym (ap gathered (map-append shown_row c.loop-row.yielded (c.in-Some.row ∷ [])) ∙ gathered_more (map shown_row c.loop-row.yielded) row)
+    ∙ sym (ap gathered (map-append gathered_row c.loop-row.yielded (c.in-Some.row ∷ [])) ∙ gathered_more (map gathered_row c.loop-row.yielded) row)

@@ -5,7 +5,7 @@ use Rattle.std.specs.Ordering.{int_cmp}
 use Rattle.std.proofs.lemmas.List.{drop_all}
 use Rattle.std.proofs.lemmas.Option.{slice_get_read}
 use Rattle.ft_values.specs.declared.fault.Fault.{Fault}
-use Rattle.ft_content.specs.Deserved.{insert_rows}
+use Rattle.ft_content.specs.Deserved.{inserted_rows}
 use Rattle.ft_content.specs.Views.{cells_of, column_of}
 use Rattle.ft_documents.specs.declared.new_documents.NewDocuments.{NewDocuments}
 use Rattle.std.specs.List.{AllByRecursion}
@@ -13,8 +13,8 @@ use Rattle.std.specs.FinMap.Entries.{find, is_sorted}
 use Rattle.ft_values.specs.Cells.{Cell}
 use Rattle.ft_content.specs.Content.{Documents}
 use Rattle.ft_content.specs.Views.{last_docid}
-use Rattle.ft_documents.specs.NewDocuments.{shown_entry, documents_in, with_new, AreBeside}
-use Rattle.ft_documents.specs.Inserted.{Makes}
+use Rattle.ft_documents.specs.NewDocuments.{shown_new, shown_documents, with_new, AreBeside}
+use Rattle.ft_documents.specs.Inserted.{MakesDocuments}
 use Rattle.ft_documents.specs.RewriteRows.{all_put}
 use Rattle.ft_documents.proofs.Steps.{taken_more}
 use Rattle.ft_documents.proofs.InsertRows.{rows_step, rows_fail, rows_none, row_at}
@@ -26,7 +26,7 @@ got_or (x ∷ xs) zero d = refl
 got_or (x ∷ xs) (suc k) d = got_or xs k d
 
 -- no new documents yet
-begins : (documents : Documents) (new : NewDocuments) → documents_in new ≡ [] → is_sorted int_cmp documents ≡ true → last_docid documents ≡ new.last → AreBeside documents new
+begins : (documents : Documents) (new : NewDocuments) → shown_documents new ≡ [] → is_sorted int_cmp documents ≡ true → last_docid documents ≡ new.last → AreBeside documents new
 begins documents new none sorted last = record {
   sorted = sorted;
   rising = ap (is_sorted int_cmp) none;
@@ -36,9 +36,9 @@ begins documents new none sorted last = record {
 
 pub loop-place-init : goal.loop-place-init
 loop-place-init c documents sorted last known =
-    let none : map shown_entry c.new.result.entries ≡ [] = ap (map shown_entry) c.new.ensures.empty in (
+    let none : map shown_new c.new.result.entries ≡ [] = ap (map shown_new) c.new.ensures.empty in (
       begins documents _ none sorted last,
-      ap (λ new. insert_rows (map column_of c.args.columns.now) (map (zip (map (λ n. n.now) c.args.names.now)) (map cells_of c.args.rows.now)) (all_put int_cmp new documents)) none,
+      ap (λ new. inserted_rows (map column_of c.args.columns.now) (map (zip (map (λ n. n.now) c.args.names.now)) (map cells_of c.args.rows.now)) (all_put int_cmp new documents)) none,
     )
 
 pub loop-place-preserved : goal.loop-place-preserved
@@ -55,7 +55,7 @@ loop-place-preserved c documents sorted last known =
     let so_far = c.loop-place.invariant documents sorted last known in
     let here = slice_get_read rows _ place row refl c.loop-place-test.true c.index-rows-place.is in
     let stored = known place values (row_at names cells_of rows place row here) in
-    let first = taken_more (λ xs. insert_rows columns (map (zip names) (map cells_of xs)) all) rows place row c.loop-place-test.true c.index-rows-place.is in
+    let first = taken_more (λ xs. inserted_rows columns (map (zip names) (map cells_of xs)) all) rows place row c.loop-place-test.true c.index-rows-place.is in
     let step = (simp (c.as_slice.ensures.value, stored_here) at c.in_ok-add.ensures) documents so_far.0 stored in
     (step.0, sym (rows_step columns values rest all (with_new c.add.new.self documents) step.1) ∙ sym first ∙ so_far.1)
 
@@ -73,11 +73,11 @@ returns-in_err-add c documents sorted last known =
     let so_far = c.loop-place.invariant documents sorted last known in
     let here = slice_get_read rows _ place row refl c.loop-place-test.true c.index-rows-place.is in
     let stored = known place values (row_at names cells_of rows place row here) in
-    let first = taken_more (λ xs. insert_rows columns (map (zip names) (map cells_of xs)) all) rows place row c.loop-place-test.true c.index-rows-place.is in
+    let first = taken_more (λ xs. inserted_rows columns (map (zip names) (map cells_of xs)) all) rows place row c.loop-place-test.true c.index-rows-place.is in
     let fault : Fault = c.in_err-add.field-0.0 in
     let is : c.from_residual.result ≡ Err fault = search rules in
     let failed = (simp (c.as_slice.ensures.value, stored_here) at c.in_err-add.ensures) documents so_far.0 stored in
-    subst (λ (r : Result NewDocuments Fault). Makes documents (insert_rows columns (map (zip names) (map cells_of rows)) documents) r) (sym is)
+    subst (λ (r : Result NewDocuments Fault). MakesDocuments documents (inserted_rows columns (map (zip names) (map cells_of rows)) documents) r) (sym is)
     (elim failed [ inl memory ↦ inl memory | inr row_is ↦ inr (sym so_far.1 ∙ first ∙ rows_fail columns values rest all fault row_is) ])
 
 pub returns : goal.returns
@@ -85,4 +85,4 @@ returns c documents sorted last known =
     let so_far = c.loop-place.invariant documents sorted last known in
     let columns = map column_of c.args.columns.now in
     let all = with_new c.loop-place.new documents in
-    (so_far.0, sym so_far.1 ∙ ap (λ xs. insert_rows columns (map (zip (map (λ n. n.now) c.args.names.now)) (map cells_of xs)) all) (drop_all c.loop-place.place c.args.rows.now c.loop-place-test.false) ∙ rows_none columns all)
+    (so_far.0, sym so_far.1 ∙ ap (λ xs. inserted_rows columns (map (zip (map (λ n. n.now) c.args.names.now)) (map cells_of xs)) all) (drop_all c.loop-place.place c.args.rows.now c.loop-place-test.false) ∙ rows_none columns all)

@@ -4,7 +4,7 @@ use Rattle.std.specs.Prelude.{IsTrue}
 use Rattle.std.specs.Ordering.{int_cmp}
 use Rattle.std.specs.FinMap.Entries.{is_sorted}
 use Rattle.ft_content.specs.Content.{Documents}
-use Rattle.ft_content.specs.Deserved.{insert_rows}
+use Rattle.ft_content.specs.Deserved.{inserted_rows}
 use Rattle.ft_content.specs.Views.{last_docid, cells_of, column_of}
 use Rattle.ft_documents.specs.NewDocuments.{with_new, AreBeside}
 use Rattle.ft_documents.specs.Inserted.{AreKnown}
@@ -14,4 +14,4 @@ abbrev pub invariant-loop-place : goal.invariant-loop-place
 invariant-loop-place l =
     let names = map (λ n. n.now) l.names in
     (documents : Documents) → IsTrue (is_sorted int_cmp documents) → last_docid documents ≡ l.fn.last → AreKnown documents (map (zip names) (map cells_of l.rows)) l.stored →
-    AreBeside documents l.new × (insert_rows (map column_of l.columns) (map (zip names) (map cells_of (drop l.place l.rows))) (with_new l.new documents) ≡ insert_rows (map column_of l.columns) (map (zip names) (map cells_of l.rows)) documents)
+    AreBeside documents l.new × (inserted_rows (map column_of l.columns) (map (zip names) (map cells_of (drop l.place l.rows))) (with_new l.new documents) ≡ inserted_rows (map column_of l.columns) (map (zip names) (map cells_of l.rows)) documents)

@@ -1,19 +1,23 @@
-use Rattle.std.proofs.Common.{◌≡◌, ◌≤◌, ◌+◌, ◌++◌, ◌∷◌, ◌&&◌, [], Bool, cond, not, true, false, map, drop, length, refl, sym, subst, ap, ◌∙◌, to_z-of_z, to_z, of_z, w64, rules}
-use Rattle.std.specs.Prelude.{is_some}
+use Rattle.std.proofs.Common.{◌≡◌, ◌≤◌, ◌+◌, ◌++◌, ◌∷◌, ◌&&◌, [], List, Bool, cond, not, true, false, map, drop, length, refl, sym, subst, ap, ◌∙◌, to_z-of_z, to_z, of_z, w64, rules}
+use Rattle.std.specs.Prelude.{is_some, IsTrue}
+use Rattle.std.specs.List.{flat_map}
+use Rattle.std.specs.FinMap.Entries.{is_sorted}
 use Rattle.std.specs.Ordering.{int_eq}
 use Rattle.std.proofs.lemmas.List.{length-map, drop_all}
 use Rattle.std.proofs.lemmas.List.Elements.{All-same}
 use Rattle.ft_rows.specs.Store.{DropCells, column_key_cmp}
 use Rattle.ft_rows.specs.Changes.{shown_change}
-use Rattle.ft_content.specs.Index.{key_cmp}
+use Rattle.ft_content.specs.Index.{Key, key_cmp, StoredSpot}
 use Rattle.ft_content.specs.Views.{cells_of, column_of}
 use Rattle.ft_documents.specs.declared.rewrite.Rewrite as source
 use Rattle.ft_documents.proofs.MapSteps.{is_some_shown}
 use Rattle.ft_documents.specs.Tables.{IsOfDocids}
-use Rattle.ft_documents.specs.MadeIndex.{Adds, IsIndexOf}
-use Rattle.ft_documents.specs.Rewrite.{Rewrite, shown_rewrite, befores, afters, document_if, docids_of, AreRight, AreNew}
-use Rattle.ft_documents.specs.RewriteRows.{rewrite_changes, goes, dropped_documents, put_documents, dropped_lists, put_lists, dropped_sizes, put_sizes, gone, changed, same_spots}
+use Rattle.ft_documents.specs.MadeIndex.{AddsDocuments, IsIndexOf}
+use Rattle.ft_documents.specs.Rewrite.{Rewrite, shown_rewrite, befores, afters, document_if, rewritten_docids, AreRight, AreNew}
+use Rattle.ft_documents.specs.Terms.{Group, group_spots, lists_in_groups, kept_list}
+use Rattle.ft_documents.specs.RewriteRows.{index_lists_of, rewrite_changes, goes, dropped_documents, put_documents, dropped_lists, put_lists, dropped_sizes, put_sizes, gone, changed, same_spots}
 use Rattle.ft_documents.proofs.Steps.{kept_more, all_taken, taken_more, change_more, six_pieces}
+use Rattle.ft_documents.proofs.SpotLists.{sorted_joined}
 use Rattle.ft_documents.proofs.MadeIndexes.{more_joined, all_joined}
 use Rattle.ft_documents.proofs.NearLemmas.{near}
 use Rattle.ft_documents.proofs.RightLemmas.{are_right}
@@ -49,10 +53,19 @@ loop-rewrite-preserved c =
           let stays : goes r ≡ false = elim w.else-is_some.branch [ else-is_some-via-then-is_some+else-is_none w ↦ goes_as c.rewrite-item.result true true (search rules) (search rules) | else-is_some-via-else-is_some w ↦ goes_as c.rewrite-item.result false _ (search rules) refl ] in
           ap (λ v. map shown_change v.items) w.changes-is ∙ ap (λ b. cond b (made ++ DropCells tab r.docid ∷ []) made) (sym stays)
     ] in (
-      more_joined columns (document_if r.docid r.before) (befores rest) _ (befores all) old c.add.new.self (ap befores left) (subst (λ z. Adds columns (document_if z r.before) old c.add.new.self) d c.in_ok-add.ensures) so_far.0,
-      more_joined columns (document_if r.docid r.after) (afters rest) _ (afters all) new c.add-in-loop-rewrite.new.self (ap afters left) (subst (λ z. Adds columns (document_if z r.after) new c.add-in-loop-rewrite.new.self) d c.in_ok-add-2.ensures) so_far.1,
+      more_joined columns (document_if r.docid r.before) (befores rest) _ (befores all) old c.add.new.self (ap befores left) (subst (λ z. AddsDocuments columns (document_if z r.before) old c.add.new.self) d c.in_ok-add.ensures) so_far.0,
+      more_joined columns (document_if r.docid r.after) (afters rest) _ (afters all) new c.add-in-loop-rewrite.new.self (ap afters left) (subst (λ z. AddsDocuments columns (document_if z r.after) new c.add-in-loop-rewrite.new.self) d c.in_ok-add-2.ensures) so_far.1,
       kept_more goes (λ (x : Rewrite). DropCells tab x.docid) r rest made _ _ grown (sym (ap (λ rs. made ++ dropped_documents tab rs) left) ∙ so_far.2),
     )
+
+in_order : (lists : List (Key × List StoredSpot)) (gs : List Group) → lists ≡ lists_in_groups gs → IsTrue (is_sorted key_cmp lists)
+in_order lists gs is = subst (λ ls. IsTrue (is_sorted key_cmp ls)) (sym is) (sorted_joined (flat_map group_spots gs) [] refl)
+
+pub drop_lists-requires : goal.drop_lists-requires
+drop_lists-requires c = in_order (map kept_list c.as_slice-2.result.now) c.loop-rewrite.new.terms.entries (ap (map kept_list) c.as_slice-2.ensures.value ∙ c.in_ok-new_lists.ensures)
+
+pub put_lists-requires : goal.put_lists-requires
+put_lists-requires c = in_order (map kept_list c.as_slice-3.result.now) c.loop-rewrite.old.terms.entries (ap (map kept_list) c.as_slice-3.ensures.value ∙ c.in_ok-old_lists.ensures)
 
 pub returns : goal.returns
 unfolding rewrite_changes
@@ -67,13 +80,15 @@ returns c =
     let none : map shown_rewrite (drop c.loop-rewrite.rewrite-index c.args.rewrites.items) ≡ [] = ap (map shown_rewrite) (drop_all c.loop-rewrite.rewrite-index c.args.rewrites.items past) in
     let first : IsIndexOf columns (befores rewrites) old = all_joined columns _ (befores rewrites) old (ap befores none) so_far.0 in
     let last : IsIndexOf columns (afters rewrites) new = all_joined columns _ (afters rewrites) new (ap afters none) so_far.1 in
+    let olds : map kept_list c.in_ok-old_lists.old_lists.items ≡ index_lists_of columns (befores rewrites) = c.in_ok-old_lists.ensures ∙ first.lists in
+    let news : map kept_list c.in_ok-new_lists.new_lists.items ≡ index_lists_of columns (afters rewrites) = c.in_ok-new_lists.ensures ∙ last.lists in
     let gone_now = map shown_change c.loop-rewrite.changes.items in
     let made = map shown_change c.put_sizes.new.changes.items in
     let plan : made ≡ rewrite_changes c.args.tab columns rewrites = six_pieces [] gone_now _ _ _ _ _ _ _ _ _ _ _ refl
     (all_taken gone_now _ _ (ap (dropped_documents (to_z w64 (of_z w64 c.args.tab))) none) so_far.2 ∙ (λ i. dropped_documents (t i) rewrites))
     (c.in_ok-put_documents.ensures ∙ (λ i. gone_now ++ put_documents (t i) rewrites))
-    (c.in_ok-drop_lists.ensures ∙ (λ i. map shown_change c.put_documents.new.changes.items ++ dropped_lists (t i) (changed key_cmp same_spots (last.lists i) (first.lists i))))
-    (c.in_ok-put_lists.ensures ∙ (λ i. map shown_change c.drop_lists.new.changes.items ++ put_lists (t i) (changed key_cmp same_spots (first.lists i) (last.lists i))))
+    (c.in_ok-drop_lists.ensures ∙ (λ i. map shown_change c.put_documents.new.changes.items ++ dropped_lists (t i) (changed key_cmp same_spots ((ap (map kept_list) c.as_slice-2.ensures.value ∙ news) i) ((ap (map kept_list) c.as_slice.ensures.value ∙ olds) i))))
+    (c.in_ok-put_lists.ensures ∙ (λ i. map shown_change c.drop_lists.new.changes.items ++ put_lists (t i) (changed key_cmp same_spots ((ap (map kept_list) c.as_slice-3.ensures.value ∙ olds) i) (news i))))
     (c.in_ok-drop_sizes.ensures ∙ (λ i. map shown_change c.put_lists.new.changes.items ++ dropped_sizes (t i) (gone column_key_cmp (first.sizes i) (last.sizes i))))
     (c.in_ok-put_sizes.ensures ∙ (λ i. map shown_change c.drop_sizes.new.changes.items ++ put_sizes (t i) (changed column_key_cmp int_eq (first.sizes i) (last.sizes i)))) in
     let width = length-map c.args.columns.now column_of in
@@ -82,5 +97,5 @@ returns c =
       right = subst (AreRight c.args.tab columns rewrites) (sym plan) (are_right c.args.tab columns rewrites);
       packable = λ few rising fits. are_packable c.args.tab columns rewrites c.put_sizes.new.changes.items plan (rw width few) rising (rw width fits) last.numbers;
       new = subst (AreNew c.args.tab columns rewrites) (sym plan) (are_new c.args.tab columns rewrites);
-      near = All-same (IsOfDocids c.args.tab (docids_of rewrites)) made (rewrite_changes c.args.tab columns rewrites) plan (near c.args.tab columns rewrites);
+      near = All-same (IsOfDocids c.args.tab (rewritten_docids rewrites)) made (rewrite_changes c.args.tab columns rewrites) plan (near c.args.tab columns rewrites);
     }

@@ -1,90 +1,61 @@
--- one document more
-use Rattle.std.proofs.Common.{◌≡◌, ◌==◌, [], ◌∷◌, ◌++◌, Some, None, map, length, sym, ap, subst, ◌∙◌, refl, arith, rules, List, append_assoc, append-nil, to_z, of_z, w64, ℤ}
-use Rattle.std.specs.Prelude.{slice_get}
-use Rattle.std.proofs.lemmas.List.{length-map}
-use Rattle.ft_values.specs.Cells.{Cell}
+-- one document more, and the index of all
+use Rattle.std.proofs.Common.{◌≡◌, [], ◌∷◌, List, ℤ, map, sym, ap, subst, ◌∙◌, rules, to_z, of_z, w64}
+use Rattle.std.proofs.lemmas.Iterator.Adapters.{YieldsList-from_vec}
+use Rattle.std.proofs.lemmas.Iterator.Consumers.{YieldsList-end}
+use Rattle.std.proofs.lemmas.List.{map-append, map-id}
+use Rattle.ft_content.specs.Content.{Content, CellRow, Column, Documents, gathered}
+use Rattle.ft_content.specs.Index.{index_rows}
+use Rattle.ft_content.specs.Laws.{content_with}
 use Rattle.ft_content.specs.Views.{column_of}
-use Rattle.ft_documents.specs.Joins.{CanJoin}
-use Rattle.ft_documents.specs.RewriteRows.{lists_with, lists_of}
-use Rattle.ft_documents.specs.Standing.{shown_row, shown_size, cell_in, same_size, after_first, own_sizes, rest_passes, are_sizes_of}
-use Rattle.ft_documents.specs.Terms.{lists_in_terms}
-use Rattle.ft_documents.proofs.JoinedLists.{no_lists}
-use Rattle.ft_documents.proofs.StandingIndex.{head, none_left, one_more, have_cells}
-use Rattle.ft_documents.proofs.StandingSizes.{sizes_right, sizes_wrong}
+use Rattle.ft_content.proofs.RowLemmas.{rows_are_read}
+use Rattle.ft_documents.specs.Gathered.{shown_document}
+use Rattle.ft_documents.specs.MadeIndex.{AddsDocuments}
+use Rattle.ft_documents.specs.RewriteRows.{lists_joined_by, sizes_with, index_lists_of, sized}
+use Rattle.ft_documents.specs.Standing.{HaveContent, shown_row}
+use Rattle.ft_documents.proofs.IndexOf.{lists_with-append, sizes_with-append, lists_made, sizes_made}
+use Rattle.ft_documents.proofs.RowKinds.{stored_sizes}
 use Rattle.ft_documents.proofs.standing_index.index_lists.Goals as goal
 
-pub loop-first-init : goal.loop-first-init
-loop-first-init c = λ documents have sorted. record { before = []; documents = documents; all_are = refl; have = have; sizes_are = refl; lists_are = c.new-lists.ensures ∙ sym (no_lists (map column_of c.args.columns.now)) }
+-- the documents of a content
+are_documents : (content : Content) (columns : List Column) (rows : List CellRow) → HaveContent columns rows content → gathered rows ≡ content.documents
+are_documents content columns rows have = ap gathered have.cells_are ∙ ap (λ (c : Content). c.documents) (rows_are_read have.name content have.is_content)
 
-pub returns-then-cells-columns : goal.returns-then-cells-columns
-returns-then-cells-columns c = λ content have.
-    let all = map column_of c.args.columns.now in
-    let cells = have_cells all (length c.args.columns.now) (map shown_row c.args.cells.now) content (length-map c.args.columns.now column_of) have in
-    let left = c.loop-first.invariant content.documents cells have.is_content.rising in
-    let here : slice_get c.loop-first.cells.now 0 ≡ Some c.in-Some.first.now = search rules in
-    let h = head (map column_of c.args.columns.now) (length c.args.columns.now) c.loop-first.cells.now c.in-Some.first.now (map shown_size c.loop-first.sizes.now) _ c.requires here left.documents left.have left.sizes_are in
-    absurd (omega (arith, h.long, c.if-cells-columns.true))
+sizes_are : (content : Content) (columns : List Column) (rows : List CellRow) (documents : Documents) (own : List ((ℤ × ℤ) × ℤ)) → HaveContent columns rows content → documents ≡ gathered rows → own ≡ sizes_with columns documents [] → own ≡ sized (index_rows content).sizes
+sizes_are content columns rows documents own have are is =
+    is ∙ ap (λ ds. sizes_with columns ds []) (are ∙ are_documents content columns rows have) ∙ sizes_made columns content.documents
+    ∙ sym (stored_sizes columns content.documents have.is_content.rising) ∙ ap (λ cs. sized (index_rows (content_with cs content.documents)).sizes) (sym have.columns_are)
 
-pub returns-in_default-2 : goal.returns-in_default-2
-returns-in_default-2 c = λ content have.
-    let all = map column_of c.args.columns.now in
-    let cells = have_cells all (length c.args.columns.now) (map shown_row c.args.cells.now) content (length-map c.args.columns.now column_of) have in
-    let left = c.loop-first.invariant content.documents cells have.is_content.rising in
-    let here : slice_get c.loop-first.cells.now 0 ≡ Some c.in-Some.first.now = search rules in
+lists_are : (content : Content) (columns : List Column) (rows : List CellRow) (documents : Documents) → HaveContent columns rows content → documents ≡ gathered rows → lists_joined_by columns documents [] ≡ (index_rows content).lists
+lists_are content columns rows documents have are =
+    ap (λ ds. lists_joined_by columns ds []) (are ∙ are_documents content columns rows have) ∙ lists_made columns content.documents ∙ ap (λ cs. index_lists_of cs content.documents) (sym have.columns_are)
+
+pub loop-document-preserved-in_ok-add : goal.loop-document-preserved-in_ok-add
+loop-document-preserved-in_ok-add c =
     let columns = map column_of c.args.columns.now in
-    let docid = c.in-Some.first.now.docid in
-    let old = map shown_size c.loop-first.sizes.now in
-    let h = head columns (length c.args.columns.now) c.loop-first.cells.now c.in-Some.first.now old _ c.requires here left.documents left.have left.sizes_are in
-    let d : to_z w64 (of_z w64 docid) ≡ docid = search rules in
-    let own : map cell_in c.split_at.result.0.now ≡ h.own = ap (map cell_in) c.split_at.ensures.front ∙ h.cells_are in
-    let rest = rw c.in_default-2.is at c.in_ok-count.ensures.rest in
-    sizes_wrong content all (map shown_size c.args.sizes.now) have.columns_are (sym (ap (λ o. rest_passes o (are_sizes_of columns h.others)) (rest ∙ (λ i. after_first same_size (own_sizes columns (d i, own i)) old)) ∙ h.is))
+    let before = map shown_document c.loop-document.yielded in
+    let d = shown_document c.in-Some.document in
+    let docid : to_z w64 (of_z w64 d.0) ≡ d.0 = search rules in
+    let adds : AddsDocuments columns (d ∷ []) c.loop-document.index c.add.new.self = subst (λ n. AddsDocuments columns ((n, d.1) ∷ []) c.loop-document.index c.add.new.self) docid c.in_ok-add.ensures in
+    let so_far = c.loop-document.invariant in
+    let more = sym (map-append shown_document c.loop-document.yielded (c.in-Some.document ∷ [])) in (
+      adds.lists ∙ ap (lists_joined_by columns (d ∷ [])) so_far.0 ∙ sym (lists_with-append columns before (d ∷ []) []) ∙ ap (λ ds. lists_joined_by columns ds []) more,
+      adds.sizes ∙ ap (sizes_with columns (d ∷ [])) so_far.1 ∙ sym (sizes_with-append columns before (d ∷ []) []) ∙ ap (λ ds. sizes_with columns ds []) more,
+    )
 
-pub loop-first-preserved : goal.loop-first-preserved
-loop-first-preserved c = λ documents have sorted.
-    let left = c.loop-first.invariant documents have sorted in
-    let here : slice_get c.loop-first.cells.now 0 ≡ Some c.in-Some.first.now = search rules in
+pub returns-then-not-are_sizes : goal.returns-then-not-are_sizes
+returns-then-not-are_sizes c = λ content have same.
     let columns = map column_of c.args.columns.now in
-    let docid = c.in-Some.first.now.docid in
-    let old = map shown_size c.loop-first.sizes.now in
-    let lists = lists_in_terms c.loop-first.lists in
-    let h = head columns (length c.args.columns.now) c.loop-first.cells.now c.in-Some.first.now old _ c.requires here left.documents left.have left.sizes_are in
-    let d : to_z w64 (of_z w64 docid) ≡ docid = search rules in
-    let own : map cell_in c.split_at.result.0.now ≡ h.own = ap (map cell_in) c.split_at.ensures.front ∙ h.cells_are in
-    let document : ℤ × List Cell = (docid, h.own) in
-    let joins = rw c.in-Some-2.is at c.in_ok-count.ensures in
-    let size_rest = joins.rest ∙ (λ i. after_first same_size (own_sizes columns (d i, own i)) old) in
-    let are : left.before ++ document ∷ h.others ≡ documents = ap (λ ds. left.before ++ ds) (sym h.are) ∙ left.all_are in
-    let grown : CanJoin docid lists → lists_in_terms c.add_document.new.lists ≡ lists_with columns (document ∷ []) lists =
-    λ can. joins.lists (subst (λ n. CanJoin n lists) (sym d) can) ∙ (λ i. lists_with columns ((d i, own i) ∷ []) lists) in
-    record {
-      before = left.before ++ document ∷ [];
-      documents = h.others;
-      all_are = append_assoc left.before (document ∷ []) h.others ∙ are;
-      have = record { each = h.have.each; are = ap (map shown_row) c.split_at.ensures.back ∙ h.have.are };
-      sizes_are = ap (λ rows. are_sizes_of columns h.others (map shown_size rows)) c.split_at-in-Some.ensures.back ∙ ap (λ o. rest_passes o (are_sizes_of columns h.others)) size_rest ∙ h.is;
-      lists_are = one_more columns left.before document h.others documents lists _ are sorted left.lists_are grown;
-    }
-
-pub returns-then-not-is_empty : goal.returns-then-not-is_empty
-returns-then-not-is_empty c = λ content have.
-    let all = map column_of c.args.columns.now in
-    let cells = have_cells all (length c.args.columns.now) (map shown_row c.args.cells.now) content (length-map c.args.columns.now column_of) have in
-    let left = c.loop-first.invariant content.documents cells have.is_content.rising in
-    let sizes = c.loop-first.sizes.now in
-    let none : slice_get c.loop-first.cells.now 0 ≡ None = search rules in
-    let nil = none_left (length c.args.columns.now) c.loop-first.cells.now c.requires none left.documents left.have in
-    sizes_wrong content all (map shown_size c.args.sizes.now) have.columns_are
-    (sym left.sizes_are ∙ ap (λ ds. are_sizes_of all ds (map shown_size sizes)) nil ∙ ap (λ n. n == 0) (length-map sizes shown_size) ∙ sym c.is_empty.ensures ∙ c.if-not-is_empty.true)
+    let all : c.loop-document.yielded ≡ c.in_ok-document-items.document-items.items = sym (map-id c.loop-document.yielded) ∙ (YieldsList-end (YieldsList-from_vec {s = c.into_iter-document-iterator.result} c.in_ok-document-items.document-items.items (search rules) (search rules)) c.loop-document.yielded c.loop-document.document-iterator c.loop-document.yielded_by _ c.next.new.self c.in-None.is c.next.ensures.steps).0 in
+    let sizes = sizes_are content columns (map shown_row c.args.cells.items) (map shown_document c.loop-document.yielded) _ have (ap (map shown_document) all ∙ c.in_ok-document-items.ensures) c.loop-document.invariant.1 in
+    absurd (let no = sym (c.are_sizes.ensures.1 (same ∙ sym sizes)) ∙ c.if-not-are_sizes.true in cc)
 
 pub returns : goal.returns
 returns c = λ content have.
-    let all = map column_of c.args.columns.now in
-    let cells = have_cells all (length c.args.columns.now) (map shown_row c.args.cells.now) content (length-map c.args.columns.now column_of) have in
-    let left = c.loop-first.invariant content.documents cells have.is_content.rising in
-    let sizes = c.loop-first.sizes.now in
-    let none : slice_get c.loop-first.cells.now 0 ≡ None = search rules in
-    let nil = none_left (length c.args.columns.now) c.loop-first.cells.now c.requires none left.documents left.have in
-    let right = sym left.sizes_are ∙ ap (λ ds. are_sizes_of all ds (map shown_size sizes)) nil ∙ ap (λ n. n == 0) (length-map sizes shown_size) ∙ sym c.is_empty.ensures ∙ c.if-not-is_empty.false in
-    let lists = left.lists_are ∙ ap (lists_of all) (sym (append-nil left.before) ∙ ap (λ ds. left.before ++ ds) (sym nil) ∙ left.all_are) in
-    (sizes_right content all (map shown_size c.args.sizes.now) have.columns_are right, c.in_ok-into_lists.ensures ∙ lists ∙ ap (λ cs. lists_of cs content.documents) (sym have.columns_are))
+    let columns = map column_of c.args.columns.now in
+    let rows = map shown_row c.args.cells.items in
+    let documents = map shown_document c.loop-document.yielded in
+    let all : c.loop-document.yielded ≡ c.in_ok-document-items.document-items.items = sym (map-id c.loop-document.yielded) ∙ (YieldsList-end (YieldsList-from_vec {s = c.into_iter-document-iterator.result} c.in_ok-document-items.document-items.items (search rules) (search rules)) c.loop-document.yielded c.loop-document.document-iterator c.loop-document.yielded_by _ c.next.new.self c.in-None.is c.next.ensures.steps).0 in
+    let are = ap (map shown_document) all ∙ c.in_ok-document-items.ensures in (
+      c.are_sizes.ensures.0 c.if-not-are_sizes.false ∙ sizes_are content columns rows documents _ have are c.loop-document.invariant.1,
+      c.in_ok-term_lists.ensures ∙ c.loop-document.invariant.0 ∙ lists_are content columns rows documents have are,
+    )

@@ -1,7 +1,7 @@
 -- the columns that are left are numbered as all are
 use Rattle.std.proofs.Common.{◌≡◌, map, drop}
-use Rattle.ft_documents.specs.Standing.{shown_column, numbered_from}
+use Rattle.ft_documents.specs.Standing.{numbered_column, numbered_from}
 use Rattle.ft_documents.proofs.standing_rows.are_numbered.Given as goal
 
 abbrev pub invariant-loop-place : goal.invariant-loop-place
-invariant-loop-place l = numbered_from l.place (map shown_column (drop l.place l.columns)) ≡ numbered_from 0 (map shown_column l.columns)
+invariant-loop-place l = numbered_from l.place (map numbered_column (drop l.place l.columns)) ≡ numbered_from 0 (map numbered_column l.columns)

@@ -4,7 +4,7 @@ use Rattle.std.specs.Cmp.Lexicographic.{pointwise}
 use Rattle.std.proofs.lemmas.List.{length-map}
 use Rattle.ft_content.specs.Content.{are_columns}
 use Rattle.ft_content.specs.Views.{column_of}
-use Rattle.ft_documents.specs.Standing.{AreDocuments, listed_rows, shown_row, shown_column, numbered_from}
+use Rattle.ft_documents.specs.Standing.{AreDocumentCells, listed_rows, shown_row, numbered_column, numbered_from}
 use Rattle.ft_documents.proofs.StandingContent.{content_of, parts_of, compared}
 use Rattle.ft_documents.proofs.standing_rows.is_content.Goals as goal
 use Rattle.ft_documents.proofs.standing_rows.is_content.Goals.{then-eq, else-eq}
@@ -12,7 +12,7 @@ use Rattle.ft_documents.proofs.standing_rows.is_content.Goals.{then-eq, else-eq}
 pub returns-then-not-are_numbered : goal.returns-then-not-are_numbered
 returns-then-not-are_numbered c = λ are.
     let p = parts_of (string_bytes c.args.table.now.name) (listed_rows c.args.table.now c.args.cells.now) (map column_of c.args.columns.now) are in
-    ((λ no. absurd (let h : false ≡ true = no in cc)), (λ h. sym c.if-not-are_numbered.true ∙ c.are_numbered.ensures ∙ ap (λ cs. numbered_from 0 (map shown_column cs)) c.as_slice.ensures.value ∙ (p h).numbered))
+    ((λ no. absurd (let h : false ≡ true = no in cc)), (λ h. sym c.if-not-are_numbered.true ∙ c.are_numbered.ensures ∙ ap (λ cs. numbered_from 0 (map numbered_column cs)) c.as_slice.ensures.value ∙ (p h).numbered))
 
 pub returns-then-not-branch : goal.returns-then-not-branch
 returns-then-not-branch c = λ are.
@@ -24,11 +24,11 @@ returns c = λ are.
     let p = parts_of (string_bytes c.args.table.now.name) (listed_rows c.args.table.now c.args.cells.now) (map column_of c.args.columns.now) are in
     let long = length-map c.args.columns.now column_of in
     let same = compared c.args.table.now.skipped.items _ c.eq.result (c.eq.ensures ∙ ap (pointwise int_eq c.args.table.now.skipped.items) c.in_ok-skipped.ensures) in
-    let D : ℕ → Type 0 = λ n. AreDocuments n (map shown_row c.args.cells.now) in
+    let D : ℕ → Type 0 = λ n. AreDocumentCells n (map shown_row c.args.cells.now) in
     elim c.if-eq.branch [
       | then-eq w ↦ (
         (λ t. content_of (string_bytes c.args.table.now.name) (listed_rows c.args.table.now c.args.cells.now) (map column_of c.args.columns.now) are (record {
-          numbered = ap (λ cs. numbered_from 0 (map shown_column cs)) (sym c.as_slice.ensures.value) ∙ sym c.are_numbered.ensures ∙ c.if-not-are_numbered.false;
+          numbered = ap (λ cs. numbered_from 0 (map numbered_column cs)) (sym c.as_slice.ensures.value) ∙ sym c.are_numbered.ensures ∙ c.if-not-are_numbered.false;
           columns = ap (λ n. are_columns n (map column_of c.args.columns.now)) (sym c.as_str.ensures.value) ∙ sym c.in_ok-are_columns.ensures ∙ c.if-not-branch.false;
           skipped = same.0 w.if-eq.true;
           documents = subst D (sym long) (w.are_documents.ensures.0 (sym w.result-is ∙ t));

@@ -4,7 +4,7 @@ use Rattle.std.specs.List.{list_any}
 use Rattle.std.specs.Ordering.{int_eq}
 use Rattle.std.proofs.lemmas.List.{map-append, take_more}
 use Rattle.ft_content.specs.Views.{column_of}
-use Rattle.ft_documents.specs.Standing.{shown_column}
+use Rattle.ft_documents.specs.Standing.{numbered_column}
 use Rattle.ft_documents.proofs.StandingContent.{column_in, turned_any}
 use Rattle.ft_documents.proofs.standing_rows.listed_columns.Goals as goal
 
@@ -20,4 +20,4 @@ loop-column-preserved c =
     let more : take (c.loop-column.column-index + 1) items ≡ front ++ item ∷ [] = take_more items c.loop-column.column-index item c.loop-column-test.true ∙ ap (λ x. front ++ x ∷ []) (sym c.column-item.is) in
     ap (map column_of) c.in_ok-push.ensures.items ∙ map-append column_of c.loop-column.columns.items _
     ∙ (λ i. c.loop-column.invariant i ++ (record { name = name i; indexed = indexed i }) ∷ [])
-    ∙ sym (ap (λ xs. map (column_in skipped) (map shown_column xs)) more ∙ ap (map (column_in skipped)) (map-append shown_column front (item ∷ [])) ∙ map-append (column_in skipped) (map shown_column front) (shown_column item ∷ []))
+    ∙ sym (ap (λ xs. map (column_in skipped) (map numbered_column xs)) more ∙ ap (map (column_in skipped)) (map-append numbered_column front (item ∷ [])) ∙ map-append (column_in skipped) (map numbered_column front) (numbered_column item ∷ []))

@@ -1,9 +1,9 @@
 -- the columns so far
 use Rattle.std.proofs.Common.{◌≡◌, map, take}
 use Rattle.ft_content.specs.Views.{column_of}
-use Rattle.ft_documents.specs.Standing.{shown_column}
+use Rattle.ft_documents.specs.Standing.{numbered_column}
 use Rattle.ft_documents.proofs.StandingContent.{column_in}
 use Rattle.ft_documents.proofs.standing_rows.listed_columns.Given as goal
 
 abbrev pub invariant-loop-column : goal.invariant-loop-column
-invariant-loop-column l = map column_of l.columns.items ≡ map (column_in l.table.skipped.items) (map shown_column (take l.column-index l.column-items))
+invariant-loop-column l = map column_of l.columns.items ≡ map (column_in l.table.skipped.items) (map numbered_column (take l.column-index l.column-items))

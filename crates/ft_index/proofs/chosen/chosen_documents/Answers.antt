@@ -20,7 +20,7 @@ use Rattle.ft_content.specs.Answer.{chosen}
 use Rattle.ft_content.specs.Views.{cells_of, filter_of}
 use Rattle.ft_index.specs.DocumentsRead.{HasRows, Looks}
 use Rattle.ft_index.specs.Walked.{IsIndexed}
-use Rattle.ft_documents.specs.Chosen.{ReadsAs, document_at}
+use Rattle.ft_documents.specs.Chosen.{ReadsFilterAs, document_at}
 use Rattle.ft_documents.specs.Matched.{chosen_hits, as_wanted}
 use Rattle.ft_documents.proofs.ChosenLemmas.{chosen_all, chosen_one, of_hits}
 use Rattle.ft_store.specs.Kept.{more_rows}
@@ -84,7 +84,7 @@ returns-in_ok-docids-in-Match-clause-looks g c = record {
       let here = subst (λ (k : ℤ). HasRows g.S.Store k first last content) t rows in
       let at = subst (λ (k : ℤ). IsIndexed g.S.Store k first last content) t indexed in
       let query : Option Tree = option_map {T = Bor _} (λ q. tree_of q.now) c.args.query in
-      let as_read = subst (λ (f : Filter). ReadsAs content (filter_of f) query) c.in-Match.is reads in
+      let as_read = subst (λ (f : Filter). ReadsFilterAs content (filter_of f) query) c.in-Match.is reads in
       let hits : map plain_hit c.in_ok-hits-in-Match.hits.items ≡ map (as_wanted false) (chosen_hits content (Match name text)) =
       c.in_ok-hits-in-Match.ensures.looks.told content name text as_read (index_first g.S.Store first middle last one two tab content at) in
       let ok : c.collect.result ≡ Ok c.in_ok-docids-in-Match.docids = search rules in
@@ -131,7 +131,7 @@ returns-in_ok-docids-in-Match-clause-refused g c = λ name content has reads cle
     let table = string_bytes c.in-Match.name in
     let text = string_bytes c.in-Match.query in
     let query : Option Tree = option_map {T = Bor _} (λ q. tree_of q.now) c.args.query in
-    let as_read = subst (λ (f : Filter). ReadsAs content (filter_of f) query) c.in-Match.is reads in
+    let as_read = subst (λ (f : Filter). ReadsFilterAs content (filter_of f) query) c.in-Match.is reads in
     then_blamed g.S.Store first middle last one.only c.in_ok-hits-in-Match.ensures.looks.live c.documents_under.ensures.looks.only.survives clean (λ middle_clean is_open same.
     let hits = c.in_ok-hits-in-Match.ensures.looks.told content table text as_read (index_in g.S.Store tab c.args.tab t first middle name content has middle_clean is_open) in
     let ok : c.collect.result ≡ Ok c.in_ok-docids-in-Match.docids = search rules in

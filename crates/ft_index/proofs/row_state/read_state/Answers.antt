@@ -8,7 +8,7 @@ use Rattle.ft_content.specs.Views.{column_of}
 use Rattle.ft_content.specs.Index.{index_rows}
 use Rattle.ft_documents.specs.Standing.{AreContent, HaveContent, shown_row, listed_rows}
 use Rattle.ft_documents.specs.Tables.{table_rows, table_index}
-use Rattle.ft_index.proofs.RowStateReads.{looked, looks_then, CellsRead, listed, stands_loose, stands_sound, stands_stale, have_content, have_columns, are_listed, are_named}
+use Rattle.ft_index.proofs.RowStateReads.{looked, looks_then, CellsRead, listed, stands_loose, stands_sound, stands_stale, have_content, are_listed, are_named}
 use Rattle.ft_index.proofs.RowStateReads.{blamed_after}
 use Rattle.ft_index.proofs.row_state.read_state.Goals as goal
 
@@ -28,16 +28,6 @@ returns-then-not-branch-clause-asks g c = record {
   live = search rules;
   cause = search rules;
 }
-
-pub has_right_index-requires : goal.has_right_index-requires
-has_right_index-requires g c =
-    let table = c.args.table.now in
-    let columns = ap (map column_of) c.as_slice.ensures.value ∙ c.in_ok-columns.ensures in
-    let are = (c.in_ok-is_content.ensures columns).0 c.if-not-branch.false in
-    let some = have_columns (string_bytes table.name) (listed_rows table c.as_slice-2.result.now) (map column_of c.as_slice.result.now) columns are in
-    let long = length-map c.as_slice.result.now column_of in
-    let same = ap length (c.as_slice.ensures.value ∙ sym c.as_slice-3.ensures.value) in
-    omega (arith, some, long, same)
 
 pub returns-in_err-has_right_index-clause-asks : goal.returns-in_err-has_right_index-clause-asks
 returns-in_err-has_right_index-clause-asks g c = record {
@@ -60,7 +50,7 @@ returns-then-branch-clause-asks g c = record {
       let columns = ap (map column_of) c.as_slice.ensures.value ∙ c.in_ok-columns.ensures in
       let are = subst (AreContent (string_bytes table.name)) (ap (listed_rows table) c.as_slice-2.ensures.value) ((c.in_ok-is_content.ensures columns).0 c.if-not-branch.false) in
       let have = have_content (string_bytes table.name) (listed_rows table cells) (map column_of c.in_ok-columns.columns.items) c.in_ok-columns.ensures are in
-      let right = c.in_ok-has_right_index.ensures.asks.told are.content clean (subst (λ cs. HaveContent cs (map shown_row c.as_slice-4.result.now) are.content) (ap (map column_of) (sym c.as_slice-3.ensures.value)) (subst (λ rows. HaveContent (map column_of c.in_ok-columns.columns.items) (map shown_row rows) are.content) (sym c.as_slice-4.ensures.value) have)) in
+      let right = c.in_ok-has_right_index.ensures.asks.told are.content clean (subst (λ cs. HaveContent cs (map shown_row cells) are.content) (ap (map column_of) (sym c.as_slice-3.ensures.value)) have) in
       let index : table_index named.0 old ≡ index_rows are.content = sym (λ i. table_index ((to_z-of_z fits ∙ l.id) i) (same i)) ∙ right.0 c.if-branch.true in
       stands_sound named.1 (table_rows named.0 old) (table_index named.0 old) are.content (are_named old named table cells l are) index;
   only = looks_then g.S.Store c.args.store.now c.cells.new.self (record { kept = c.in_ok-cells.ensures.read.kept; survives = c.in_ok-cells.ensures.read.survives }) c.in_ok-cells.ensures.read.live c.has_right_index.new.store c.in_ok-has_right_index.ensures.asks.only;
@@ -81,7 +71,7 @@ returns-clause-asks g c = record {
       let columns = ap (map column_of) c.as_slice.ensures.value ∙ c.in_ok-columns.ensures in
       let are = subst (AreContent (string_bytes table.name)) (ap (listed_rows table) c.as_slice-2.ensures.value) ((c.in_ok-is_content.ensures columns).0 c.if-not-branch.false) in
       let have = have_content (string_bytes table.name) (listed_rows table cells) (map column_of c.in_ok-columns.columns.items) c.in_ok-columns.ensures are in
-      let right = c.in_ok-has_right_index.ensures.asks.told are.content clean (subst (λ cs. HaveContent cs (map shown_row c.as_slice-4.result.now) are.content) (ap (map column_of) (sym c.as_slice-3.ensures.value)) (subst (λ rows. HaveContent (map column_of c.in_ok-columns.columns.items) (map shown_row rows) are.content) (sym c.as_slice-4.ensures.value) have)) in
+      let right = c.in_ok-has_right_index.ensures.asks.told are.content clean (subst (λ cs. HaveContent cs (map shown_row cells) are.content) (ap (map column_of) (sym c.as_slice-3.ensures.value)) have) in
       let index : table_index named.0 old ≢ index_rows are.content = λ is. absurd (let yes = right.1 ((λ i. table_index ((to_z-of_z fits ∙ l.id) i) (same i)) ∙ is) in let no = sym yes ∙ c.if-branch.false in cc) in
       stands_stale named.1 (table_rows named.0 old) (table_index named.0 old) are.content (are_named old named table cells l are) index;
   only = looks_then g.S.Store c.args.store.now c.cells.new.self (record { kept = c.in_ok-cells.ensures.read.kept; survives = c.in_ok-cells.ensures.read.survives }) c.in_ok-cells.ensures.read.live c.has_right_index.new.store c.in_ok-has_right_index.ensures.asks.only;

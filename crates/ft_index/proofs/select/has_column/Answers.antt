@@ -6,11 +6,11 @@ use Rattle.ft_content.specs.declared.command.Item.{Item}
 use Rattle.ft_content.specs.Command as plain
 use Rattle.ft_content.specs.Views.{item_of}
 use Rattle.ft_content.proofs.Lists.{any_of_map}
-use Rattle.ft_index.specs.RowsRead.{is_column}
+use Rattle.ft_index.specs.RowsRead.{reads_document}
 use Rattle.ft_index.proofs.select.has_column.Goals as goal
 
 pub returns : goal.returns
 returns c =
-    let test : plain.Item → Bool = is_column in
+    let test : plain.Item → Bool = reads_document in
     any_from_yields_List (λ (item : Item). test (item_of item)) _ _ _ c.any.ensures.ran (YieldsList-from_slice c.args.items.now cc) (λ x b q k. search (rules, tests))
     ∙ sym (any_of_map test item_of c.args.items.now)

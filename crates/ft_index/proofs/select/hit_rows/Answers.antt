@@ -16,7 +16,7 @@ use Rattle.ft_content.specs.Content.{Content}
 use Rattle.ft_content.specs.Views.{bare_content, cells_of, rows_of, column_of, item_of}
 use Rattle.ft_index.specs.DocumentsRead.{HasRows, Looks}
 use Rattle.ft_documents.specs.Chosen.{cells_at}
-use Rattle.ft_index.specs.RowsRead.{is_column}
+use Rattle.ft_index.specs.RowsRead.{reads_document}
 use Rattle.ft_index.specs.Selected.{hit_cells}
 use Rattle.ft_index.proofs.LookLemmas.{looks_then, rows_first, rows_then}
 use Rattle.ft_index.proofs.SelectRows.{row_unread, found_wide, counted_more}
@@ -59,7 +59,7 @@ loop-hit-preserved g c =
       | then-reads+in_ok-cells w ↦
           let read = w.in_ok-cells.ensures in
           let last : StoreState g.row.S.Denot = w.found_cells.new.store in
-          let has : list_any is_column items ≡ true = sym c.has_column-reads.ensures ∙ w.if-reads.true in
+          let has : list_any reads_document items ≡ true = sym c.has_column-reads.ensures ∙ w.if-reads.true in
           record {
             looks = subst (Looks g.S.Store first) (sym w.store-is) (looks_then g.S.Store first middle last so_far.looks read.looks.only so_far.live);
             live = subst (λ (s : StoreState g.row.S.Denot). HasCleanDisk (shows g.S.Store s) → IsTrue (shows g.S.Store first).is_open → IsTrue (shows g.S.Store s).is_open) (sym w.store-is) (λ clean _. read.looks.live clean);
@@ -73,13 +73,13 @@ loop-hit-preserved g c =
                 let found = read.looks.told content (rows_then g.S.Store first middle last so_far.looks read.looks.only tab content rows) in
                 let width = length content.columns in
                 let wide = found_wide rows.name content (to_z w64 (of_z w64 hit.docid)) (cells_of w.in_ok-cells.cells) rows.is_content found in
-                let many : w.in_ok-cells.cells.len ≡ cond (list_any is_column items) width 0 =
+                let many : w.in_ok-cells.cells.len ≡ cond (list_any reads_document items) width 0 =
                 w.in_ok-cells.cells.ok.0 ∙ sym (length-map w.in_ok-cells.cells.items shown_value) ∙ wide ∙ sym (ap (λ b. cond b width 0) has) in
                 ap (λ (s : StoreState g.row.S.Denot). s.rows_read) w.store-is
-                ∙ counted_more first.rows_read middle.rows_read last.rows_read (cond (list_any is_column items) width 0) k w.in_ok-cells.cells.len many (so_far.counted content (rows_first g.S.Store first middle last so_far.looks read.looks.only tab content rows)) read.counted;
+                ∙ counted_more first.rows_read middle.rows_read last.rows_read (cond (list_any reads_document items) width 0) k w.in_ok-cells.cells.len many (so_far.counted content (rows_first g.S.Store first middle last so_far.looks read.looks.only tab content rows)) read.counted;
           }
       | else-reads w ↦
-          let none : list_any is_column items ≡ false = sym c.has_column-reads.ensures ∙ w.if-reads.false in
+          let none : list_any reads_document items ≡ false = sym c.has_column-reads.ensures ∙ w.if-reads.false in
           record {
             looks = subst (Looks g.S.Store first) (sym w.store-is) so_far.looks;
             live = subst (λ (s : StoreState g.row.S.Denot). HasCleanDisk (shows g.S.Store s) → IsTrue (shows g.S.Store first).is_open → IsTrue (shows g.S.Store s).is_open) (sym w.store-is) so_far.live;
@@ -87,7 +87,7 @@ loop-hit-preserved g c =
                 added content (so_far.found content (subst (λ (s : StoreState g.row.S.Denot). HasRows g.S.Store tab first s content) w.store-is held)) (row_unread columns items content cells hit none);
             counted = λ content held.
                 let before = so_far.counted content (subst (λ (s : StoreState g.row.S.Denot). HasRows g.S.Store tab first s content) w.store-is held) in
-                let width = cond (list_any is_column items) (length content.columns) 0 in
+                let width = cond (list_any reads_document items) (length content.columns) 0 in
                 let zero : width ≡ 0 = ap (λ b. cond b (length content.columns) 0) none in
                 ap (λ (s : StoreState g.row.S.Denot). s.rows_read) w.store-is
                 ∙ counted_more first.rows_read middle.rows_read middle.rows_read width k 0 (sym zero) before (kept_read first.rows_read middle.rows_read (width * k) before);

@@ -16,7 +16,7 @@ use Rattle.ft_index.proofs.LookLemmas.{no_look}
 use Rattle.ft_index.proofs.SelectAnswers.{names_bare, select_unfit, select_undone, select_done, select_counts}
 use Rattle.std.proofs.Common.{refl}
 use Rattle.ft_store.specs.Kept.{value_in}
-use Rattle.ft_documents.specs.Chosen.{ReadsAs}
+use Rattle.ft_documents.specs.Chosen.{ReadsFilterAs}
 use Rattle.ft_documents.proofs.BareLemmas.{reads_bare}
 use Rattle.ft_index.proofs.Blaming.{over_sound, has_at}
 use Rattle.ft_index.proofs.select.select_from.Goals as goal
@@ -106,4 +106,4 @@ returns-in_err-rows-clause-refused g c = λ contents held clean told.
     let query_is : option_map {T = Bor _} (λ q. tree_of q.now) c.as_ref.result ≡ query = passed tree_of c.as_ref.result c.in_ok-query.query c.as_ref.ensures.value in
     let reads = reads_bare over.content info.columns.items over.columns_are f query c.in_ok-query.ensures.query in
     let fits : FitsSigned w64 info.id = search rules in
-    c.selected_rows.ensures.refused (string_bytes info.name) over.content (has_at refl (sym (to_z-of_z fits)) over.has) (subst (ReadsAs over.content f) (sym query_is) reads) clean (search rules)
+    c.selected_rows.ensures.refused (string_bytes info.name) over.content (has_at refl (sym (to_z-of_z fits)) over.has) (subst (ReadsFilterAs over.content f) (sym query_is) reads) clean (search rules)

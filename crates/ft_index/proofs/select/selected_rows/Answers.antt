@@ -23,7 +23,7 @@ use Rattle.ft_documents.specs.declared.documents.Document.{Document}
 use Rattle.ft_documents.specs.Chosen.{document_at}
 use Rattle.ft_documents.specs.Matched.{chosen_hits, as_wanted}
 use Rattle.ft_index.specs.DocumentsRead.{HasRows, Looks}
-use Rattle.ft_index.specs.RowsRead.{is_column, rows_asked}
+use Rattle.ft_index.specs.RowsRead.{reads_document, rows_asked}
 use Rattle.ft_index.specs.Selected.{IsAsked, IsOf}
 use Rattle.ft_index.specs.Walked.{IsIndexed}
 use Rattle.ft_index.proofs.LookLemmas.{rows_first, rows_then, index_first}
@@ -32,7 +32,7 @@ use Rattle.ft_index.proofs.SelectRows.{hit_rows, hits_answered, as_many, counted
 use Rattle.ft_content.proofs.AnswerLemmas.{cut_of_map}
 use Rattle.ft_index.proofs.RowCounts.{asked_count, asked_all, asked_whole}
 use Rattle.ft_index.specs.Refused.{AreThere}
-use Rattle.ft_documents.specs.Chosen.{ReadsAs}
+use Rattle.ft_documents.specs.Chosen.{ReadsFilterAs}
 use Rattle.ft_content.specs.declared.command.Filter.{Filter}
 use Rattle.ft_index.proofs.Blaming.{then_blamed, has_at, rows_in, index_in, hits_there, docids_there, bare_docids}
 use Rattle.ft_index.proofs.select.selected_rows.Goals as goal
@@ -110,7 +110,7 @@ returns-in_ok-hits-in-Match-clause-counted g c = on_ok_from c.hit_rows.result _ 
     hits_answered select.limit c.most_hits-most.result select.offset c.in_ok-hits-in-Match.hits.items c.cut-answered.result.now all
     (c.cut-answered.ensures ∙ ap (λ (hs : List Hit). cut select.limit select.offset hs) c.as_slice.ensures.value) hits (c.most_hits-most.ensures.enough all) in
     let many = as_many here.name content f columns items select.limit select.offset here.is_content asked.columns c.any_offsets.result c.any_offsets.ensures c.cut-answered.result.now answered in
-    let width : ℕ = cond (list_any is_column items) (length content.columns) 0 in
+    let width : ℕ = cond (list_any reads_document items) (length content.columns) 0 in
     counted_both first.rows_read middle.rows_read last.rows_read _ (width * length c.cut-answered.result.now) (c.in_ok-hits-in-Match.ensures.counted content (string_bytes c.in-Match.name) (string_bytes c.in-Match.query) asked.reads before)
     (counted content (rows_then g.S.Store first middle last one two tab content here))
     ∙ ap (λ (n : ℕ). min (first.rows_read + n) (2 ^ 64 - 1)) (asked_items content items (string_bytes c.in-Match.name) (string_bytes c.in-Match.query) select.limit select.offset (length c.cut-answered.result.now) many
@@ -190,8 +190,8 @@ returns-in_ok-hits-in-All-clause-counted g c = on_ok_from c.hit_rows-in-All.resu
     let are : map plain_hit hits ≡ map bare docids = ap (map plain_hit) c.as_slice-in-All-2.ensures.value ∙ c.in_ok-hits-in-All.ensures ∙ ap (map bare) c.as_slice-in-All.ensures.value in
     let many : length hits ≡ length answered =
     sym (length-map hits plain_hit) ∙ ap length are ∙ length-map docids bare ∙ ap length (c.in_ok-docids-in-All.ensures.looks.told content before ∙ cut_of_map docid select.limit select.offset content.documents) ∙ length-map answered docid in
-    let by_docid : (is_some select.limit || not (list_any is_column items)) ≡ true = search rules in
-    let width : ℕ = cond (list_any is_column items) (length content.columns) 0 in
+    let by_docid : (is_some select.limit || not (list_any reads_document items)) ≡ true = search rules in
+    let width : ℕ = cond (list_any reads_document items) (length content.columns) 0 in
     counted_both first.rows_read middle.rows_read last.rows_read _ (width * length hits) (c.in_ok-docids-in-All.ensures.counted content before) (counted content (rows_then g.S.Store first middle last one two tab content here))
     ∙ ap (λ (n : ℕ). min (first.rows_read + n) (2 ^ 64 - 1)) (asked_all content items select.limit select.offset (length hits) by_docid many
     ∙ (λ i. rows_asked content (sym items_are i) (sym f_is i) select.limit select.offset))) c.hit_rows-in-All.ensures.counted
@@ -206,7 +206,7 @@ returns-in_ok-document_rows-in-All-2-clause-counted g c content as_asked =
     let items_are : items_of select.items ≡ Listed items = ap items_of c.in-List.is ∙ ap (λ (l : List Item). Listed (map item_of l)) (sym c.as_slice-items.ensures.value) in
     let asked = asked_as g.S.Store c.args.tab (map column_of c.args.columns.now) _ _ _ _ _ first last content items_are refl as_asked in
     let plainly : is_match f ≡ false = search rules in
-    let whole : f ≡ All → (is_some select.limit || not (list_any is_column items)) ≡ false = search rules in
+    let whole : f ≡ All → (is_some select.limit || not (list_any reads_document items)) ≡ false = search rules in
     c.in_ok-documents-in-All-2.ensures.counted content (subst (λ (k : ℤ). HasRows g.S.Store k first last content) (sym (to_z-of_z c.ranges.tab)) asked.held.rows) plainly
     ∙ ap (λ (n : ℕ). min (first.rows_read + n) (2 ^ 64 - 1)) (asked_whole content items f select.limit select.offset plainly whole
     ∙ (λ i. rows_asked content (sym items_are i) f select.limit select.offset))
@@ -220,7 +220,7 @@ returns-in_ok-hits-in-Match-clause-refused g c = λ name content has reads clean
     let t : tab ≡ c.args.tab = to_z-of_z c.ranges.tab in
     let select = c.args.select.now in
     let f = Match (string_bytes c.in-Match.name) (string_bytes c.in-Match.query) in
-    let as_read = subst (λ (x : Filter). ReadsAs content (filter_of x) (option_map {T = Bor _} (λ q. tree_of q.now) c.args.query)) c.in-Match.is reads in
+    let as_read = subst (λ (x : Filter). ReadsFilterAs content (filter_of x) (option_map {T = Bor _} (λ q. tree_of q.now) c.args.query)) c.in-Match.is reads in
     let all = map (as_wanted c.any_offsets.result) (chosen_hits content f) in
     then_blamed g.S.Store first middle last c.matched.ensures.looks.only c.in_ok-hits-in-Match.ensures.looks.live c.hit_rows.ensures.looks.only.survives clean (λ middle_clean is_open same.
     let hits = c.in_ok-hits-in-Match.ensures.looks.told content (string_bytes c.in-Match.name) (string_bytes c.in-Match.query) as_read (index_in g.S.Store tab c.args.tab t first middle name content has middle_clean is_open) in

@@ -6,7 +6,7 @@ use Rattle.ft_rows.specs.Changes.{shown_change}
 use Rattle.ft_values.specs.declared.fault.Fault.{Fault}
 use Rattle.ft_content.specs.Views.{shown_info, creation_of}
 use Rattle.ft_index.specs.Kept.{PlansFrom}
-use Rattle.ft_index.specs.Planned.{Makes, changes_of, table_change}
+use Rattle.ft_index.specs.Planned.{PlansTable, changes_of, table_change}
 use Rattle.ft_index.proofs.PlanAnswers.{create_refused, create_nothing, create_makes}
 use Rattle.ft_index.proofs.tables.create_changes.Goals as goal
 use Rattle.ft_index.proofs.tables.create_changes.Goals.{in-Some+in_ok-adding+in_ok-push, in_default}
@@ -18,22 +18,22 @@ returns-in_err-made-clause-plans c store contents order held =
     let made : c.made_table.result ≡ Err fault = search rules in
     subst (λ (r : Result (Vec RowChange Global) Fault). PlansFrom contents (creation_of c.args.creation.now) store (changes_of r)) (sym is)
     (create_refused contents c.args.creation.now store (map shown_info c.args.tables.now) fault
-    (subst (Makes contents c.args.creation.now) made (c.made_table.ensures.makes contents held.told)))
+    (subst (PlansTable contents c.args.creation.now) made (c.made_table.ensures.makes contents held.told)))
 
 pub returns-clause-plans : goal.returns-clause-plans
 returns-clause-plans c store contents order held =
     let tables = map shown_info c.args.tables.now in
     let command = creation_of c.args.creation.now in
     let made : c.made_table.result ≡ Ok c.in_ok-made.made = search rules in
-    let makes = subst (Makes contents c.args.creation.now) made (c.made_table.ensures.makes contents held.told) in
+    let makes = subst (PlansTable contents c.args.creation.now) made (c.made_table.ensures.makes contents held.told) in
     elim c.match-made.branch [
       | in-Some+in_ok-adding+in_ok-push w ↦
           let same : map shown_change c.match-made.changes.items ≡ table_change w.in-Some.made ∷ [] = ap (λ (v : Vec RowChange Global). map shown_change v.items) w.changes-is ∙ search rules in
           subst (λ (cs : List Change). PlansFrom contents command store (Ok cs)) (sym same)
-          (create_makes contents c.args.creation.now store tables w.in-Some.made order held (subst (λ o. Makes contents c.args.creation.now (Ok o)) w.in-Some.is makes))
+          (create_makes contents c.args.creation.now store tables w.in-Some.made order held (subst (λ o. PlansTable contents c.args.creation.now (Ok o)) w.in-Some.is makes))
       | in_default w ↦
           let none : c.in_ok-made.made ≡ None = search rules in
           let same : map shown_change c.match-made.changes.items ≡ [] = ap (λ (v : Vec RowChange Global). map shown_change v.items) w.changes-is ∙ ap (map shown_change) c.new-changes.ensures.items in
           subst (λ (cs : List Change). PlansFrom contents command store (Ok cs)) (sym same)
-          (create_nothing contents c.args.creation.now store tables held (subst (λ o. Makes contents c.args.creation.now (Ok o)) none makes))
+          (create_nothing contents c.args.creation.now store tables held (subst (λ o. PlansTable contents c.args.creation.now (Ok o)) none makes))
     ]

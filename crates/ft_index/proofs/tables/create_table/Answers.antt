@@ -8,7 +8,7 @@ use Rattle.ft_content.specs.Command as plain
 use Rattle.ft_content.specs.Views.{shown_info, creation_of, answer_of}
 use Rattle.ft_index.specs.Kept.{FullText, Executes, table_info}
 use Rattle.ft_content.specs.Deserved.{Contents}
-use Rattle.ft_index.specs.Planned.{Makes, table_change}
+use Rattle.ft_index.specs.Planned.{PlansTable, table_change}
 use Rattle.ft_documents.specs.Found.{with_info}
 use Rattle.ft_values.specs.declared.fault.Fault.TheVariants as faults
 use Rattle.ft_index.specs.Changed.{Changed, with_tables}
@@ -35,7 +35,7 @@ returns-in_err-made-clause-does g c = record {
       let old = with_tables c.args.store.now (map shown_info c.args.tables.now.items) in
       subst (λ (a : Result Reply Fault). Executes g.S.Store old (creation_of c.args.creation.now) (answer_of a) old) (sym is)
       (create_refused g.S.Store c.args.creation.now old fault
-      (λ contents told. subst (Makes contents c.args.creation.now) made (c.made_table.ensures.makes contents (ap (map shown_info) c.as_slice.ensures.value ∙ told))));
+      (λ contents told. subst (PlansTable contents c.args.creation.now) made (c.made_table.ensures.makes contents (ap (map shown_info) c.as_slice.ensures.value ∙ told))));
   crash = search rules;
   live = search rules;
 }
@@ -58,9 +58,9 @@ returns-in_err-add_table-clause-does g c = record {
       let tables = map shown_info c.args.tables.now.items in
       let command = creation_of c.args.creation.now in
       let made : c.made_table.result ≡ Ok c.in_ok-made.made = search rules in
-      let makes : (contents : Contents) → tables ≡ map table_info contents → Makes contents c.args.creation.now (Ok (Some c.in-Some.made)) =
-      λ contents told. subst (λ o. Makes contents c.args.creation.now (Ok o)) c.in-Some.is
-      (subst (Makes contents c.args.creation.now) made (c.made_table.ensures.makes contents (ap (map shown_info) c.as_slice.ensures.value ∙ told))) in
+      let makes : (contents : Contents) → tables ≡ map table_info contents → PlansTable contents c.args.creation.now (Ok (Some c.in-Some.made)) =
+      λ contents told. subst (λ o. PlansTable contents c.args.creation.now (Ok o)) c.in-Some.is
+      (subst (PlansTable contents c.args.creation.now) made (c.made_table.ensures.makes contents (ap (map shown_info) c.as_slice.ensures.value ∙ told))) in
       crash_changed g.S.Store c.args.store.now c.add_table.new.store tables (map shown_info c.add_table.new.tables.items) command (table_change c.in-Some.made ∷ [])
       (λ up first holds. ((makes first holds.told).0, (made_is_held first c.args.creation.now c.in-Some.made (value_in g.S.Store c.args.store.now) tables (makes first holds.told) c.is_in_order.ensures.order holds).held, makes_table c.in-Some.made (value_in g.S.Store c.args.store.now)))
       c.add_table.ensures.makes.crash;
@@ -73,8 +73,8 @@ returns-clause-does g c = record {
       let tables = map shown_info c.args.tables.now.items in
       let command = creation_of c.args.creation.now in
       let made : c.made_table.result ≡ Ok c.in_ok-made.made = search rules in
-      let makes : (contents : Contents) → tables ≡ map table_info contents → Makes contents c.args.creation.now (Ok c.in_ok-made.made) =
-      λ contents told. subst (Makes contents c.args.creation.now) made (c.made_table.ensures.makes contents (ap (map shown_info) c.as_slice.ensures.value ∙ told)) in
+      let makes : (contents : Contents) → tables ≡ map table_info contents → PlansTable contents c.args.creation.now (Ok c.in_ok-made.made) =
+      λ contents told. subst (PlansTable contents c.args.creation.now) made (c.made_table.ensures.makes contents (ap (map shown_info) c.as_slice.ensures.value ∙ told)) in
       elim c.match-made.branch [
         | in-Some+in_ok-add_table w ↦
             let added : w.add_table.result ≡ Ok tt = search rules in
@@ -82,13 +82,13 @@ returns-clause-does g c = record {
             let told : map shown_info w.add_table.new.tables.items ≡ with_info (shown_info w.in-Some.made) tables = w.add_table.ensures.told ∙ ap (λ (r : Result (Unit {0}) Fault). cond (is_ok r) (with_info (shown_info w.in-Some.made) tables) tables) added in
             let here = subst (λ (k : FullText g.row.S.Denot). Executes g.S.Store (with_tables c.args.store.now tables) command (Ok plain.Done) k) (sym (λ i. with_tables (w.store-is i) ((ap (λ (v : Vec TableInfo Global). map shown_info v.items) w.tables-is ∙ told) i)))
             (create_adds g.S.Store c.args.creation.now c.args.store.now w.add_table.new.store tables w.in-Some.made
-            (λ contents is. subst (λ o. Makes contents c.args.creation.now (Ok o)) w.in-Some.is (makes contents is)) c.is_in_order.ensures.order changed) in
+            (λ contents is. subst (λ o. PlansTable contents c.args.creation.now (Ok o)) w.in-Some.is (makes contents is)) c.is_in_order.ensures.order changed) in
             here
         | in_default w ↦
             let none : c.in_ok-made.made ≡ None = search rules in
             subst (λ (k : FullText g.row.S.Denot). Executes g.S.Store (with_tables c.args.store.now tables) command (Ok plain.Done) k) (sym (λ i. with_tables (w.store-is i) (ap (λ (v : Vec TableInfo Global). map shown_info v.items) w.tables-is i)))
             (create_nothing g.S.Store c.args.creation.now (with_tables c.args.store.now tables)
-            (λ contents is. subst (λ o. Makes contents c.args.creation.now (Ok o)) none (makes contents is)))
+            (λ contents is. subst (λ o. PlansTable contents c.args.creation.now (Ok o)) none (makes contents is)))
       ];
   crash =
       let tables = map shown_info c.args.tables.now.items in
@@ -97,9 +97,9 @@ returns-clause-does g c = record {
       let after = map shown_info c.match-made.tables.items in
       elim c.match-made.branch [
         | in-Some+in_ok-add_table w ↦
-            let makes : (contents : Contents) → tables ≡ map table_info contents → Makes contents c.args.creation.now (Ok (Some w.in-Some.made)) =
-            λ contents told. subst (λ o. Makes contents c.args.creation.now (Ok o)) w.in-Some.is
-            (subst (Makes contents c.args.creation.now) made (c.made_table.ensures.makes contents (ap (map shown_info) c.as_slice.ensures.value ∙ told))) in
+            let makes : (contents : Contents) → tables ≡ map table_info contents → PlansTable contents c.args.creation.now (Ok (Some w.in-Some.made)) =
+            λ contents told. subst (λ o. PlansTable contents c.args.creation.now (Ok o)) w.in-Some.is
+            (subst (PlansTable contents c.args.creation.now) made (c.made_table.ensures.makes contents (ap (map shown_info) c.as_slice.ensures.value ∙ told))) in
             subst (λ (s : StoreState g.row.S.Denot). CommandSurvives g.S.Store (with_tables c.args.store.now tables) command (with_tables s after)) (sym w.store-is)
             (crash_changed g.S.Store c.args.store.now w.add_table.new.store tables after command (table_change w.in-Some.made ∷ [])
             (λ up first holds. ((makes first holds.told).0, (made_is_held first c.args.creation.now w.in-Some.made (value_in g.S.Store c.args.store.now) tables (makes first holds.told) c.is_in_order.ensures.order holds).held, makes_table w.in-Some.made (value_in g.S.Store c.args.store.now)))
@@ -119,9 +119,9 @@ returns-in_err-add_table-clause-refused g c =
     let old = c.args.store.now in
     let tables = map shown_info c.args.tables.now.items in
     let made : c.made_table.result ≡ Ok c.in_ok-made.made = search rules in
-    let makes : (contents : Contents) → tables ≡ map table_info contents → Makes contents c.args.creation.now (Ok (Some c.in-Some.made)) =
-    λ contents told. subst (λ o. Makes contents c.args.creation.now (Ok o)) c.in-Some.is
-    (subst (Makes contents c.args.creation.now) made (c.made_table.ensures.makes contents (ap (map shown_info) c.as_slice.ensures.value ∙ told))) in
+    let makes : (contents : Contents) → tables ≡ map table_info contents → PlansTable contents c.args.creation.now (Ok (Some c.in-Some.made)) =
+    λ contents told. subst (λ o. PlansTable contents c.args.creation.now (Ok o)) c.in-Some.is
+    (subst (PlansTable contents c.args.creation.now) made (c.made_table.ensures.makes contents (ap (map shown_info) c.as_slice.ensures.value ∙ told))) in
     done_blamed g.S.Store old old tables (creation_of c.args.creation.now) (no_look g.S.Store old) (λ clean is_open. is_open) c.add_table.new.store (table_change c.in-Some.made ∷ []) c.add_table.result c.add_table.ensures.makes
     (λ up first holds. ((makes first holds.told).0, (made_is_held first c.args.creation.now c.in-Some.made (value_in g.S.Store old) tables (makes first holds.told) c.is_in_order.ensures.order holds).held, makes_table c.in-Some.made (value_in g.S.Store old)))
     c.from_residual-in_err-add_table.result refl (λ _ _ _. behind _ _ _ _ [] (no_rewrites _ [])) (λ told. search rules) c.add_table.ensures.refused

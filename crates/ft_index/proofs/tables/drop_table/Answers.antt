@@ -19,7 +19,7 @@ use Rattle.ft_index.specs.Planned.{changes_of}
 use Rattle.ft_index.specs.Changed.{Changed, with_tables}
 use Rattle.ft_documents.proofs.FoundLemmas.{placed, unplaced}
 use Rattle.ft_index.proofs.TablePlans.{told_dropped, told_spared, drop_done}
-use Rattle.ft_index.specs.Kept.{Reaches}
+use Rattle.ft_index.specs.Kept.{ReachesStep}
 use Rattle.ft_index.proofs.Executing.{reached, executes_unplanned, executes_refused, executes_planned}
 use Rattle.sqlite.specs.State.{Survives}
 use Rattle.ft_store.specs.Kept.{shows}
@@ -67,7 +67,7 @@ returns-in_err-change_rows-clause-does g c = record {
       let value = value_in g.S.Store c.args.store.now in
       let changes = map shown_change c.in_ok-changes.changes.items in
       let planned : c.drop_changes.result ≡ Ok c.in_ok-changes.changes = search rules in
-      let reaches : (contents : Contents) → AreHeld value tables contents → Reaches contents command value changes =
+      let reaches : (contents : Contents) → AreHeld value tables contents → ReachesStep contents command value changes =
       λ contents held. reached contents command value changes (subst (λ (r : Result (Vec RowChange Global) Fault). PlansFrom contents command value (changes_of r)) planned
       (c.drop_changes.ensures.plans value contents c.is_in_order.ensures.order (subst (λ ts. AreHeld value (map shown_info ts) contents) (sym c.as_slice.ensures.value) held))) in
       crash_changed g.S.Store c.args.store.now c.change_rows.new.store tables tables command changes (λ up. reaches)
@@ -87,7 +87,7 @@ returns-clause-does g c = record {
       let changed : Changed g.S.Store c.args.store.now c.change_rows.new.store changes true =
       subst (λ (cs : List RowChange). Changed g.S.Store c.args.store.now c.change_rows.new.store (map shown_change cs) true) c.as_slice-2.ensures.value
       (subst (λ (r : Result (Unit {0}) Fault). Changed g.S.Store c.args.store.now c.change_rows.new.store (map shown_change c.as_slice-2.result.now) (is_ok r)) done c.change_rows.ensures.makes.changed) in
-      let reaches : (contents : Contents) → AreHeld value tables contents → Reaches contents command value changes =
+      let reaches : (contents : Contents) → AreHeld value tables contents → ReachesStep contents command value changes =
       λ contents held. reached contents command value changes (subst (λ (r : Result (Vec RowChange Global) Fault). PlansFrom contents command value (changes_of r)) planned
       (c.drop_changes.ensures.plans value contents c.is_in_order.ensures.order (subst (λ ts. AreHeld value (map shown_info ts) contents) (sym c.as_slice.ensures.value) held))) in
       elim c.match-table_place.branch [
@@ -119,7 +119,7 @@ returns-clause-does g c = record {
       let value = value_in g.S.Store c.args.store.now in
       let changes = map shown_change c.in_ok-changes.changes.items in
       let planned : c.drop_changes.result ≡ Ok c.in_ok-changes.changes = search rules in
-      let reaches : (contents : Contents) → AreHeld value tables contents → Reaches contents command value changes =
+      let reaches : (contents : Contents) → AreHeld value tables contents → ReachesStep contents command value changes =
       λ contents held. reached contents command value changes (subst (λ (r : Result (Vec RowChange Global) Fault). PlansFrom contents command value (changes_of r)) planned
       (c.drop_changes.ensures.plans value contents c.is_in_order.ensures.order (subst (λ ts. AreHeld value (map shown_info ts) contents) (sym c.as_slice.ensures.value) held))) in
       crash_changed g.S.Store c.args.store.now c.change_rows.new.store tables tables command changes (λ up. reaches)

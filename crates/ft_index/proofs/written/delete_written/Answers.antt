@@ -6,12 +6,12 @@ use Rattle.ft_values.specs.declared.fault.Fault.TheVariants as faults
 use Rattle.ft_values.specs.declared.table.TableInfo.{TableInfo as RustTableInfo}
 use Rattle.ft_content.specs.Deserved.{delete_tests, query_fault}
 use Rattle.ft_content.specs.Views.{bare_content, column_of, filter_of, deletion_of, shown_info}
-use Rattle.ft_documents.specs.Chosen.{ReadsAs}
+use Rattle.ft_documents.specs.Chosen.{ReadsFilterAs}
 use Rattle.ft_documents.specs.Found.{IsSoundNamed, IsUnfit}
 use Rattle.ft_documents.specs.Rewrite.{removal}
 use Rattle.ft_documents.proofs.BareLemmas.{reads_bare}
 use Rattle.ft_index.specs.declared.written.Written.{Written}
-use Rattle.ft_index.specs.Written.{Writes, WritesIn, LeadsTo}
+use Rattle.ft_index.specs.Written.{WritesDocuments, WritesIn, LeadsTo}
 use Rattle.ft_index.proofs.DeleteWrites.{due, made, gone, is_write, leads, tested_due, text_due, none_due}
 use Rattle.ft_index.proofs.Planning.{plans_unfit, plans_failed, writes_do}
 use Rattle.ft_index.proofs.WholeReads.{rows_of, index_of}
@@ -69,7 +69,7 @@ returns-in_err-query-clause-looks g c = record {
       let columns_are : content.columns ≡ map column_of cols = has.columns_are ∙ ap (map column_of) (sym c.as_slice-columns.ensures.value) in
       let tested : delete_tests c.as_str-2.result.now (bare_content cols) f ≡ None = search rules in
       let refused : fault ≢ faults.Memory → query_fault (bare_content cols) f ≡ Some fault = search rules in
-      subst (λ n. Writes content (due f n content) (made f content) (gone f content) (Err fault)) c.as_str-2.ensures.value (text_due f content cols columns_are c.as_str-2.result.now fault tested refused));
+      subst (λ n. WritesDocuments content (due f n content) (made f content) (gone f content) (Err fault)) c.as_str-2.ensures.value (text_due f content cols columns_are c.as_str-2.result.now fault tested refused));
   only = search rules;
   live = search rules;
 }
@@ -119,13 +119,13 @@ returns-clause-looks g c = record {
       let columns_are : content.columns ≡ map column_of cols = has.columns_are ∙ ap (map column_of) (sym c.as_slice-columns.ensures.value) in
       let tested : delete_tests c.as_str-2.result.now (bare_content cols) f ≡ None = search rules in
       let fine : query_fault (bare_content cols) f ≡ None = search rules in
-      let reads : ReadsAs (bare_content cols) f (option_map tree_of c.in_ok-query.query) = search rules in
+      let reads : ReadsFilterAs (bare_content cols) f (option_map tree_of c.in_ok-query.query) = search rules in
       let fits : FitsSigned w64 info.id = search rules in
       let tab = to_z w64 (of_z w64 info.id) in
       let rows = rows_of g.S.Store tab info.id (to_z-of_z fits) (string_bytes info.name) (map column_of info.columns.items) c.args.store.now c.chosen_documents.new.store content has in
       let index = index_of g.S.Store tab info.id (to_z-of_z fits) (string_bytes info.name) (map column_of info.columns.items) c.args.store.now c.chosen_documents.new.store content has in
       let shown : option_map (λ q. tree_of q.now) c.as_ref.result ≡ option_map tree_of c.in_ok-query.query = search rules in
-      let here = subst (ReadsAs content f) (sym shown) (reads_bare content cols columns_are f (option_map tree_of c.in_ok-query.query) reads) in
+      let here = subst (ReadsFilterAs content f) (sym shown) (reads_bare content cols columns_are f (option_map tree_of c.in_ok-query.query) reads) in
       let found = c.in_ok-documents.ensures.looks.told content rows index here in (
         subst (λ n. due f n content ≡ None) c.as_str-2.ensures.value (none_due f content cols columns_are c.as_str-2.result.now tested fine),
         subst (LeadsTo content (made f content) (gone f content)) (sym (c.in_ok-rewrites.ensures ∙ ap (map removal) found)) (leads f (string_bytes info.name) content has.has.is_content),
@@ -141,7 +141,7 @@ returns-in_err-documents-clause-refused g c = λ contents held clean told.
     let cols = c.as_slice-columns.result.now in
     let over = over_sound (value_in g.S.Store c.args.store.now) (map shown_info c.args.tables.now) contents c.as_str.result.now (shown_info info) c.is_in_order.ensures.order held c.in_ok-table.ensures in
     let columns_are : over.content.columns ≡ map column_of cols = over.columns_are ∙ ap (map column_of) (sym c.as_slice-columns.ensures.value) in
-    let reads : ReadsAs (bare_content cols) f (option_map tree_of c.in_ok-query.query) = search rules in
+    let reads : ReadsFilterAs (bare_content cols) f (option_map tree_of c.in_ok-query.query) = search rules in
     let shown : option_map (λ q. tree_of q.now) c.as_ref.result ≡ option_map tree_of c.in_ok-query.query = search rules in
     let fits : FitsSigned w64 info.id = search rules in
-    c.chosen_documents.ensures.refused (string_bytes info.name) over.content (has_at refl (sym (to_z-of_z fits)) over.has) (subst (ReadsAs over.content f) (sym shown) (reads_bare over.content cols columns_are f (option_map tree_of c.in_ok-query.query) reads)) clean (search rules)
+    c.chosen_documents.ensures.refused (string_bytes info.name) over.content (has_at refl (sym (to_z-of_z fits)) over.has) (subst (ReadsFilterAs over.content f) (sym shown) (reads_bare over.content cols columns_are f (option_map tree_of c.in_ok-query.query) reads)) clean (search rules)

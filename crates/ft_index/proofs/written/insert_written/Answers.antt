@@ -16,7 +16,7 @@ use Rattle.ft_content.specs.Command as plain
 use Rattle.ft_content.specs.Command.{Command}
 use Rattle.ft_content.specs.declared.command.Insertion.{Insertion}
 use Rattle.ft_content.specs.Content.{Content, repeats_name, content_rows}
-use Rattle.ft_content.specs.Deserved.{insert_rows, listed_columns}
+use Rattle.ft_content.specs.Deserved.{inserted_rows, listed_columns}
 use Rattle.ft_content.specs.Views.{TableInfo, bare_content, cells_of, column_of, last_docid, insertion_of, names_in, shown_info}
 use Rattle.ft_documents.specs.Found.{IsSoundNamed, IsUnfit}
 use Rattle.ft_documents.specs.Inserted.{AreKnown, Inserts}
@@ -26,7 +26,7 @@ use Rattle.ft_documents.proofs.InsertDue.{insert_repeats}
 use Rattle.ft_documents.proofs.InsertRows.{known_from, new_are_inserts}
 use Rattle.ft_documents.proofs.ReadRows.{last_read}
 use Rattle.ft_index.specs.declared.written.Written.{Written}
-use Rattle.ft_index.specs.Written.{HasAll, Writes, PlansTo, WritesIn}
+use Rattle.ft_index.specs.Written.{HasAll, WritesDocuments, PlansTo, WritesIn}
 use Rattle.ft_index.proofs.InsertWrites.{due, made, news, is_write, tested_writes, tests_are, rows_are, writes}
 use Rattle.ft_index.proofs.Pinging.{outside_of}
 use Rattle.ft_index.proofs.Planning.{plans_unfit, plans_failed, writes_do}
@@ -83,7 +83,7 @@ returns-in_err-table-clause-looks g c = record {
 fails : {S : Type 0} (g : Ghosts S) (w : Insertion) (listed : Option (Bor (List (String Global)))) (none : Bor (List (String Global))) (rows : List (Vec Value Global)) (info : RustTableInfo) (tables : List TableInfo) (old new : StoreState S) → AreInOrder (value_in g old) →
     option_map (λ (r : Bor (List (String Global))). r.now) listed ≡ option_map (λ (v : Vec (String Global) Global). v.items) w.columns → rows ≡ w.rows.items → none.now ≡ [] → repeats_name (map string_bytes (unwrap_or listed none).now) ≡ false →
     (text : List ℕ) → text ≡ string_bytes w.table → IsSoundNamed tables text (shown_info info) → (fault : Fault) (found : Result Written Fault) → found ≡ Err fault →
-    ((content : Content) → HasAll g info.id (string_bytes info.name) (map column_of info.columns.items) old new content → Writes content (due (option_map (λ (r : Bor (List (String Global))). map string_bytes r.now) listed) (map cells_of rows) content) (made (option_map (λ (r : Bor (List (String Global))). map string_bytes r.now) listed) (map cells_of rows) content) (news (option_map (λ (r : Bor (List (String Global))). map string_bytes r.now) listed) (map cells_of rows) content) (Err fault)) →
+    ((content : Content) → HasAll g info.id (string_bytes info.name) (map column_of info.columns.items) old new content → WritesDocuments content (due (option_map (λ (r : Bor (List (String Global))). map string_bytes r.now) listed) (map cells_of rows) content) (made (option_map (λ (r : Bor (List (String Global))). map string_bytes r.now) listed) (map cells_of rows) content) (news (option_map (λ (r : Bor (List (String Global))). map string_bytes r.now) listed) (map cells_of rows) content) (Err fault)) →
     WritesIn g tables old new (insertion_of w) found
 fails g w listed none rows info tables old new order same are is_none apart text is named fault found failed writes =
     let columns = option_map (λ (r : Bor (List (String Global))). map string_bytes r.now) listed in
@@ -164,7 +164,7 @@ returns-in_err-new-clause-looks g c = record {
       let values = map (zip names) rows in
       let tested = tests_are columns rows content cols names None columns_are those (search rules) in
       let known = known_in g (goal.at.returns-in_err-new-clause-looks g c).After-made_documents content has in
-      let made_of : Inserts content.documents (insert_rows (map column_of cols) values content.documents) (Err fault) =
+      let made_of : Inserts content.documents (inserted_rows (map column_of cols) values content.documents) (Err fault) =
       elim (c.in_err-new.ensures content.documents has.has.is_content.rising known.0 known.1) [ inl memory ↦ inl (inr memory) | inr failed ↦ inr failed ] in
       writes columns rows (string_bytes info.name) content (Err fault) has.has.is_content tested (rows_are columns rows content cols names (Err fault) columns_are those made_of));
   only = search rules;
@@ -203,7 +203,7 @@ returns-clause-looks g c = record {
       let tested = tests_are columns rows content cols names None columns_are those (search rules) in
       let known = known_in g (goal.at.returns-clause-looks g c).After-made_documents content has in
       let new = c.in_ok-new.ensures content.documents has.has.is_content.rising known.0 known.1 in
-      let made_of = new_are_inserts content.documents c.in_ok-new.new (map shown_rewrite rewrites.items) (insert_rows (map column_of cols) values content.documents) c.in_ok-rewrites.ensures new.0 new.1 in
+      let made_of = new_are_inserts content.documents c.in_ok-new.new (map shown_rewrite rewrites.items) (inserted_rows (map column_of cols) values content.documents) c.in_ok-rewrites.ensures new.0 new.1 in
       writes columns rows (string_bytes info.name) content (Ok rewrites) has.has.is_content tested (rows_are columns rows content cols names (Ok rewrites) columns_are those made_of)));
   only = search rules;
   live = search rules;

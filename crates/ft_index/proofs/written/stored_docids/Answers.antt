@@ -9,7 +9,7 @@ use Rattle.ft_values.specs.Cells.{shown_value}
 use Rattle.ft_store.specs.Kept.{shows, value_in}
 use Rattle.ft_store.specs.Rows.{value_of}
 use Rattle.ft_store.proofs.ChainLemmas.{kept_then, reads_then}
-use Rattle.ft_content.specs.Deserved.{docids_in}
+use Rattle.ft_content.specs.Deserved.{docids_named}
 use Rattle.ft_content.specs.Views.{cells_of}
 use Rattle.ft_documents.specs.Tables.{table_rows}
 use Rattle.ft_index.specs.DocumentsRead.{HasRows}
@@ -35,8 +35,8 @@ loop-row-preserved g c live =
           let before = so_far.2 content (record { clean = clean; is_open = is_open; name = rows.name; is_content = rows.is_content; rows = rows.rows }) in
           let here = read.found content (record { clean = rows.clean; is_open = rows.is_open; name = rows.name; is_content = rows.is_content; rows = ap (table_rows (to_z w64 (of_z w64 c.args.tab))) same ∙ rows.rows }) in
           let names = map (λ n. n.now) c.args.names.now in
-          let test : Vec Value Global → Bool = λ row. has_given content.documents (slice_get (docids_in (zip names (cells_of row))) 0) in
-          let given = here ∙ ap (has_given content.documents) (c.row_docid-given.ensures ∙ ap (λ l. slice_get (docids_in (zip names (map shown_value l))) 0) c.as_slice.ensures.value) in
+          let test : Vec Value Global → Bool = λ row. has_given content.documents (slice_get (docids_named (zip names (cells_of row))) 0) in
+          let given = here ∙ ap (has_given content.documents) (c.row_docid-given.ensures ∙ ap (λ l. slice_get (docids_named (zip names (map shown_value l))) 0) c.as_slice.ensures.value) in
           let more = take_more c.args.rows.now c.loop-row.row-index c.row-item.result c.loop-row-test.true ∙ ap (λ row. take c.loop-row.row-index c.args.rows.now ++ row ∷ []) (sym c.row-item.is) in
           c.in_ok-push.ensures.items ∙ (λ i. before i ++ given i ∷ []) ∙ sym (ap (map test) more ∙ map-append test (take c.loop-row.row-index c.args.rows.now) (c.row-item.result ∷ [])),
     )
@@ -44,6 +44,6 @@ loop-row-preserved g c live =
 pub returns-clause-found : goal.returns-clause-found
 returns-clause-found g c live content rows =
     let names = map (λ n. n.now) c.args.names.now in
-    let test : Vec Value Global → Bool = λ row. has_given content.documents (slice_get (docids_in (zip names (cells_of row))) 0) in
+    let test : Vec Value Global → Bool = λ row. has_given content.documents (slice_get (docids_named (zip names (cells_of row))) 0) in
     (c.loop-row.invariant live).2 content (subst (λ (k : ℤ). HasRows g.S.Store k c.args.store.now c.loop-row.store content) (sym (to_z-of_z c.ranges.tab)) rows)
     ∙ ap (map test) (take_all c.loop-row.row-index c.args.rows.now c.loop-row-test.false)

@@ -17,7 +17,7 @@ use Rattle.ft_content.specs.Content.{Column, Content, Documents, repeats_name}
 use Rattle.ft_content.specs.Command as plain
 use Rattle.ft_content.specs.Command.{Command}
 use Rattle.ft_content.specs.Answer.{chosen}
-use Rattle.ft_content.specs.Deserved.{update_tests, query_fault, moves_fault, docids_in, has_docid}
+use Rattle.ft_content.specs.Deserved.{update_tests, query_fault, moves_fault, docids_named, has_docid}
 use Rattle.ft_content.specs.Views.{TableInfo, bare_content, column_of, set_of, filter_of, modification_of, shown_info}
 use Rattle.ft_content.proofs.ContentLemmas.{update_keeps_content}
 use Rattle.ft_documents.specs.declared.documents.Document.{Document}
@@ -25,11 +25,11 @@ use Rattle.ft_documents.specs.Found.{IsSoundNamed, IsUnfit}
 use Rattle.ft_documents.specs.Gathered.{shown_document}
 use Rattle.ft_documents.specs.Rewrite.{shown_rewrite}
 use Rattle.ft_documents.specs.Updated.{changing, MayMove}
-use Rattle.ft_documents.specs.Chosen.{ReadsAs}
+use Rattle.ft_documents.specs.Chosen.{ReadsFilterAs}
 use Rattle.ft_documents.proofs.BareLemmas.{reads_bare}
 use Rattle.ft_documents.proofs.InsertRows.{given_is}
 use Rattle.ft_index.specs.declared.written.Written.{Written}
-use Rattle.ft_index.specs.Written.{HasAll, Writes, PlansTo, WritesIn}
+use Rattle.ft_index.specs.Written.{HasAll, WritesDocuments, PlansTo, WritesIn}
 use Rattle.ft_index.proofs.LookLemmas.{looks_then, rows_first, rows_then, index_first}
 use Rattle.ft_index.proofs.Planning.{plans_unfit, plans_failed, writes_do}
 use Rattle.ft_index.proofs.WholeReads.{rows_of, index_of}
@@ -73,7 +73,7 @@ returns-in_err-table-clause-looks g c = record {
 -- a fault of the table, or one from outside
 fails : {S : Type 0} (g : Ghosts S) (w : Modification) (sets : List (String Global × Value)) (info : RustTableInfo) (tables : List TableInfo) (old new : StoreState S) → AreInOrder (value_in g old) → sets ≡ w.sets.items → repeats_name (map (λ (s : List ℕ × Cell). s.0) (map set_of sets)) ≡ false →
     (text : List ℕ) → text ≡ string_bytes w.table → IsSoundNamed tables text (shown_info info) → (fault : Fault) (found : Result Written Fault) → found ≡ Err fault →
-    ((content : Content) → HasAll g info.id (string_bytes info.name) (map column_of info.columns.items) old new content → Writes content (due (map set_of sets) (filter_of w.filter) (string_bytes info.name) content) (made (map set_of sets) (filter_of w.filter) content) (touches (map set_of sets) (filter_of w.filter) content) (Err fault)) →
+    ((content : Content) → HasAll g info.id (string_bytes info.name) (map column_of info.columns.items) old new content → WritesDocuments content (due (map set_of sets) (filter_of w.filter) (string_bytes info.name) content) (made (map set_of sets) (filter_of w.filter) content) (touches (map set_of sets) (filter_of w.filter) content) (Err fault)) →
     WritesIn g tables old new (modification_of w) found
 fails g w sets info tables old new order same apart text is named fault found failed writes =
     let shown = map set_of sets in
@@ -107,7 +107,7 @@ returns-in_err-query-clause-looks g c = record {
       let table = c.as_str-2.result.now in
       let tested : update_tests table (bare_content cols) sets f ≡ None = search rules in
       let refused : fault ≢ faults.Memory → query_fault (bare_content cols) f ≡ Some fault = search rules in
-      subst (λ n. Writes content (due sets f n content) (made sets f content) (touches sets f content) (Err fault)) c.as_str-2.ensures.value (text_due sets f content cols columns_are table fault tested refused));
+      subst (λ n. WritesDocuments content (due sets f n content) (made sets f content) (touches sets f content) (Err fault)) c.as_str-2.ensures.value (text_due sets f content cols columns_are table fault tested refused));
   only = search rules;
   live = search rules;
 }
@@ -147,7 +147,7 @@ returns-in-Some-moves_fault-clause-looks g c = record {
       let table = c.as_str-2.result.now in
       let tested : update_tests table (bare_content cols) sets f ≡ None = search rules in
       let fine : query_fault (bare_content cols) f ≡ None = search rules in
-      let reads : ReadsAs (bare_content cols) f (option_map tree_of c.in_ok-query.query) = search rules in
+      let reads : ReadsFilterAs (bare_content cols) f (option_map tree_of c.in_ok-query.query) = search rules in
       let fits : FitsSigned w64 info.id = search rules in
       let same = to_z-of_z fits in
       let tab = to_z w64 (of_z w64 info.id) in
@@ -159,10 +159,10 @@ returns-in-Some-moves_fault-clause-looks g c = record {
       let one = c.in_ok-documents.ensures.looks.only in
       let two = c.has_document.ensures.looks in
       let shown : option_map (λ q. tree_of q.now) c.as_ref.result ≡ option_map tree_of c.in_ok-query.query = search rules in
-      let here = subst (ReadsAs content f) (sym shown) (reads_bare content cols columns_are f (option_map tree_of c.in_ok-query.query) reads) in
+      let here = subst (ReadsFilterAs content f) (sym shown) (reads_bare content cols columns_are f (option_map tree_of c.in_ok-query.query) reads) in
       let documents = c.in_ok-documents.documents.items in
       let found = c.in_ok-documents.ensures.looks.told content (rows_first g.S.Store old mid new one two tab content rows) (index_first g.S.Store old mid new one two tab content index) here in
-      let given : slice_get (docids_in sets) 0 ≡ c.set_docid-given.result = sym c.set_docid-given.ensures in
+      let given : slice_get (docids_named sets) 0 ≡ c.set_docid-given.result = sym c.set_docid-given.ensures in
       let taken = c.in_ok-is_taken.ensures.found content (rows_then g.S.Store old mid new one two tab content rows) in
       let ok : c.collect.result ≡ Ok c.in_ok-docids.docids = search rules in
       let numbers : c.in_ok-docids.docids.items ≡ map (λ (d : Document). d.docid) c.deref.result.now =
@@ -170,9 +170,9 @@ returns-in-Some-moves_fault-clause-looks g c = record {
       (items_from_collect c.collect.result c.collect.ensures.ran (YieldsList-from_map _ (λ (d : Document). d.docid) (YieldsList-from_slice c.deref.result.now cc) c.map.ensures.closure (λ x r q k. search rules))) in
       let listed = docids_shown documents ∙ sym (c.as_slice.ensures.value ∙ numbers ∙ ap (map (λ (d : Document). d.docid)) c.deref.ensures.value) in
       let known = subst (λ (b : Bool). IfSome c.set_docid-given.result (λ docid. has_docid content.documents docid ≡ b)) (sym taken) (given_is content.documents c.set_docid-given.result) in
-      let moved = c.moves_fault.ensures content.documents (map shown_document documents) (docids_in sets) listed given known in
+      let moved = c.moves_fault.ensures content.documents (map shown_document documents) (docids_named sets) listed given known in
       inr (subst (λ n. due sets f n content ≡ Some c.in-Some-moves_fault.fault) c.as_str-2.ensures.value
-      (moves_due sets f content cols columns_are table tested fine ∙ ap (λ ds. moves_fault content.documents ds (docids_in sets)) (sym found) ∙ sym moved ∙ c.in-Some-moves_fault.is)));
+      (moves_due sets f content cols columns_are table tested fine ∙ ap (λ ds. moves_fault content.documents ds (docids_named sets)) (sym found) ∙ sym moved ∙ c.in-Some-moves_fault.is)));
   only = looks_then g.S.Store c.args.store.now c.chosen_documents.new.store c.has_document.new.store c.in_ok-documents.ensures.looks.only c.has_document.ensures.looks c.in_ok-documents.ensures.looks.live;
   live = search rules;
 }
@@ -205,7 +205,7 @@ returns-clause-looks g c = record {
       let table = c.as_str-2.result.now in
       let tested : update_tests table (bare_content cols) sets f ≡ None = search rules in
       let fine : query_fault (bare_content cols) f ≡ None = search rules in
-      let reads : ReadsAs (bare_content cols) f (option_map tree_of c.in_ok-query.query) = search rules in
+      let reads : ReadsFilterAs (bare_content cols) f (option_map tree_of c.in_ok-query.query) = search rules in
       let fits : FitsSigned w64 info.id = search rules in
       let same = to_z-of_z fits in
       let tab = to_z w64 (of_z w64 info.id) in
@@ -217,10 +217,10 @@ returns-clause-looks g c = record {
       let one = c.in_ok-documents.ensures.looks.only in
       let two = c.has_document.ensures.looks in
       let shown : option_map (λ q. tree_of q.now) c.as_ref.result ≡ option_map tree_of c.in_ok-query.query = search rules in
-      let here = subst (ReadsAs content f) (sym shown) (reads_bare content cols columns_are f (option_map tree_of c.in_ok-query.query) reads) in
+      let here = subst (ReadsFilterAs content f) (sym shown) (reads_bare content cols columns_are f (option_map tree_of c.in_ok-query.query) reads) in
       let documents = c.in_ok-documents.documents.items in
       let found = c.in_ok-documents.ensures.looks.told content (rows_first g.S.Store old mid new one two tab content rows) (index_first g.S.Store old mid new one two tab content index) here in
-      let given : slice_get (docids_in sets) 0 ≡ c.set_docid-given.result = sym c.set_docid-given.ensures in
+      let given : slice_get (docids_named sets) 0 ≡ c.set_docid-given.result = sym c.set_docid-given.ensures in
       let taken = c.in_ok-is_taken.ensures.found content (rows_then g.S.Store old mid new one two tab content rows) in
       let ok : c.collect.result ≡ Ok c.in_ok-docids.docids = search rules in
       let numbers : c.in_ok-docids.docids.items ≡ map (λ (d : Document). d.docid) c.deref.result.now =
@@ -228,15 +228,15 @@ returns-clause-looks g c = record {
       (items_from_collect c.collect.result c.collect.ensures.ran (YieldsList-from_map _ (λ (d : Document). d.docid) (YieldsList-from_slice c.deref.result.now cc) c.map.ensures.closure (λ x r q k. search rules))) in
       let listed = docids_shown documents ∙ sym (c.as_slice.ensures.value ∙ numbers ∙ ap (map (λ (d : Document). d.docid)) c.deref.ensures.value) in
       let known = subst (λ (b : Bool). IfSome c.set_docid-given.result (λ docid. has_docid content.documents docid ≡ b)) (sym taken) (given_is content.documents c.set_docid-given.result) in
-      let moved = c.moves_fault.ensures content.documents (map shown_document documents) (docids_in sets) listed given known in
-      let stays : moves_fault content.documents (chosen content f) (docids_in sets) ≡ None = ap (λ ds. moves_fault content.documents ds (docids_in sets)) (sym found) ∙ sym moved ∙ c.in_default-moves_fault.is in
+      let moved = c.moves_fault.ensures content.documents (map shown_document documents) (docids_named sets) listed given known in
+      let stays : moves_fault content.documents (chosen content f) (docids_named sets) ≡ None = ap (λ ds. moves_fault content.documents ds (docids_named sets)) (sym found) ∙ sym moved ∙ c.in_default-moves_fault.is in
       let none : due sets f (string_bytes info.name) content ≡ None = subst (λ n. due sets f n content ≡ None) c.as_str-2.ensures.value (moves_due sets f content cols columns_are table tested fine ∙ stays) in
       let rewrites = map shown_rewrite c.in_ok-rewrites.rewrites.items in
       let moves = subst (λ o. MayMove o (map (changing sets content.columns) (chosen content f)) rewrites) (sym given)
       (subst (λ (ds : Documents). MayMove c.set_docid-given.result (map (changing sets content.columns) ds) rewrites) found
       (subst (λ (cs : List Column). MayMove c.set_docid-given.result (map (changing sets cs) (map shown_document documents)) rewrites) (sym columns_are) c.in_ok-rewrites.ensures)) in (
         none,
-        leads sets f (string_bytes info.name) content (docids_in sets) (chosen content f) rewrites (λ i. chosen content f) has.has.is_content stays (update_keeps_content (string_bytes info.name) content sets f has.has.is_content none) moves,
+        leads sets f (string_bytes info.name) content (docids_named sets) (chosen content f) rewrites (λ i. chosen content f) has.has.is_content stays (update_keeps_content (string_bytes info.name) content sets f has.has.is_content none) moves,
       )));
   only = looks_then g.S.Store c.args.store.now c.chosen_documents.new.store c.has_document.new.store c.in_ok-documents.ensures.looks.only c.has_document.ensures.looks c.in_ok-documents.ensures.looks.live;
   live = search rules;
@@ -249,10 +249,10 @@ returns-in_err-documents-clause-refused g c = λ contents held clean told.
     let cols = c.as_slice-columns.result.now in
     let over = over_sound (value_in g.S.Store c.args.store.now) (map shown_info c.args.tables.now) contents c.as_str.result.now (shown_info info) c.is_in_order.ensures.order held c.in_ok-table.ensures in
     let columns_are : over.content.columns ≡ map column_of cols = over.columns_are ∙ ap (map column_of) (sym c.as_slice-columns.ensures.value) in
-    let reads : ReadsAs (bare_content cols) f (option_map tree_of c.in_ok-query.query) = search rules in
+    let reads : ReadsFilterAs (bare_content cols) f (option_map tree_of c.in_ok-query.query) = search rules in
     let shown : option_map (λ q. tree_of q.now) c.as_ref.result ≡ option_map tree_of c.in_ok-query.query = search rules in
     let fits : FitsSigned w64 info.id = search rules in
-    c.chosen_documents.ensures.refused (string_bytes info.name) over.content (has_at refl (sym (to_z-of_z fits)) over.has) (subst (ReadsAs over.content f) (sym shown) (reads_bare over.content cols columns_are f (option_map tree_of c.in_ok-query.query) reads)) clean (search rules)
+    c.chosen_documents.ensures.refused (string_bytes info.name) over.content (has_at refl (sym (to_z-of_z fits)) over.has) (subst (ReadsFilterAs over.content f) (sym shown) (reads_bare over.content cols columns_are f (option_map tree_of c.in_ok-query.query) reads)) clean (search rules)
 
 pub returns-in-Some-moves_fault-clause-refused : goal.returns-in-Some-moves_fault-clause-refused
 returns-in-Some-moves_fault-clause-refused g c = λ contents held clean told.

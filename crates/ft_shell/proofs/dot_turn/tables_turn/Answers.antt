@@ -8,7 +8,7 @@ use Rattle.ft_statements.specs.Views.{texts_of}
 use Rattle.shell_io.specs.Outcomes.{blames, lacks_memory, says}
 use Rattle.shell_io.specs.OutputViews.{answer_as}
 use Rattle.plain_sql.specs.Listings.{Finds, StopsTrying, tables, unsorted, untried}
-use Rattle.ft_shell.specs.StatementTurns.{table_names}
+use Rattle.ft_shell.specs.StatementTurns.{known_names}
 use Rattle.ft_shell.specs.TablesTurns.{lists, refused}
 use Rattle.ft_shell.proofs.ClassLemmas.{named_as}
 use Rattle.ft_shell.proofs.ImportTurnLemmas.{store_told}
@@ -35,7 +35,7 @@ returns-in_err-names g c =
 pub returns-in_err-write_names : goal.returns-in_err-write_names
 returns-in_err-write_names g c =
     let is : answer_as c.from_residual-in_err-write_names.result ≡ lacks_memory = search rules in
-    let own : info_names c.tables.result.now ≡ table_names c.args.full_text.now = named_as c.tables.result.now c.noted.new.self c.tables.ensures ∙ ap (map (λ (t : TableInfo). t.name)) c.in_ok-noted.ensures.looks.tables in
+    let own : info_names c.tables.result.now ≡ known_names c.args.full_text.now = named_as c.tables.result.now c.noted.new.self c.tables.ensures ∙ ap (map (λ (t : TableInfo). t.name)) c.in_ok-noted.ensures.looks.tables in
     lists (map string_bytes c.in_ok-noted.noted.items) c.in_ok-noted.ensures.looks c.in_ok-noted.ensures.leaves c.in_ok-noted.ensures.names
     (tables (texts_of c.in_ok-found.found) (texts_of c.in_ok-names.names)
     (subst (λ (names : List (String Global)). Finds g.P.Store (map string_bytes names) c.args.plain.now c.found_tables.new.plain (texts_of c.in_ok-found.found)) c.as_slice.ensures.value c.in_ok-found.ensures.found)
@@ -43,8 +43,8 @@ returns-in_err-write_names g c =
 
 pub returns : goal.returns
 returns g c =
-    let is : c.write_names.new.out.items ≡ print.listed (texts_of c.in_ok-names.names) = search rules in
-    let own : info_names c.tables.result.now ≡ table_names c.args.full_text.now = named_as c.tables.result.now c.noted.new.self c.tables.ensures ∙ ap (map (λ (t : TableInfo). t.name)) c.in_ok-noted.ensures.looks.tables in
+    let is : c.write_names.new.out.items ≡ print.names_in_columns (texts_of c.in_ok-names.names) = search rules in
+    let own : info_names c.tables.result.now ≡ known_names c.args.full_text.now = named_as c.tables.result.now c.noted.new.self c.tables.ensures ∙ ap (map (λ (t : TableInfo). t.name)) c.in_ok-noted.ensures.looks.tables in
     lists (map string_bytes c.in_ok-noted.noted.items) c.in_ok-noted.ensures.looks c.in_ok-noted.ensures.leaves c.in_ok-noted.ensures.names
     (tables (texts_of c.in_ok-found.found) (texts_of c.in_ok-names.names)
     (subst (λ (names : List (String Global)). Finds g.P.Store (map string_bytes names) c.args.plain.now c.found_tables.new.plain (texts_of c.in_ok-found.found)) c.as_slice.ensures.value c.in_ok-found.ensures.found)

@@ -7,10 +7,10 @@ use Rattle.ft_statements.specs.Views.{texts_of}
 use Rattle.shell_io.specs.FaultWords.{record_words}
 use Rattle.shell_io.specs.OutputViews.{answer_as}
 use Rattle.shell_io.specs.Records.{kept}
-use Rattle.shell_io.specs.Sources.{Gives, Refuses, fetch_words}
+use Rattle.shell_io.specs.Sources.{GivesFile, Refuses, fetch_words}
 use Rattle.shell_io.specs.Outcomes.{blames, lacks_memory}
 use Rattle.plain_sql.proofs.ImportTurnLemmas.{left_rows}
-use Rattle.ft_shell.specs.ImportTurns.{BytesTurn, DelimitedTurn, IntoNamed, columns_in, fetched, read, unfetched}
+use Rattle.ft_shell.specs.ImportTurns.{BytesTurn, DelimitedTurn, IntoNamed, width_in, fetched, read, unfetched}
 use Rattle.ft_shell.proofs.ImportTurnLemmas.{records_refused}
 use Rattle.ft_shell.proofs.import.import_turn.Goals as goal
 
@@ -30,7 +30,7 @@ returns-in_err-records g c =
     let is : answer ≡ blames (record_words fault) = search rules in (
       (refl, λ i name. c.fetch.ensures.same name i),
       subst (DelimitedTurn g.P.Store g.S.Store (import_as c.args.what.now) c.args.plain.now c.args.plain.now c.args.full_text.now c.args.full_text.now answer (g.F.Source.holds c.args.source.now)) c.in-Some.ensures
-          (fetched c.in_ok-bytes.bytes.items (subst (λ n. Gives (g.F.Source.holds c.args.source.now) n c.in_ok-bytes.bytes.items) c.as_str.ensures.value c.in_ok-bytes.ensures.bytes)
+          (fetched c.in_ok-bytes.bytes.items (subst (λ n. GivesFile (g.F.Source.holds c.args.source.now) n c.in_ok-bytes.bytes.items) c.as_str.ensures.value c.in_ok-bytes.ensures.bytes)
           (subst (λ b. BytesTurn g.P.Store g.S.Store (import_as c.args.what.now) c.args.plain.now c.args.plain.now c.args.full_text.now c.args.full_text.now answer c.in-Some.delimiter b) c.as_slice.ensures.value
           (records_refused g.P.Store g.S.Store (import_as c.args.what.now) c.args.plain.now c.args.full_text.now answer c.in-Some.delimiter c.as_slice.result.now fault c.in_err-records.ensures.bad is))),
     )
@@ -41,7 +41,7 @@ returns-in_err-left g c =
     let is : answer ≡ lacks_memory = search rules in (
       (refl, λ i name. c.fetch.ensures.same name i),
       subst (DelimitedTurn g.P.Store g.S.Store (import_as c.args.what.now) c.args.plain.now c.args.plain.now c.args.full_text.now c.args.full_text.now answer (g.F.Source.holds c.args.source.now)) c.in-Some.ensures
-          (fetched c.in_ok-bytes.bytes.items (subst (λ n. Gives (g.F.Source.holds c.args.source.now) n c.in_ok-bytes.bytes.items) c.as_str.ensures.value c.in_ok-bytes.ensures.bytes)
+          (fetched c.in_ok-bytes.bytes.items (subst (λ n. GivesFile (g.F.Source.holds c.args.source.now) n c.in_ok-bytes.bytes.items) c.as_str.ensures.value c.in_ok-bytes.ensures.bytes)
           (subst (λ b. BytesTurn g.P.Store g.S.Store (import_as c.args.what.now) c.args.plain.now c.args.plain.now c.args.full_text.now c.args.full_text.now answer c.in-Some.delimiter b) c.as_slice.ensures.value
           (read (map texts_of c.in_ok-records.records.items) c.in_ok-records.ensures.records (inr (refl, refl, is))))),
     )
@@ -56,8 +56,8 @@ returns g c =
     left_rows c.args.what.now.skip c.skipped-skip.result c.in_ok-records.records.items c.in_ok-left.left.items (c.skipped-skip.ensures ∙ ap (min (unwrap_or c.args.what.now.skip 0)) count) c.in_ok-left.ensures in (
       (refl, λ i name. c.fetch.ensures.same name i),
       subst (DelimitedTurn g.P.Store g.S.Store what c.args.plain.now c.records_turn.new.plain c.args.full_text.now c.records_turn.new.full_text answer (g.F.Source.holds c.args.source.now)) c.in-Some.ensures
-          (fetched c.in_ok-bytes.bytes.items (subst (λ n. Gives (g.F.Source.holds c.args.source.now) n c.in_ok-bytes.bytes.items) c.as_str.ensures.value c.in_ok-bytes.ensures.bytes)
+          (fetched c.in_ok-bytes.bytes.items (subst (λ n. GivesFile (g.F.Source.holds c.args.source.now) n c.in_ok-bytes.bytes.items) c.as_str.ensures.value c.in_ok-bytes.ensures.bytes)
           (subst (λ b. BytesTurn g.P.Store g.S.Store what c.args.plain.now c.records_turn.new.plain c.args.full_text.now c.records_turn.new.full_text answer c.in-Some.delimiter b) c.as_slice.ensures.value
           (read found c.in_ok-records.ensures.records
-          (inl (subst (λ rows. IntoNamed g.P.Store g.S.Store what c.args.plain.now c.records_turn.new.plain c.args.full_text.now c.records_turn.new.full_text answer rows (columns_in c.args.full_text.now.tables what.table)) rows c.records_turn.ensures))))),
+          (inl (subst (λ rows. IntoNamed g.P.Store g.S.Store what c.args.plain.now c.records_turn.new.plain c.args.full_text.now c.records_turn.new.full_text answer rows (width_in c.args.full_text.now.tables what.table)) rows c.records_turn.ensures))))),
     )

@@ -1,9 +1,9 @@
 -- the test of the tokens is that of their views
 use Rattle.std.proofs.Common.{◌∙◌, sym}
 use Rattle.std.specs.Prelude.{codes}
-use Rattle.ft_statements.specs.Words.{is_keyword}
+use Rattle.ft_statements.specs.Words.{spells}
 use Rattle.ft_statements.proofs.StatementLemmas.{any_seen}
 use Rattle.ft_statements.proofs.plain.seeks.Goals as goal
 
 pub returns : goal.returns
-returns c = c.has.ensures ∙ sym (any_seen (is_keyword (codes "MATCH")) c.args.words.now)
+returns c = c.has.ensures ∙ sym (any_seen (spells (codes "MATCH")) c.args.words.now)

@@ -1,9 +1,9 @@
 -- the rows so far
 use Rattle.std.proofs.Common.{◌≡◌, map}
-use Rattle.shell_text.specs.Print.{value_of}
+use Rattle.shell_text.specs.Print.{value_of_cell}
 use Rattle.ft_content.specs.Views.{cells_of}
 use Rattle.ft_statements.specs.Replies.{cell_value}
 use Rattle.ft_statements.proofs.replies.rows_of.Given as goal
 
 abbrev pub invariant-loop-row : goal.invariant-loop-row
-invariant-loop-row l = map (λ row. map value_of row.items) l.cells.items ≡ map (map cell_value) (map cells_of l.yielded)
+invariant-loop-row l = map (λ row. map value_of_cell row.items) l.cells.items ≡ map (map cell_value) (map cells_of l.yielded)

@@ -2,7 +2,7 @@ use Rattle.std.proofs.Common.{◌≡◌, refl, sym, ap, subst, ◌∙◌, arith,
 use Rattle.sqlite.specs.Held.{state}
 use Rattle.sqlite.specs.State.{HasCleanDisk}
 use Rattle.ft_store.specs.Calls.{Keeps}
-use Rattle.ft_store.specs.Adopted.{TellsAs, Gives, error_cause}
+use Rattle.ft_store.specs.Adopted.{TellsAs, GivesVersion, error_cause}
 use Rattle.std.proofs.lemmas.Result.{IfErr-weaker}
 use Rattle.std.specs.Prelude.{IfErr}
 use Rattle.ft_store.specs.declared.fault.StoreFault.TheVariants as fault
@@ -20,7 +20,7 @@ returns-clause-told g c =
     (λ clean.
     let before : HasCleanDisk mid = omega (arith, c.rollback.ensures.survives.clean, clean) in
     let gives = gives_of (state g.S.Store c.transaction-tx.result.conn.now) mid c.query_all-found.result (c.query_all-found.ensures.ok before) (c.query_all-found.ensures.err before) in
-    (c.query_all-found.new.self.conn.now, subst (λ h. Gives (state g.S.Store h) mid c.query_all-found.result) c.transaction-tx.ensures.begun gives))
+    (c.query_all-found.new.self.conn.now, subst (λ h. GivesVersion (state g.S.Store h) mid c.query_all-found.result) c.transaction-tx.ensures.begun gives))
 
 pub returns-clause-alone : goal.returns-clause-alone
 returns-clause-alone g c =
@@ -35,7 +35,7 @@ returns-clause-alone g c =
           let before : HasCleanDisk mid = omega (arith, c.rollback.ensures.survives.clean, clean) in
           let gives = gives_of (state g.S.Store c.transaction-tx.result.conn.now) mid c.query_all-found.result (c.query_all-found.ensures.ok before) (c.query_all-found.ensures.err before) in
           undone_keeps old (state g.S.Store (record c.args.conn.now { in_transaction = Rattle.std.proofs.Common.true })) mid (state g.S.Store c.rollback.new.self.0) c.query_all-found.result settled (λ o. o) refl refl
-          (subst (λ h. Gives (state g.S.Store h) mid c.query_all-found.result) c.transaction-tx.ensures.begun gives) (c.rollback.ensures.undone clean));
+          (subst (λ h. GivesVersion (state g.S.Store h) mid c.query_all-found.result) c.transaction-tx.ensures.begun gives) (c.rollback.ensures.undone clean));
       mode = search rules;
       survives = search rules;
     }

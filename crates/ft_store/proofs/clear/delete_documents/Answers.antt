@@ -1,18 +1,11 @@
 use Rattle.std.proofs.Common.{to_z-of_z}
 use Rattle.ft_rows.specs.Store.{without_index}
 use Rattle.ft_store.specs.Inside.{without_contents}
-use Rattle.ft_store.proofs.CantLemmas.{grows_then}
-use Rattle.ft_store.proofs.InsideLemmas.{inside_then, blames_then}
+use Rattle.ft_store.proofs.GoneLemmas.{drop_contents}
+use Rattle.ft_store.proofs.InsideLemmas.{drops_then}
 use Rattle.ft_store.proofs.clear.delete_documents.Goals as goal
 
-pub returns-clause-done : goal.returns-clause-done
-returns-clause-done g c =
-    inside_then g.S.Store _ _ _ _ (without_index c.args.tab) (without_contents c.args.tab) (simp (to_z-of_z, c.ranges.tab) at c.in_ok-delete_index.ensures.done) (simp (to_z-of_z, c.ranges.tab) at c.drop_contents.ensures.done)
-
-pub returns-clause-refused : goal.returns-clause-refused
-returns-clause-refused g c =
-    blames_then g.S.Store _ _ _ _ (without_index c.args.tab) (without_contents c.args.tab) (simp (to_z-of_z, c.ranges.tab) at c.in_ok-delete_index.ensures.done) (simp (to_z-of_z, c.ranges.tab) at c.drop_contents.ensures.done) c.drop_contents.ensures.refused
-
-pub returns-clause-grown : goal.returns-clause-grown
-returns-clause-grown g c =
-    grows_then g.S.Store c.args.tx.now.conn c.delete_index.new.tx.conn c.drop_contents.new.tx.conn c.drop_contents.result (without_index c.args.tab) (without_contents c.args.tab) 0 0 (simp (to_z-of_z, c.ranges.tab) at c.in_ok-delete_index.ensures.done) (simp (to_z-of_z, c.ranges.tab) at c.drop_contents.ensures.done) c.in_ok-delete_index.ensures.grown c.drop_contents.ensures.grown
+pub returns : goal.returns
+returns g c =
+    drops_then g.S.Store _ _ _ _ (without_index c.args.tab) (without_contents c.args.tab) (simp (to_z-of_z, c.ranges.tab) at c.in_ok-delete_index.ensures)
+    ((simp (to_z-of_z, c.ranges.tab) at (rw c.to_sql.ensures at c.delete.ensures)) 5 _ (drop_contents g.S.Store c.args.tab))

@@ -15,11 +15,11 @@ returns-clause-done g c = record {
       let old = state g.S.Store c.args.tx.now.conn.now in
       let mid = state g.S.Store c.renew_documents.new.tx.conn.now in
       let new = state g.S.Store c.put_notes.new.tx.conn.now in
-      let clean_mid : HasCleanDisk mid = omega (arith, c.put_notes.ensures.done.stays.survives.clean, clean) in
+      let clean_mid : HasCleanDisk mid = omega (arith, c.put_notes.ensures.changes.done.stays.survives.clean, clean) in
       let one = c.in_ok-renew_documents.ensures.done.steps clean_mid inside (λ o. first_of old.now (store o)) in
       let was = store one.1.was_open in
-      on_ok_weaker c.put_notes.result (λ two. documents_steps c.args._tab old mid new c.args.notes.now was notes one.1 free one.0 two) (c.put_notes.ensures.done.steps clean one.1.mode one.1.is_open (store_documents old.now mid.now was one.0));
-  stays = stays_then g.S.Store IsPlainFault c.args.tx.now.conn c.renew_documents.new.tx.conn c.put_notes.new.tx.conn c.renew_documents.result c.put_notes.result c.renew_documents.ensures.done.stays c.put_notes.ensures.done.stays;
+      on_ok_weaker c.put_notes.result (λ two. documents_steps c.args._tab old mid new c.args.notes.now was notes one.1 free one.0 two) (c.put_notes.ensures.changes.done.steps clean one.1.mode one.1.is_open (store_documents old.now mid.now was one.0));
+  stays = stays_then g.S.Store IsPlainFault c.args.tx.now.conn c.renew_documents.new.tx.conn c.put_notes.new.tx.conn c.renew_documents.result c.put_notes.result c.renew_documents.ensures.done.stays c.put_notes.ensures.changes.done.stays;
 }
 
 pub returns-clause-grown : goal.returns-clause-grown
@@ -27,12 +27,12 @@ returns-clause-grown g c = λ free notes clean inside store.
     let old = state g.S.Store c.args.tx.now.conn.now in
     let mid = state g.S.Store c.renew_documents.new.tx.conn.now in
     let new = state g.S.Store c.put_notes.new.tx.conn.now in
-    let clean_mid : HasCleanDisk mid = omega (arith, c.put_notes.ensures.done.stays.survives.clean, clean) in
+    let clean_mid : HasCleanDisk mid = omega (arith, c.put_notes.ensures.changes.done.stays.survives.clean, clean) in
     let one = c.in_ok-renew_documents.ensures.done.steps clean_mid inside (λ o. first_of old.now (store o)) in
     let was = store one.1.was_open in
     let kept = store_documents old.now mid.now was one.0 in
     on_ok_weaker c.put_notes.result (λ both. documents_grown c.args._tab old.now mid.now c.args.notes.now was notes new.now.trees free one.0 both.0 both.1)
-    (ok_both _ _ c.put_notes.result (c.put_notes.ensures.grown clean one.1.mode one.1.is_open kept) (c.put_notes.ensures.others clean one.1.mode one.1.is_open kept))
+    (ok_both _ _ c.put_notes.result (c.put_notes.ensures.changes.grown clean one.1.mode one.1.is_open kept) (c.put_notes.ensures.others clean one.1.mode one.1.is_open kept))
 
 pub returns-in_err-renew_documents-clause-refused : goal.returns-in_err-renew_documents-clause-refused
 returns-in_err-renew_documents-clause-refused g c = λ free notes clean inside store is.
@@ -43,9 +43,9 @@ returns-clause-refused g c = λ free notes clean inside store is.
     let old = state g.S.Store c.args.tx.now.conn.now in
     let mid = state g.S.Store c.renew_documents.new.tx.conn.now in
     let new = state g.S.Store c.put_notes.new.tx.conn.now in
-    let clean_mid : HasCleanDisk mid = omega (arith, c.put_notes.ensures.done.stays.survives.clean, clean) in
+    let clean_mid : HasCleanDisk mid = omega (arith, c.put_notes.ensures.changes.done.stays.survives.clean, clean) in
     let one = c.in_ok-renew_documents.ensures.done.steps clean_mid inside (λ o. first_of old.now (store o)) in
     let was = store one.1.was_open in
     let kept = store_documents old.now mid.now was one.0 in
-    blamed_then old mid new _ _ clean_mid c.renew_documents.ensures.done.stays.survives c.put_notes.ensures.done.stays.survives
-    (elim (c.put_notes.ensures.refused clean one.1.mode one.1.is_open kept is) [ inl blamed ↦ blamed | inr full ↦ absurd (never_full c.args._tab old.now mid.now c.args.notes.now was notes (mid.now.trees 11) one.0.2.1.1.1.0 full) ])
+    blamed_then old mid new _ _ clean_mid c.renew_documents.ensures.done.stays.survives c.put_notes.ensures.changes.done.stays.survives
+    (elim (c.put_notes.ensures.changes.refused clean one.1.mode one.1.is_open kept is) [ inl blamed ↦ blamed | inr full ↦ absurd (never_full c.args._tab old.now mid.now c.args.notes.now was notes (mid.now.trees 11) one.0.2.1.1.1.0 full) ])

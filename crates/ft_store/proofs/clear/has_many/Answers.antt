@@ -1,7 +1,6 @@
-use Rattle.std.proofs.Common.{rules, pos}
+use Rattle.std.proofs.Common.{rules, pos, [], ◌∷◌, to_z-of_z}
 use Rattle.sqlite.specs.Term.{lit}
 use Rattle.sqlite.specs.declared.types.Value.TheVariants.{Int}
-use Rattle.std.proofs.Common.{[], ◌∷◌, to_z-of_z}
 use Rattle.ft_store.proofs.TextLemmas.{is_param}
 use Rattle.ft_store.proofs.ProbeTexts.{many_lists}
 use Rattle.ft_store.proofs.clear.has_many.Goals as goal

@@ -1,10 +1,9 @@
-use Rattle.std.proofs.Common.{◌≡◌, ◌∙◌, [], ◌∷◌, pos, sym, ap, subst, rules, FitsSigned, w64, to_z-of_z}
+use Rattle.std.proofs.Common.{◌∙◌, [], ◌∷◌, pos, sym, ap, rules, FitsSigned, w64, to_z-of_z}
 use Rattle.std.specs.Prelude.{◌==◌}
 use Rattle.sqlite.specs.Held.{state}
 use Rattle.sqlite.specs.Term.{lit}
-use Rattle.sqlite.specs.State.{Shown}
 use Rattle.sqlite.specs.declared.types.Value.TheVariants.{Int}
-use Rattle.ft_store.specs.Anew.{number_bound, probe_tree, probe_term}
+use Rattle.ft_store.specs.Anew.{IsNear, probe_tree, probe_term}
 use Rattle.ft_store.proofs.FreeLemmas.{empty_rows, free_of}
 use Rattle.ft_store.proofs.clear.is_free.Goals as goal
 
@@ -19,14 +18,14 @@ returns-clause-done g c = record {
       let old = state g.S.Store c.args.tx.now.conn.now in
       let new = state g.S.Store c.look.new.tx.conn.now in
       let fits : FitsSigned w64 c.probe_number-number.result = search rules in
-      let bounded : c.probe_number-number.result ≡ number_bound c.args.at c.args.tab = simp (to_z-of_z, c.ranges.tab) at c.probe_number-number.ensures in
+      let near : IsNear c.args.at c.args.tab c.probe_number-number.result = simp (to_z-of_z, c.ranges.tab) at c.probe_number-number.ensures in
       let text = c.probe_text.result.now in
       let found = c.in_ok-found.found in
       let it = (simp (to_z-of_z, fits) at (rw c.to_sql.ensures at c.in_ok-found.ensures.done.steps)) (probe_tree c.args.at) (probe_term c.args.at ∷ []) (lit (Int (pos 1))) (lit (Int (pos 0))) (c.probe_text.ensures c.requires c.probe_number-number.result) clean inside store in (
         it.0,
         it.1,
         λ free.
-            free_of c.args.at text c.args.tab old new found.items (c.probe_text.ensures c.requires) (store it.1).schema (empty_rows found.items (sym (ap (λ n. n == 0) found.ok.0) ∙ sym c.is_empty.ensures ∙ free)) (subst (λ z. Shown text (Int z ∷ []) old new found.items) bounded it.2),
+            free_of c.args.at text c.args.tab c.probe_number-number.result old new found.items (c.probe_text.ensures c.requires) near (store it.1).schema (empty_rows found.items (sym (ap (λ n. n == 0) found.ok.0) ∙ sym c.is_empty.ensures ∙ free)) it.2,
       );
   stays = record { same_reference = c.look.ensures.done.stays.same_reference; kept = c.look.ensures.done.stays.kept; survives = c.look.ensures.done.stays.survives; fault = search rules };
 }

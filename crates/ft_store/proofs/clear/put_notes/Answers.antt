@@ -1,44 +1,53 @@
-use Rattle.std.proofs.Common.{◌∙◌, length, take, subst, sym, inl, inr, ◌+◌, rules, arith}
-use Rattle.sqlite.specs.State.{HasCleanDisk}
+use Rattle.std.proofs.Common.{rules, length, take, map, sym, subst, refl, Ok, List, ◌+◌, arith}
+use Rattle.std.proofs.lemmas.List.{take_all}
 use Rattle.sqlite.specs.Held.{state}
-use Rattle.sqlite.proofs.StateLemmas.{survives_then}
-use Rattle.ft_store.specs.Puts.{AreGrown}
-use Rattle.ft_store.proofs.BlameLemmas.{blamed_then}
+use Rattle.sqlite.specs.State.{HasCleanDisk}
+use Rattle.sqlite.specs.Order.{Row}
+use Rattle.ft_rows.specs.Store.{name_cmp}
+use Rattle.ft_store.specs.Found.{found_note}
+use Rattle.ft_store.specs.Groups.{put_each}
+use Rattle.ft_store.specs.Changes.{ChangesIfOpen}
 use Rattle.ft_store.proofs.CantLemmas.{take_one, room_left}
-use Rattle.ft_store.proofs.CallLemmas.{keeps_then}
-use Rattle.ft_store.proofs.RiseLemmas.{full_since, full_more, trees_then}
-use Rattle.ft_store.proofs.NoteLemmas.{note_step, rest_then}
+use Rattle.ft_store.proofs.GoneLemmas.{rest_then}
+use Rattle.ft_store.proofs.InsideLemmas.{if_open, went_on, becomes, stops, nothing_done, open_then}
+use Rattle.ft_store.proofs.NoteLemmas.{note_more}
+use Rattle.ft_store.proofs.RiseLemmas.{full_since, full_more}
 use Rattle.ft_store.proofs.clear.put_notes.Goals as goal
+
+pub loop-note-init : goal.loop-note-init
+loop-note-init g c = (nothing_done g.S.Store c.args.tx.now.conn, λ clean inside is_open store. ((λ _. refl), ((λ _. refl), ((λ _. refl), ((λ _. refl), ((λ _. refl), ((λ _. refl), tt)))))))
 
 pub loop-note-preserved : goal.loop-note-preserved
 loop-note-preserved g c =
-    let old = state g.S.Store c.args.tx.now.conn.now in
+    let old = (state g.S.Store c.args.tx.now.conn.now).now.trees in
     let was = state g.S.Store c.loop-note.tx.conn.now in
-    let now = state g.S.Store c.put_again.new.tx.conn.now in
+    let now = (state g.S.Store c.put_again.new.tx.conn.now).now.trees in
     let notes = c.args.notes.now in
     let at = c.loop-note.note-index in (
-      c.put_again.ensures.done.stays.same_reference ∙ c.loop-note.invariant.0,
-      survives_then old was now _ _ _ (λ _ db none. none) (λ _ db none. none) c.loop-note.invariant.1 c.put_again.ensures.done.stays.survives,
-      λ clean. keeps_then old was now (c.loop-note.invariant.2 (omega (arith, c.put_again.ensures.done.stays.survives.clean))) (c.put_again.ensures.done.stays.kept clean),
+      becomes g.S.Store _ _ _ _ _ _ _
+          (open_then g.S.Store _ _ _ (Ok tt) _ _ (length (take at notes)) 1 _ (λ _. ⊥) (λ _. ⊥) (λ _. ⊥) (went_on g.S.Store _ _ _ 1 _ c.in_ok-put_again.ensures.changes) (sym (take_one notes at c.loop-note-test.true)) (λ _ _ none. none) c.loop-note.invariant.0)
+          (λ v i. record v { noted = note_more notes at c.note-item.result c.loop-note-test.true c.note-item.is v.noted i }),
       λ clean inside is_open store.
-          let before = c.loop-note.invariant.3 (omega (arith, c.put_again.ensures.done.stays.survives.clean)) inside is_open store in (
-            note_step old was now notes at c.note-item.result c.loop-note-test.true c.note-item.is before.0 (c.in_ok-put_again.ensures.done.steps clean before.0.shown.mode (λ _. before.0.store)),
-            subst (λ n. AreGrown n old.now.trees now.now.trees) (sym (take_one notes at c.loop-note-test.true))
-                (trees_then (length (take at notes)) 1 old.now.trees was.now.trees now.now.trees before.1 (c.in_ok-put_again.ensures.grown clean before.0.shown.mode (λ _. before.0.store))),
-            rest_then old.now.trees was.now.trees now.now.trees before.2 (c.in_ok-put_again.ensures.others clean before.0.shown.mode (λ _. before.0.store)),
-          ),
+          let clean_was : HasCleanDisk was = omega (arith, c.put_again.ensures.changes.done.stays.survives.clean, clean) in
+          let before = c.loop-note.invariant.0.done.steps clean_was inside is_open store in
+          rest_then 11 old was.now.trees now (c.loop-note.invariant.1 clean_was inside is_open store) (c.in_ok-put_again.ensures.others clean before.shown.mode (λ _. before.store)),
     )
 
-pub returns-in_err-put_again-clause-refused : goal.returns-in_err-put_again-clause-refused
-returns-in_err-put_again-clause-refused g c = λ clean inside is_open store is.
-    let old = state g.S.Store c.args.tx.now.conn.now in
-    let was = state g.S.Store c.loop-note.tx.conn.now in
-    let now = state g.S.Store c.put_again.new.tx.conn.now in
+pub returns-clause-changes : goal.returns-clause-changes
+returns-clause-changes g c =
+    let it = subst (λ (l : List Row). ChangesIfOpen g.S.Store c.args.tx.now.conn c.loop-note.tx.conn (Ok tt) (λ v. record v { noted = put_each name_cmp (map found_note l) v.noted }) (length l) (λ _. ⊥)) (take_all c.loop-note.note-index c.args.notes.now c.loop-note-test.false) c.loop-note.invariant.0 in
+    record { done = it.done; grown = it.grown; refused = λ clean inside is_open store is. absurd (let no = is in cc) }
+
+pub returns-clause-others : goal.returns-clause-others
+returns-clause-others g c = c.loop-note.invariant.1
+
+pub returns-in_err-put_again-clause-changes : goal.returns-in_err-put_again-clause-changes
+returns-in_err-put_again-clause-changes g c =
+    let old = (state g.S.Store c.args.tx.now.conn.now).now.trees in
+    let was = (state g.S.Store c.loop-note.tx.conn.now).now.trees in
     let notes = c.args.notes.now in
     let at = c.loop-note.note-index in
-    let clean_was : HasCleanDisk was = omega (arith, c.put_again.ensures.done.stays.survives.clean, clean) in
-    let before = c.loop-note.invariant.3 clean_was inside is_open store in
-    elim (c.put_again.ensures.refused clean before.0.shown.mode (λ _. before.0.store) (search rules)) [
-      | inl blamed ↦ inl (blamed_then old was now _ _ clean_was c.loop-note.invariant.1 c.put_again.ensures.done.stays.survives blamed)
-      | inr full ↦ inr (full_more (length (take at notes) + 1) (length notes) (old.now.trees 11) (room_left notes at c.loop-note-test.true) (full_since (length (take at notes)) 1 (old.now.trees 11) (was.now.trees 11) before.1.1.1.1.1.0 full))
-    ]
+    let n = length (take at notes) in
+    stops g.S.Store _ _ c.put_again.result c.from_residual.result c.in_err-put_again.field-0.0 _ _ _ _ _ (search rules) (search rules)
+    (open_then g.S.Store _ _ _ c.put_again.result _ _ n 1 (n + 1) (λ _. ⊥) _ _ (if_open g.S.Store _ _ _ _ 1 _ c.put_again.ensures.changes) refl
+    (λ one grown full. full_more (n + 1) (length notes) (old 11) (room_left notes at c.loop-note-test.true) (full_since n 1 (old 11) (was 11) grown.1.1.1.1.0 full)) c.loop-note.invariant.0)

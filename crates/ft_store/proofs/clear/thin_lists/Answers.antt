@@ -5,6 +5,7 @@ use Rattle.sqlite.proofs.StateLemmas.{survives_then}
 use Rattle.ft_store.specs.Anew.{Thins}
 use Rattle.ft_store.proofs.BlameLemmas.{blamed_then}
 use Rattle.ft_store.proofs.CallLemmas.{keeps_then}
+use Rattle.ft_store.proofs.InsideLemmas.{only}
 use Rattle.ft_store.proofs.ThinLemmas.{thins_none, thins_more}
 use Rattle.ft_store.proofs.clear.thin_lists.Goals as goal
 
@@ -43,7 +44,7 @@ returns-in_err-drop_lists_from-clause-refused g c = λ clean inside store is.
     let now = state g.S.Store c.drop_lists_from.new.tx.conn.now in
     let clean_was : HasCleanDisk was = omega (arith, c.drop_lists_from.ensures.done.stays.survives.clean, clean) in
     let before = c.loop-letter.invariant.3 clean_was inside store in
-    blamed_then old was now _ _ clean_was c.loop-letter.invariant.1 c.drop_lists_from.ensures.done.stays.survives (c.drop_lists_from.ensures.refused clean before.inside before.store (search rules))
+    blamed_then old was now _ _ clean_was c.loop-letter.invariant.1 c.drop_lists_from.ensures.done.stays.survives (only g.S.Store _ _ _ _ c.drop_lists_from.ensures clean before.inside before.store (search rules))
 
 pub returns-in_err-drop_lists_from-clause-done : goal.returns-in_err-drop_lists_from-clause-done
 returns-in_err-drop_lists_from-clause-done g c =

@@ -2,7 +2,7 @@ use Rattle.std.proofs.Common.{rules, inl, inr, sym, subst, arith}
 use Rattle.sqlite.specs.Effect.{Database}
 use Rattle.sqlite.specs.Held.{state}
 use Rattle.sqlite.specs.State.{HasCleanDisk}
-use Rattle.ft_store.specs.Calls.{AreNumbered}
+use Rattle.ft_store.specs.Calls.{HaveOwnRowids}
 use Rattle.ft_store.specs.Older.{schema_of}
 use Rattle.ft_store.proofs.BlameLemmas.{blamed_then}
 use Rattle.ft_store.proofs.examine.examine.Goals as goal
@@ -17,5 +17,5 @@ returns-in_err-are_numbered-clause-refused g c = λ clean is.
     let same = (first.kept before (first.live before)).0 in
     elim (c.are_numbered.ensures.refused clean (search rules)) [
       | inl blamed ↦ inl (blamed_then old mid new _ _ before first.survives c.are_numbered.ensures.numbered.read.survives blamed)
-      | inr again ↦ inr (inr (λ all. again (subst (λ (d : Database). AreNumbered (schema_of c.args.layout).tables d.trees) (sym same) all)))
+      | inr again ↦ inr (inr (λ all. again (subst (λ (d : Database). HaveOwnRowids (schema_of c.args.layout).tables d.trees) (sym same) all)))
     ]

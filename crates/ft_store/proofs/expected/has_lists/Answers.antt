@@ -6,7 +6,7 @@ use Rattle.sqlite.specs.Held.{state}
 use Rattle.ft_rows.specs.Terms.{lists_by_terms}
 use Rattle.ft_store.specs.Found.{found_places}
 use Rattle.ft_store.proofs.Texts.{lists_text}
-use Rattle.ft_store.proofs.TextLemmas.{lists_plain}
+use Rattle.ft_store.proofs.TextLemmas.{lists_means}
 use Rattle.ft_store.proofs.AnswerLemmas.{lists_stored_shown, placed}
 use Rattle.ft_store.proofs.ExpectedLemmas.{some_left, at_end, others_at_end}
 use Rattle.ft_store.proofs.AskedLemmas.{lists_blamed}
@@ -14,7 +14,7 @@ use Rattle.ft_store.proofs.expected.has_lists.Goals as goal
 use Rattle.ft_store.proofs.expected.has_lists.Goals.{then-whole, else-whole}
 
 pub gather-requires-clause-asked : goal.gather-requires-clause-asked
-gather-requires-clause-asked g c = record { settled = c.requires.settled; shown = λ clean is_open. subst (λ s. IsPlain (understood s lists_text)) (sym (c.requires.store clean is_open).schema) lists_plain }
+gather-requires-clause-asked g c = record { settled = c.requires.settled; shown = λ clean is_open. subst (λ s. IsPlain (understood s lists_text)) (sym (c.requires.store clean is_open).schema) lists_means.plain }
 
 pub returns-clause-given : goal.returns-clause-given
 returns-clause-given g c = record {

@@ -13,13 +13,13 @@ use Rattle.ft_rows.specs.Shown.{shown_entry, entries_of}
 use Rattle.ft_store.specs.Calls.{AreTold}
 use Rattle.ft_store.proofs.RangeLemmas.{below_255, bound_limit}
 use Rattle.ft_store.proofs.Texts.{prefix_text}
-use Rattle.ft_store.proofs.TextLemmas.{prefix_plain}
+use Rattle.ft_store.proofs.TextLemmas.{prefix_means}
 use Rattle.ft_store.proofs.AnswerLemmas.{prefix_stored_shown, placed}
 use Rattle.ft_store.proofs.AskedLemmas.{prefix_blamed}
 use Rattle.ft_store.proofs.lists.prefix.Goals as goal
 
 pub select_entries-requires : goal.select_entries-requires
-select_entries-requires g c = record { settled = c.requires.settled; shown = λ clean is_open. subst (λ s. IsPlain (understood s prefix_text)) (sym (c.requires.store clean is_open).schema) prefix_plain }
+select_entries-requires g c = record { settled = c.requires.settled; shown = λ clean is_open. subst (λ s. IsPlain (understood s prefix_text)) (sym (c.requires.store clean is_open).schema) prefix_means.plain }
 
 pub after_last-requires : goal.after_last-requires
 after_last-requires g c = below_255 c.as_bytes.result.now c.as_bytes.ensures.utf8

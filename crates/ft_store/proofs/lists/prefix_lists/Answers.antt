@@ -9,14 +9,14 @@ use Rattle.std.proofs.lemmas.Result.{IfOk-weaker}
 use Rattle.ft_rows.specs.Shown.{AreWhole}
 use Rattle.ft_store.proofs.RangeLemmas.{below_255, bound_limit}
 use Rattle.ft_store.proofs.Texts.{bare_prefix_text}
-use Rattle.ft_store.proofs.TextLemmas.{bare_prefix_plain}
+use Rattle.ft_store.proofs.TextLemmas.{bare_prefix_means}
 use Rattle.ft_store.proofs.AnswerLemmas.{bare_prefix_shown}
 use Rattle.ft_store.proofs.EntryLemmas.{whole_bare, bare_whole}
 use Rattle.ft_store.proofs.AskedLemmas.{bare_prefix_blamed}
 use Rattle.ft_store.proofs.lists.prefix_lists.Goals as goal
 
 pub select_lists-requires : goal.select_lists-requires
-select_lists-requires g c = record { settled = c.requires.settled; shown = λ clean is_open. subst (λ s. IsPlain (understood s bare_prefix_text)) (sym (c.requires.store clean is_open).schema) bare_prefix_plain }
+select_lists-requires g c = record { settled = c.requires.settled; shown = λ clean is_open. subst (λ s. IsPlain (understood s bare_prefix_text)) (sym (c.requires.store clean is_open).schema) bare_prefix_means.plain }
 
 pub after_last-requires : goal.after_last-requires
 after_last-requires g c = below_255 c.as_bytes.result.now c.as_bytes.ensures.utf8

@@ -5,14 +5,14 @@ use Rattle.sqlite.specs.Held.{state}
 use Rattle.std.proofs.lemmas.Result.{IfOk-weaker}
 use Rattle.ft_rows.specs.Shown.{AreWhole}
 use Rattle.ft_store.proofs.Texts.{term_text}
-use Rattle.ft_store.proofs.TextLemmas.{term_plain}
+use Rattle.ft_store.proofs.TextLemmas.{term_means}
 use Rattle.ft_store.proofs.AnswerLemmas.{term_shown}
 use Rattle.ft_store.proofs.EntryLemmas.{whole_bare, bare_whole}
 use Rattle.ft_store.proofs.AskedLemmas.{term_blamed}
 use Rattle.ft_store.proofs.lists.term_lists.Goals as goal
 
 pub select_lists-requires : goal.select_lists-requires
-select_lists-requires g c = record { settled = c.requires.settled; shown = λ clean is_open. subst (λ s. IsPlain (understood s term_text)) (sym (c.requires.store clean is_open).schema) term_plain }
+select_lists-requires g c = record { settled = c.requires.settled; shown = λ clean is_open. subst (λ s. IsPlain (understood s term_text)) (sym (c.requires.store clean is_open).schema) term_means.plain }
 
 pub returns-clause-given : goal.returns-clause-given
 returns-clause-given g c = record {

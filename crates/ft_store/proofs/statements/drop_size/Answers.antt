@@ -1,32 +1,6 @@
-use Rattle.std.proofs.Common.{[], ◌∷◌, ℕ, Ok, to_z-of_z}
-use Rattle.std.proofs.lemmas.Result.{on_ok_weaker}
-use Rattle.sqlite.specs.declared.types.Value.TheVariants.{Int}
-use Rattle.sqlite.specs.State.{ExecutesInside}
-use Rattle.sqlite.specs.Held.{state}
-use Rattle.ft_store.proofs.Texts.{drop_size_text}
-use Rattle.ft_store.proofs.GoneLemmas.{drop_size_grown}
-use Rattle.ft_store.proofs.RefusedLemmas.{drop_size_blamed}
-use Rattle.ft_store.proofs.WriteLemmas.{does_drop_size}
+use Rattle.std.proofs.Common.{to_z-of_z}
+use Rattle.ft_store.proofs.GoneLemmas.{drop_size}
 use Rattle.ft_store.proofs.statements.drop_size.Goals as goal
 
-pub returns-clause-done : goal.returns-clause-done
-returns-clause-done g c = record {
-  steps = λ clean inside kept.
-      let old = state g.S.Store c.args.tx.now.conn.now in
-      let new = state g.S.Store c.run.new.tx.conn.now in
-      on_ok_weaker c.run.result (λ (ran : (count : ℕ) × ExecutesInside 0 drop_size_text (Int c.args.tab ∷ Int c.args.docid ∷ Int c.args.column ∷ []) old new (Ok count)). does_drop_size old new (kept ran.1.1.was_open) ran.1.1 c.args.tab c.args.docid c.args.column ran.0 ran.1.0)
-      ((simp (to_z-of_z, c.ranges.tab, c.ranges.docid, c.ranges.column) at (rw (c.to_sql.ensures, c.to_sql-2.ensures, c.to_sql-3.ensures) at c.run.ensures.done.steps)) clean inside);
-  stays = c.run.ensures.done.stays;
-}
-
-pub returns-clause-refused : goal.returns-clause-refused
-returns-clause-refused g c = λ clean inside kept is.
-    let why = (simp (to_z-of_z, c.ranges.tab, c.ranges.docid, c.ranges.column) at (rw (c.to_sql.ensures, c.to_sql-2.ensures, c.to_sql-3.ensures) at c.run.ensures.refused)) clean inside is in
-    drop_size_blamed c.args.tab c.args.docid c.args.column (state g.S.Store c.args.tx.now.conn.now) (state g.S.Store c.run.new.tx.conn.now) kept why
-
-pub returns-clause-grown : goal.returns-clause-grown
-returns-clause-grown g c = λ clean inside kept.
-    let old = state g.S.Store c.args.tx.now.conn.now in
-    let new = state g.S.Store c.run.new.tx.conn.now in
-    on_ok_weaker c.run.result (λ (ran : (count : ℕ) × ExecutesInside 0 drop_size_text (Int c.args.tab ∷ Int c.args.docid ∷ Int c.args.column ∷ []) old new (Ok count)). drop_size_grown c.args.tab c.args.docid c.args.column old new ran.0 (kept ran.1.1.was_open) ran.1.0)
-    ((simp (to_z-of_z, c.ranges.tab, c.ranges.docid, c.ranges.column) at (rw (c.to_sql.ensures, c.to_sql-2.ensures, c.to_sql-3.ensures) at c.run.ensures.done.steps)) clean inside)
+pub returns : goal.returns
+returns g c = (simp (to_z-of_z, c.ranges.tab, c.ranges.docid, c.ranges.column) at (rw (c.to_sql.ensures, c.to_sql-2.ensures, c.to_sql-3.ensures) at c.delete.ensures)) 9 _ (drop_size g.S.Store c.args.tab c.args.docid c.args.column)

@@ -1,68 +1,8 @@
-use Rattle.ft_store.proofs.AddedLemmas.{add_skip_grown, add_skip_why}
-use Rattle.ft_store.proofs.GoneLemmas.{drop_skip_blamed, drop_skip_grown}
-use Rattle.ft_store.proofs.BlameLemmas.{blamed_then}
-use Rattle.ft_store.proofs.InsideLemmas.{stays_then}
-use Rattle.ft_store.proofs.KeyedLemmas.{find-without_key}
-use Rattle.ft_store.proofs.OrderLemmas.{tied_column_keys, column_key_total}
-use Rattle.ft_store.proofs.PutLemmas.{puts_skipped}
-use Rattle.ft_store.proofs.RiseLemmas.{full_since, trees_then}
-use Rattle.ft_store.proofs.Texts.{add_skip_text, drop_skip_text}
-use Rattle.ft_store.proofs.WriteLemmas.{does_add_skip, does_drop_skip}
-use Rattle.ft_store.specs.Calls.{IsPlainFault}
-use Rattle.ft_store.specs.Rows.{value_of}
-use Rattle.ft_rows.specs.Store.{StoreValue, column_key_cmp}
-use Rattle.sqlite.specs.Held.{state}
-use Rattle.sqlite.specs.State.{ExecutesInside, HasCleanDisk}
-use Rattle.sqlite.specs.declared.types.Value.TheVariants.{Int}
-use Rattle.std.proofs.Common.{Ok, [], arith, to_z-of_z, ℕ, ◌∷◌, ◌∙◌, ap, inl, inr, rules}
-use Rattle.std.specs.FinMap.Entries.{find}
-use Rattle.std.proofs.lemmas.Result.{on_ok_weaker}
+use Rattle.std.proofs.Common.{to_z-of_z, arith, inl, inr}
+use Rattle.ft_store.proofs.InsideLemmas.{for_reasons}
+use Rattle.ft_store.proofs.AddedLemmas.{put_skip}
 use Rattle.ft_store.proofs.statements.put_skip.Goals as goal
 
-pub returns-clause-done : goal.returns-clause-done
-returns-clause-done g c = record {
-  steps = λ clean inside kept.
-      let old = state g.S.Store c.args.tx.now.conn.now in
-      let mid = state g.S.Store c.run.new.tx.conn.now in
-      let new = state g.S.Store c.run-2.new.tx.conn.now in
-      let clean_1 : HasCleanDisk mid = omega (arith, c.run-2.ensures.done.stays.survives.clean) in
-      let gone : (count : ℕ) × ExecutesInside 0 drop_skip_text (Int c.args.tab ∷ Int c.args.column ∷ []) old mid (Ok count) = (simp (to_z-of_z, c.ranges.tab, c.ranges.column) at (rw (c.to_sql.ensures, c.to_sql-2.ensures) at c.in_ok-run.ensures.done.steps)) clean_1 inside in
-      let one = does_drop_skip old mid (kept gone.1.1.was_open) gone.1.1 c.args.tab c.args.column gone.0 gone.1.0 in
-      on_ok_weaker c.run-2.result (λ (ran : (count : ℕ) × ExecutesInside 0 add_skip_text (Int c.args.tab ∷ Int c.args.column ∷ []) mid new (Ok count)). puts_skipped old mid new (c.args.tab, c.args.column) tt one (λ free. does_add_skip mid new one.store ran.1.1 c.args.tab c.args.column ran.0 free ran.1.0))
-      ((simp (to_z-of_z, c.ranges.tab, c.ranges.column) at (rw (c.to_sql-3.ensures, c.to_sql-4.ensures) at c.run-2.ensures.done.steps)) clean one.shown.mode);
-  stays = stays_then g.S.Store IsPlainFault c.args.tx.now.conn c.run.new.tx.conn c.run-2.new.tx.conn c.run.result c.run-2.result c.run.ensures.done.stays c.run-2.ensures.done.stays;
-}
-
-pub returns-clause-grown : goal.returns-clause-grown
-returns-clause-grown g c = λ clean inside kept.
-    let old = state g.S.Store c.args.tx.now.conn.now in
-    let mid = state g.S.Store c.run.new.tx.conn.now in
-    let new = state g.S.Store c.run-2.new.tx.conn.now in
-    let clean_1 : HasCleanDisk mid = omega (arith, c.run-2.ensures.done.stays.survives.clean) in
-    let gone : (count : ℕ) × ExecutesInside 0 drop_skip_text (Int c.args.tab ∷ Int c.args.column ∷ []) old mid (Ok count) = (simp (to_z-of_z, c.ranges.tab, c.ranges.column) at (rw (c.to_sql.ensures, c.to_sql-2.ensures) at c.in_ok-run.ensures.done.steps)) clean_1 inside in
-    let store = kept gone.1.1.was_open in
-    let one = does_drop_skip old mid store gone.1.1 c.args.tab c.args.column gone.0 gone.1.0 in
-    on_ok_weaker c.run-2.result (λ (ran : (count : ℕ) × ExecutesInside 0 add_skip_text (Int c.args.tab ∷ Int c.args.column ∷ []) mid new (Ok count)).
-    trees_then 0 1 old.now.trees mid.now.trees new.now.trees (drop_skip_grown c.args.tab c.args.column old mid gone.0 store gone.1.0) (add_skip_grown c.args.tab c.args.column mid new ran.0 one.store ran.1.0))
-    ((simp (to_z-of_z, c.ranges.tab, c.ranges.column) at (rw (c.to_sql-3.ensures, c.to_sql-4.ensures) at c.run-2.ensures.done.steps)) clean one.shown.mode)
-
-pub returns-in_err-run-clause-refused : goal.returns-in_err-run-clause-refused
-returns-in_err-run-clause-refused g c = λ clean inside kept is.
-    let why = (simp (to_z-of_z, c.ranges.tab, c.ranges.column) at (rw (c.to_sql.ensures, c.to_sql-2.ensures) at c.run.ensures.refused)) clean inside (search rules) in
-    inl (drop_skip_blamed c.args.tab c.args.column (state g.S.Store c.args.tx.now.conn.now) (state g.S.Store c.run.new.tx.conn.now) kept why)
-
-pub returns-clause-refused : goal.returns-clause-refused
-returns-clause-refused g c = λ clean inside kept is.
-    let old = state g.S.Store c.args.tx.now.conn.now in
-    let mid = state g.S.Store c.run.new.tx.conn.now in
-    let new = state g.S.Store c.run-2.new.tx.conn.now in
-    let clean_1 : HasCleanDisk mid = omega (arith, c.run-2.ensures.done.stays.survives.clean) in
-    let gone : (count : ℕ) × ExecutesInside 0 drop_skip_text (Int c.args.tab ∷ Int c.args.column ∷ []) old mid (Ok count) = (simp (to_z-of_z, c.ranges.tab, c.ranges.column) at (rw (c.to_sql.ensures, c.to_sql-2.ensures) at c.in_ok-run.ensures.done.steps)) clean_1 inside in
-    let store = kept gone.1.1.was_open in
-    let one = does_drop_skip old mid store gone.1.1 c.args.tab c.args.column gone.0 gone.1.0 in
-    let free = ap (λ (v : StoreValue). find column_key_cmp (c.args.tab, c.args.column) v.skipped) one.is ∙ find-without_key column_key_cmp column_key_total tied_column_keys (c.args.tab, c.args.column) (value_of old.now.trees).skipped in
-    let why = (simp (to_z-of_z, c.ranges.tab, c.ranges.column) at (rw (c.to_sql-3.ensures, c.to_sql-4.ensures) at c.run-2.ensures.refused)) clean one.shown.mode is in
-    elim (add_skip_why c.args.tab c.args.column mid new (λ _. free) (λ _. one.store) why) [
-      | inl blamed ↦ inl (blamed_then old mid new _ _ clean_1 c.run.ensures.done.stays.survives c.run-2.ensures.done.stays.survives blamed)
-      | inr full ↦ inr (full_since 0 1 (old.now.trees 13) (mid.now.trees 13) (drop_skip_grown c.args.tab c.args.column old mid gone.0 store gone.1.0).1.1.1.1.1.0 full)
-    ]
+pub returns : goal.returns
+returns g c =
+    for_reasons g.S.Store _ _ _ _ 1 _ _ ((simp (to_z-of_z, c.ranges.tab, c.ranges.column) at (rw (c.to_sql.ensures, c.to_sql-2.ensures) at c.replace.ensures.changes)) 13 _ 3 0 (put_skip g.S.Store c.args.tab c.args.column)) (λ db why. elim why [ inl full ↦ full | inr big ↦ absurd (omega (arith, big)) ])

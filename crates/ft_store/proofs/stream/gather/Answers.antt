@@ -1,4 +1,4 @@
-use Rattle.std.proofs.Common.{◌≡◌, ◌∙◌, false, not, List, Ok, Some, None, refl, sym, ap, subst, IsTrue, rules}
+use Rattle.std.proofs.Common.{◌≡◌, ◌∙◌, false, not, List, Ok, Some, None, refl, sym, ap, subst, IsTrue, rules, inl, inr, arith, ◌⊎◌}
 use Rattle.sqlite.specs.Order.{Row}
 use Rattle.sqlite.specs.Values.{bound}
 use Rattle.sqlite.specs.State.{HasCleanDisk, Shown, Survives}
@@ -6,7 +6,6 @@ use Rattle.sqlite.specs.Held.{Held, state}
 use Rattle.ft_store.specs.Calls.{Keeps}
 use Rattle.ft_store.proofs.CallLemmas.{refused_keeps, kept_either, commits_nothing}
 use Rattle.ft_store.proofs.StreamLemmas.{begun, one_row, rows_shown, moved_unchanged, moved_survives, stopped_keeps, keeps_unchanged}
-use Rattle.std.proofs.Common.{inl, inr, arith, ◌⊎◌}
 use Rattle.ft_store.specs.Blame.{IsBlamed, IsUnasked, GivesUntaken}
 use Rattle.ft_store.proofs.BlameLemmas.{query_blamed, next_blamed, row_untaken, not_memory}
 use Rattle.ft_store.proofs.stream.gather.Goals as goal

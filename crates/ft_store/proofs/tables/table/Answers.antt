@@ -13,19 +13,19 @@ use Rattle.sqlite.specs.Listing.{understood}
 use Rattle.sqlite.specs.Edit.{id_in}
 use Rattle.ft_store.proofs.FoundNumbers.{by_number}
 use Rattle.ft_store.proofs.Texts.{columns_text, skips_text}
-use Rattle.ft_store.proofs.TextLemmas.{columns_plain, skips_plain}
+use Rattle.ft_store.proofs.TextLemmas.{columns_means, skips_means}
 use Rattle.ft_store.proofs.AnswerLemmas.{columns_shown, skips_shown}
 use Rattle.ft_store.proofs.AskedLemmas.{columns_blamed, skips_blamed}
 use Rattle.ft_store.proofs.BlameLemmas.{blamed_then}
 use Rattle.ft_store.proofs.tables.table.Goals as goal
 
 pub select-requires : goal.select-requires
-select-requires g c = record { settled = c.requires.settled; shown = λ clean is_open. subst (λ s. IsPlain (understood s columns_text)) (sym (c.requires.store clean is_open).schema) columns_plain }
+select-requires g c = record { settled = c.requires.settled; shown = λ clean is_open. subst (λ s. IsPlain (understood s columns_text)) (sym (c.requires.store clean is_open).schema) columns_means.plain }
 
 pub select-requires-2 : goal.select-requires-2
 select-requires-2 g c = record {
   settled = c.select.ensures.given.read.mode;
-  shown = λ clean is_open. subst (λ s. IsPlain (understood s skips_text)) (sym (kept_store (state g.S.Store c.args.conn.now) (state g.S.Store c.select.new.conn) _ c.select.ensures.given.read.kept c.select.ensures.given.read.survives c.requires.store clean is_open).schema) skips_plain;
+  shown = λ clean is_open. subst (λ s. IsPlain (understood s skips_text)) (sym (kept_store (state g.S.Store c.args.conn.now) (state g.S.Store c.select.new.conn) _ c.select.ensures.given.read.kept c.select.ensures.given.read.survives c.requires.store clean is_open).schema) skips_means.plain;
 }
 
 pub returns-clause-given : goal.returns-clause-given

@@ -6,7 +6,7 @@ use Rattle.sqlite.specs.Held.{state}
 use Rattle.sqlite.specs.State.{HasCleanDisk}
 use Rattle.sqlite_keyed.proofs.ListLemmas.{map-map}
 use Rattle.ft_store.specs.Rows.{value_of}
-use Rattle.ft_store.specs.Found.{name_of}
+use Rattle.ft_store.specs.Found.{id_and_name}
 use Rattle.ft_rows.specs.Shown.{shown_table, table_listed}
 use Rattle.ft_store.proofs.CallLemmas.{one_more}
 use Rattle.ft_store.proofs.ChainLemmas.{Reading, reading_then}
@@ -14,14 +14,14 @@ use Rattle.std.specs.Ordering.{int_cmp}
 use Rattle.sqlite.specs.Given.{IsPlain}
 use Rattle.sqlite.specs.Listing.{understood}
 use Rattle.ft_store.proofs.Texts.{names_text}
-use Rattle.ft_store.proofs.TextLemmas.{names_plain}
+use Rattle.ft_store.proofs.TextLemmas.{names_means}
 use Rattle.ft_store.proofs.AnswerLemmas.{names_shown, all_kept}
 use Rattle.ft_store.proofs.AskedLemmas.{names_blamed}
 use Rattle.ft_store.proofs.BlameLemmas.{blamed_then}
 use Rattle.ft_store.proofs.tables.tables.Goals as goal
 
 pub select-requires : goal.select-requires
-select-requires g c = record { settled = c.requires.settled; shown = λ clean is_open. subst (λ s. IsPlain (understood s names_text)) (sym (c.requires.store clean is_open).schema) names_plain }
+select-requires g c = record { settled = c.requires.settled; shown = λ clean is_open. subst (λ s. IsPlain (understood s names_text)) (sym (c.requires.store clean is_open).schema) names_means.plain }
 
 pub loop-named-preserved : goal.loop-named-preserved
 loop-named-preserved g c =
@@ -38,7 +38,7 @@ loop-named-preserved g c =
           let fits : FitsSigned w64 c.named-item.result.id = search rules in
           let copied : string_bytes c.in_ok-name.name ≡ string_bytes c.named-item.result.name = search rules in
           rw c.in_ok-push.ensures.items
-          (one_more shown_table (λ n. table_listed (value_of old.now.trees) (name_of n)) c.loop-named.found.items c.deref-named-items.result.now c.loop-named.named-index c.in_ok-table.field-0 c.named-item.result c.loop-named-test.true c.named-item.is (before.2 clean_was)
+          (one_more shown_table (λ n. table_listed (value_of old.now.trees) (id_and_name n)) c.loop-named.found.items c.deref-named-items.result.now c.loop-named.named-index c.in_ok-table.field-0 c.named-item.result c.loop-named-test.true c.named-item.is (before.2 clean_was)
           (rw (to_z-of_z fits) at (c.in_ok-table.ensures.given.rows clean) ∙ ap (λ (d : Database). table_listed (value_of d.trees) (c.named-item.result.id, string_bytes c.in_ok-name.name)) same ∙ ap (λ name. table_listed (value_of old.now.trees) (c.named-item.result.id, name)) copied)),
     )
 
@@ -51,8 +51,8 @@ returns-clause-given g c = record {
       let h = c.in_ok-names.ensures.given.rows begun in
       let store = c.requires.store (omega (arith, c.select.ensures.given.read.survives.clean, begun)) in
       c.loop-named.invariant.2 clean
-      ∙ ap (map (λ n. table_listed (value_of old.now.trees) (name_of n))) (take_all c.loop-named.named-index c.deref-named-items.result.now c.loop-named-test.false ∙ c.deref-named-items.ensures.value)
-      ∙ sym (map-map (table_listed (value_of old.now.trees)) name_of c.in_ok-names.names.items) ∙ ap (map (table_listed (value_of old.now.trees))) (h.2 (pos 0) ∙ names_shown old (state g.S.Store c.select.new.conn) h.0 store h.1 ∙ all_kept int_cmp _);
+      ∙ ap (map (λ n. table_listed (value_of old.now.trees) (id_and_name n))) (take_all c.loop-named.named-index c.deref-named-items.result.now c.loop-named-test.false ∙ c.deref-named-items.ensures.value)
+      ∙ sym (map-map (table_listed (value_of old.now.trees)) id_and_name c.in_ok-names.names.items) ∙ ap (map (table_listed (value_of old.now.trees))) (h.2 (pos 0) ∙ names_shown old (state g.S.Store c.select.new.conn) h.0 store h.1 ∙ all_kept int_cmp _);
   read = record { kept = c.loop-named.invariant.0.kept; live = c.loop-named.invariant.0.live; mode = c.loop-named.invariant.0.mode; survives = c.loop-named.invariant.0.survives; fault = search rules };
 }
 

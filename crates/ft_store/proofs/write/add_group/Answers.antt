@@ -1,17 +1,15 @@
-use Rattle.std.proofs.Common.{◌≡◌, ◌∙◌, map, length, ap, arith}
+use Rattle.std.proofs.Common.{◌≡◌, ◌∙◌, map, length, ap, arith, ◌<◌, ◌⊎◌, subst, inl, inr}
 use Rattle.std.proofs.lemmas.List.{length-map}
 use Rattle.std.proofs.lemmas.Result.{IfOk-weaker}
 use Rattle.sqlite.specs.Held.{state}
 use Rattle.sqlite.specs.Values.{bound}
-use Rattle.ft_store.specs.Groups.{entry_put}
+use Rattle.ft_store.specs.Groups.{entry_put, PutsList}
 use Rattle.ft_store.proofs.GroupLemmas.{adds_all}
-use Rattle.std.proofs.Common.{◌<◌, ◌⊎◌, subst, inl, inr}
 use Rattle.std.specs.Prelude.{Any, IfOk, if◌then◌else◌}
 use Rattle.std.specs.List.{sum_by}
 use Rattle.std.proofs.lemmas.List.Elements.{recursion_from_All}
 use Rattle.ft_rows.specs.Changes.{shown_change}
-use Rattle.ft_store.specs.Groups.{PutsList}
-use Rattle.ft_store.specs.Puts.{AreGrown, IsFull, IsBigEntry, rows_of}
+use Rattle.ft_store.specs.Puts.{AreGrown, IsFull, IsBigEntry, rows_put}
 use Rattle.ft_store.proofs.CantLemmas.{count_rows, group_why}
 use Rattle.ft_store.proofs.write.add_group.Goals as goal
 
@@ -35,7 +33,7 @@ returns-clause-grown g c = λ clean inside kept.
     let changes = c.args.changes.now in
     let puts = recursion_from_All PutsList changes (rw c.in-Some.is at c.in_ok-lists.ensures).puts in
     let eight : length (map entry_put changes) ≡ 8 = omega (arith, length-map changes entry_put, c.if-changes-ne-GROUP.false) in
-    let count : 8 ≡ sum_by rows_of (map shown_change changes) = (let rows = count_rows changes puts in omega (arith, rows, c.if-changes-ne-GROUP.false)) in
+    let count : 8 ≡ sum_by rows_put (map shown_change changes) = (let rows = count_rows changes puts in omega (arith, rows, c.if-changes-ne-GROUP.false)) in
     subst (λ n. IfOk c.add_lists.result (λ added. AreGrown (if added then n else 0) old.now.trees new.now.trees)) count
     (c.add_lists.ensures.grown (map entry_put changes) eight (ap bound c.as_slice-2.ensures.value ∙ c.in_ok-values.ensures) clean inside kept)
 

@@ -1,9 +1,8 @@
-use Rattle.std.proofs.Common.{◌≡◌, Err, sym, inl, inr}
+use Rattle.std.proofs.Common.{◌≡◌, Err, sym, inl, inr, ◌+◌, ◌≤◌, List, map, All, subst, rules, ◌∙◌, arith, take, drop}
 use Rattle.std.specs.Prelude.{IfErr}
 use Rattle.ft_store.specs.declared.fault.StoreFault.{StoreFault}
-use Rattle.ft_store.specs.Calls.{IsChangeFault}
+use Rattle.ft_store.specs.Calls.{IsChangeFault, Goes}
 use Rattle.std.proofs.lemmas.List.Elements.{All-take, All-drop}
-use Rattle.std.proofs.Common.{◌+◌, ◌≤◌, List, map, All, subst, rules, ◌∙◌, arith}
 use Rattle.std.proofs.lemmas.List.{take_all}
 use Rattle.sqlite.specs.Held.{state}
 use Rattle.sqlite.proofs.StateLemmas.{survives_then}
@@ -11,13 +10,11 @@ use Rattle.ft_values.specs.declared.rows.RowChange.{RowChange}
 use Rattle.ft_rows.specs.Store.{all_applied}
 use Rattle.ft_store.specs.Rows.{value_of}
 use Rattle.ft_rows.specs.Changes.{shown_change, CanApply}
-use Rattle.ft_store.specs.Calls.{Goes}
 use Rattle.ft_store.proofs.CallLemmas.{keeps_then}
 use Rattle.ft_store.proofs.GroupLemmas.{group_can, group_goes}
-use Rattle.std.proofs.Common.{take, drop}
 use Rattle.std.specs.List.{sum_by, between}
 use Rattle.sqlite.specs.State.{HasCleanDisk}
-use Rattle.ft_store.specs.Puts.{AreGrown, rows_of}
+use Rattle.ft_store.specs.Puts.{AreGrown, rows_put}
 use Rattle.ft_store.proofs.CantLemmas.{grown_count, more_rows, split_part, part_why}
 use Rattle.ft_store.proofs.RiseLemmas.{trees_then}
 use Rattle.ft_store.proofs.write.apply_all.Goals as goal
@@ -39,7 +36,7 @@ loop-at-preserved g c =
             group_goes changes at end le old was now (value_of old.now.trees) before.0
                 (c.in_ok-apply_group.ensures.done.steps clean before.0.inside (λ is_open. (before.0.going (before.0.was_open is_open)).1)),
             grown_count _ _ old.now.trees now.now.trees (more_rows changes at end le)
-                (trees_then (sum_by rows_of (map shown_change (take at changes))) (sum_by rows_of (map shown_change (between at end changes))) old.now.trees was.now.trees now.now.trees before.1
+                (trees_then (sum_by rows_put (map shown_change (take at changes))) (sum_by rows_put (map shown_change (between at end changes))) old.now.trees was.now.trees now.now.trees before.1
                 (c.in_ok-apply_group.ensures.grown clean before.0.inside (λ is_open. (before.0.going (before.0.was_open is_open)).1))),
           ),
     )
@@ -58,7 +55,7 @@ pub returns-clause-grown : goal.returns-clause-grown
 returns-clause-grown g c = λ clean inside kept.
     let old = state g.S.Store c.args.tx.now.conn.now in
     let now = state g.S.Store c.loop-at.tx.conn.now in
-    subst (λ (l : List RowChange). AreGrown (sum_by rows_of (map shown_change l)) old.now.trees now.now.trees) (take_all c.loop-at.at c.args.changes.now c.loop-at-test.false) (c.loop-at.invariant.3 clean inside kept).1
+    subst (λ (l : List RowChange). AreGrown (sum_by rows_put (map shown_change l)) old.now.trees now.now.trees) (take_all c.loop-at.at c.args.changes.now c.loop-at-test.false) (c.loop-at.invariant.3 clean inside kept).1
 
 pub returns-in_err-apply_group-clause-refused : goal.returns-in_err-apply_group-clause-refused
 returns-in_err-apply_group-clause-refused g c = λ clean inside kept is.

@@ -1,4 +1,4 @@
-use Rattle.std.proofs.Common.{rules, List, map, All, subst, ◌∙◌, arith}
+use Rattle.std.proofs.Common.{rules, List, map, All, subst, ◌∙◌, arith, take, drop, [], ◌∷◌, ◌+◌, inl, inr}
 use Rattle.std.proofs.lemmas.List.{take_all}
 use Rattle.std.proofs.lemmas.List.Elements.{All-more}
 use Rattle.sqlite.specs.Held.{state}
@@ -10,10 +10,9 @@ use Rattle.ft_rows.specs.Changes.{shown_change, CanApply}
 use Rattle.ft_store.specs.Calls.{Goes}
 use Rattle.ft_store.proofs.CallLemmas.{keeps_then}
 use Rattle.ft_store.proofs.PutLemmas.{goes_on}
-use Rattle.std.proofs.Common.{take, drop, [], ◌∷◌, ◌+◌, inl, inr}
 use Rattle.std.specs.List.{sum_by}
 use Rattle.sqlite.specs.State.{HasCleanDisk}
-use Rattle.ft_store.specs.Puts.{AreGrown, rows_of}
+use Rattle.ft_store.specs.Puts.{AreGrown, rows_put}
 use Rattle.ft_store.proofs.CantLemmas.{grown_count, one_more_rows, split_one, part_why, cant_one}
 use Rattle.ft_store.proofs.RiseLemmas.{trees_then}
 use Rattle.ft_store.proofs.write.apply_each.Goals as goal
@@ -35,7 +34,7 @@ loop-change-preserved g c =
             goes_on old was now c.args.changes.now at c.change-item.result (value_of old.now.trees) c.loop-change-test.true c.change-item.is before.0
                 (c.in_ok-apply.ensures.done.steps clean before.0.inside (λ is_open. (before.0.going (before.0.was_open is_open)).1)),
             grown_count _ _ old.now.trees now.now.trees (one_more_rows c.args.changes.now at c.change-item.result c.loop-change-test.true c.change-item.is)
-                (trees_then (sum_by rows_of (map shown_change (take at c.args.changes.now))) (rows_of (shown_change c.change-item.result)) old.now.trees was.now.trees now.now.trees before.1
+                (trees_then (sum_by rows_put (map shown_change (take at c.args.changes.now))) (rows_put (shown_change c.change-item.result)) old.now.trees was.now.trees now.now.trees before.1
                 (c.in_ok-apply.ensures.grown clean before.0.inside (λ is_open. (before.0.going (before.0.was_open is_open)).1))),
           ),
     )
@@ -54,7 +53,7 @@ pub returns-clause-grown : goal.returns-clause-grown
 returns-clause-grown g c = λ clean inside kept.
     let old = state g.S.Store c.args.tx.now.conn.now in
     let now = state g.S.Store c.loop-change.tx.conn.now in
-    subst (λ (l : List RowChange). AreGrown (sum_by rows_of (map shown_change l)) old.now.trees now.now.trees) (take_all c.loop-change.change-index c.args.changes.now c.loop-change-test.false) (c.loop-change.invariant.3 clean inside kept).1
+    subst (λ (l : List RowChange). AreGrown (sum_by rows_put (map shown_change l)) old.now.trees now.now.trees) (take_all c.loop-change.change-index c.args.changes.now c.loop-change-test.false) (c.loop-change.invariant.3 clean inside kept).1
 
 pub returns-in_err-apply-clause-refused : goal.returns-in_err-apply-clause-refused
 returns-in_err-apply-clause-refused g c = λ clean inside kept is.

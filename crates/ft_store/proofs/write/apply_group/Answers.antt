@@ -1,6 +1,6 @@
-use Rattle.std.proofs.Common.{arith, subst, map, All, rules}
+use Rattle.std.proofs.Common.{arith, subst, map, All, rules, ◌+◌, [], sym, append-nil}
 use Rattle.std.specs.Prelude.{Bool, if◌then◌else◌}
-use Rattle.std.proofs.lemmas.Result.{IfOk-weaker}
+use Rattle.std.proofs.lemmas.Result.{IfOk-weaker, on_ok_weaker}
 use Rattle.sqlite.specs.State.{HasCleanDisk}
 use Rattle.sqlite.specs.Held.{state}
 use Rattle.ft_rows.specs.Store.{all_applied}
@@ -9,10 +9,8 @@ use Rattle.ft_rows.specs.Changes.{shown_change, CanApply}
 use Rattle.ft_store.specs.Calls.{Goes, IsChangeFault}
 use Rattle.ft_store.proofs.GroupLemmas.{goes_then}
 use Rattle.ft_store.proofs.InsideLemmas.{stays_then, changed_only}
-use Rattle.std.proofs.Common.{◌+◌, [], sym, append-nil}
 use Rattle.std.specs.List.{sum_by}
-use Rattle.std.proofs.lemmas.Result.{on_ok_weaker}
-use Rattle.ft_store.specs.Puts.{AreGrown, rows_of}
+use Rattle.ft_store.specs.Puts.{AreGrown, rows_put}
 use Rattle.ft_store.proofs.CantLemmas.{grown_count, part_why}
 use Rattle.ft_store.proofs.RiseLemmas.{trees_then}
 use Rattle.ft_store.proofs.write.apply_group.Goals as goal
@@ -38,7 +36,7 @@ returns-clause-grown g c = λ clean inside kept.
     let mid = state g.S.Store c.add_group.new.tx.conn.now in
     let new = state g.S.Store c.apply_each.new.tx.conn.now in
     let v = value_of old.now.trees in
-    let n = sum_by rows_of (map shown_change c.args.changes.now) in
+    let n = sum_by rows_put (map shown_change c.args.changes.now) in
     let clean_mid : HasCleanDisk mid = omega (arith, c.apply_each.ensures.done.stays.survives.clean) in
     let one = subst (λ (b : Bool). Goes old mid (if b then all_applied (map shown_change c.args.changes.now) v else v)) c.if-added.false (c.in_ok-added.ensures.goes.steps clean_mid inside kept) in
     let bare = subst (λ (b : Bool). AreGrown (if b then n else 0) old.now.trees mid.now.trees) c.if-added.false (c.in_ok-added.ensures.grown clean_mid inside kept) in
@@ -54,6 +52,6 @@ returns-clause-refused g c = λ clean inside kept is.
     let whole = map shown_change c.args.changes.now in
     let clean_mid : HasCleanDisk mid = omega (arith, c.apply_each.ensures.done.stays.survives.clean, clean) in
     let one = subst (λ (b : Bool). Goes old mid (if b then all_applied whole v else v)) c.if-added.false (c.in_ok-added.ensures.goes.steps clean_mid inside kept) in
-    let bare = subst (λ (b : Bool). AreGrown (if b then sum_by rows_of whole else 0) old.now.trees mid.now.trees) c.if-added.false (c.in_ok-added.ensures.grown clean_mid inside kept) in
+    let bare = subst (λ (b : Bool). AreGrown (if b then sum_by rows_put whole else 0) old.now.trees mid.now.trees) c.if-added.false (c.in_ok-added.ensures.grown clean_mid inside kept) in
     part_why old mid new _ _ [] whole [] whole (sym (append-nil whole)) clean_mid c.add_group.ensures.goes.stays.survives c.apply_each.ensures.done.stays.survives one bare
     (c.apply_each.ensures.refused clean one.inside (λ is_open. (one.going (one.was_open is_open)).1) is)

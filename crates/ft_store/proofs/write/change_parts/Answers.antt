@@ -1,20 +1,14 @@
-use Rattle.std.proofs.Common.{[], ◌⊎◌, refl}
+use Rattle.std.proofs.Common.{[], ◌⊎◌, refl, List, IsTrue, ◌≡◌, ◌∷◌, ◌++◌, map, All, Ok, Err, ap, sym, subst, rules, ◌∙◌, arith}
 use Rattle.sqlite.specs.State.{HasCleanDisk}
 use Rattle.ft_store.specs.declared.fault.StoreFault.TheVariants as fault
 use Rattle.ft_store.specs.Blame.{IsBlamed}
-use Rattle.ft_store.specs.Puts.{CantPutAll}
-use Rattle.ft_store.proofs.CantLemmas.{part_why, blamed_at}
-use Rattle.ft_store.proofs.RiseLemmas.{trees_same}
-use Rattle.std.proofs.Common.{List}
+use Rattle.ft_store.specs.Puts.{CantPutAll, AreGrown, rows_put}
+use Rattle.ft_store.proofs.CantLemmas.{part_why, blamed_at, grown_count}
+use Rattle.ft_store.proofs.RiseLemmas.{trees_same, trees_then}
 use Rattle.std.specs.List.{sum_by}
 use Rattle.std.proofs.lemmas.List.Sums.{sum_by-append}
 use Rattle.ft_values.specs.declared.rows.RowChange.{RowChange}
-use Rattle.std.proofs.Common.{IsTrue}
-use Rattle.ft_store.specs.Calls.{IsStore}
-use Rattle.ft_store.specs.Puts.{AreGrown, rows_of}
-use Rattle.ft_store.proofs.CantLemmas.{grown_count}
-use Rattle.ft_store.proofs.RiseLemmas.{trees_then}
-use Rattle.std.proofs.Common.{◌≡◌, ◌∷◌, ◌++◌, map, All, Ok, Err, ap, sym, subst, rules, ◌∙◌, arith}
+use Rattle.ft_store.specs.Calls.{IsStore, Goes, IsChangeFault}
 use Rattle.std.specs.Prelude.{IfErr}
 use Rattle.sqlite.specs.Held.{state}
 use Rattle.sqlite.proofs.StateLemmas.{survives_then}
@@ -22,7 +16,6 @@ use Rattle.ft_rows.specs.Store.{all_applied}
 use Rattle.ft_rows.specs.Changes.{shown_change, CanApply}
 use Rattle.ft_store.specs.declared.fault.StoreFault.{StoreFault}
 use Rattle.ft_store.specs.Rows.{value_of}
-use Rattle.ft_store.specs.Calls.{Goes, IsChangeFault}
 use Rattle.ft_store.specs.Parts.{changes_in, IsNext, CanMake}
 use Rattle.ft_store.proofs.PartLemmas.{one_part, part_fault, parts_can, part_goes}
 use Rattle.ft_store.proofs.write.change_parts.Goals as goal
@@ -69,9 +62,9 @@ loop-tx-preserved g c =
             let kept : IsTrue was.is_open → IsStore was.now = λ is_open. (before.0.going (before.0.was_open is_open)).1 in (
               part_goes old was now (value_of old.now.trees) done (map shown_change part.items) before.0
                   (subst (λ l. Goes was now (all_applied (map shown_change l) (value_of was.now.trees))) c.as_slice.ensures.value (c.in_ok-apply_all.ensures.done.steps clean before.0.inside kept)),
-              grown_count _ _ old.now.trees now.now.trees (sym (sum_by-append rows_of done (map shown_change part.items)))
-                  (trees_then (sum_by rows_of done) (sum_by rows_of (map shown_change part.items)) old.now.trees was.now.trees now.now.trees before.1
-                  (subst (λ (l : List RowChange). AreGrown (sum_by rows_of (map shown_change l)) was.now.trees now.now.trees) c.as_slice.ensures.value (c.in_ok-apply_all.ensures.grown clean before.0.inside kept))),
+              grown_count _ _ old.now.trees now.now.trees (sym (sum_by-append rows_put done (map shown_change part.items)))
+                  (trees_then (sum_by rows_put done) (sum_by rows_put (map shown_change part.items)) old.now.trees was.now.trees now.now.trees before.1
+                  (subst (λ (l : List RowChange). AreGrown (sum_by rows_put (map shown_change l)) was.now.trees now.now.trees) c.as_slice.ensures.value (c.in_ok-apply_all.ensures.grown clean before.0.inside kept))),
             ),
       ),
     )

@@ -2,7 +2,7 @@
 use Rattle.std.proofs.Common.{rules, ◌≡◌, [], map, Err, string_bytes, subst}
 use Rattle.std.specs.Prelude.{if◌then◌else◌}
 use Rattle.plain_sql.specs.declared.plain_import.ImportFault.TheVariants.{Refused, Memory}
-use Rattle.plain_sql.specs.Imports.{creation_of}
+use Rattle.plain_sql.specs.Imports.{create_text}
 use Rattle.plain_sql.specs.PlainStatements.{is_memory_error}
 use Rattle.plain_sql.specs.PlainImports.{Run, IsRefused}
 use Rattle.plain_sql.proofs.PlainImportLemmas.{other_cause, run_refused}
@@ -12,7 +12,7 @@ pub returns-in_err-_count-clause-step : goal.returns-in_err-_count-clause-step
 returns-in_err-_count-clause-step g c =
     let e = c.in_err-_count.field-0.0 in
     let is : c.from_residual-in_err-_count.result ≡ Err (if is_memory_error e then Memory else Refused) = search rules in
-    let text : c.as_str.result.now ≡ creation_of c.args.table.now (map string_bytes c.args.names.now) = search rules in
+    let text : c.as_str.result.now ≡ create_text c.args.table.now (map string_bytes c.args.names.now) = search rules in
     record {
       done = search (rules, is);
       refused = λ refused. subst (λ t. IsRefused g.P.Store (Run t []) c.args.tx.now.conn.now c.execute.new.self.conn.now) text

@@ -2,7 +2,7 @@
 use Rattle.std.proofs.Common.{rules, ◌≡◌, [], map, Err, refl, sym, subst, ◌∙◌, string_bytes}
 use Rattle.std.specs.Prelude.{option_map}
 use Rattle.std.proofs.lemmas.Result.{on_ok_weaker}
-use Rattle.plain_sql.specs.Imports.{creation_of}
+use Rattle.plain_sql.specs.Imports.{create_text}
 use Rattle.ft_statements.specs.Views.{texts_of}
 use Rattle.plain_sql.specs.PlainImports.{Run, TriesSteps, import_steps, insertions, DoesAll}
 use Rattle.plain_sql.proofs.PlainImportLemmas.{stops_at, stops_later}
@@ -16,7 +16,7 @@ returns-in_err-create_table-in-Some-clause-steps g c =
     (record {
       done = search (rules, is);
       refused = λ refused.
-          stops_at g.P.Store [] (Run (creation_of c.args.table.now (map string_bytes c.in-Some.names.now)) []) (insertions c.args.table.now c.args.columns (map texts_of c.args.records.now))
+          stops_at g.P.Store [] (Run (create_text c.args.table.now (map string_bytes c.in-Some.names.now)) []) (insertions c.args.table.now c.args.columns (map texts_of c.args.records.now))
           c.args.tx.now.conn.now c.args.tx.now.conn.now c.create_table.new.tx.conn.now refl (c.in_err-create_table-in-Some.ensures.step.refused (sym is ∙ refused));
     })
 
@@ -29,6 +29,6 @@ returns-in_ok-create_table-in-Some-clause-steps g c =
           (c.create_table.new.tx.conn.now, c.in_ok-create_table-in-Some.ensures.step.done, all))
           c.insert_records.ensures.steps.done;
       refused = λ refused.
-          stops_later g.P.Store (Run (creation_of c.args.table.now (map string_bytes c.in-Some.names.now)) []) (insertions c.args.table.now c.args.columns (map texts_of c.args.records.now))
+          stops_later g.P.Store (Run (create_text c.args.table.now (map string_bytes c.in-Some.names.now)) []) (insertions c.args.table.now c.args.columns (map texts_of c.args.records.now))
           c.args.tx.now.conn.now c.create_table.new.tx.conn.now c.insert_records.new.tx.conn.now c.in_ok-create_table-in-Some.ensures.step.done (c.insert_records.ensures.steps.refused refused);
     })

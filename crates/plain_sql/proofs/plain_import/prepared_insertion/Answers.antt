@@ -2,7 +2,7 @@
 use Rattle.std.proofs.Common.{rules, ◌≡◌, Err, subst}
 use Rattle.std.specs.Prelude.{if◌then◌else◌}
 use Rattle.plain_sql.specs.declared.plain_import.ImportFault.TheVariants.{Refused, Memory}
-use Rattle.plain_sql.specs.Imports.{insertion_of}
+use Rattle.plain_sql.specs.Imports.{insert_text}
 use Rattle.plain_sql.specs.PlainStatements.{is_memory_error}
 use Rattle.plain_sql.specs.PlainImports.{Prepare, IsRefused}
 use Rattle.plain_sql.proofs.PlainImportLemmas.{other_cause, prepare_refused, unprepared_kept}
@@ -12,7 +12,7 @@ pub returns-in_err-statement-clause-step : goal.returns-in_err-statement-clause-
 returns-in_err-statement-clause-step g c =
     let e = c.in_err-statement.field-0.0 in
     let is : c.from_residual-in_err-statement.result ≡ Err (if is_memory_error e then Memory else Refused) = search rules in
-    let text : c.as_str.result.now ≡ insertion_of c.args.table.now c.args.columns = search rules in
+    let text : c.as_str.result.now ≡ insert_text c.args.table.now c.args.columns = search rules in
     record {
       done = search (rules, is);
       refused = λ refused. subst (λ t. IsRefused g.P.Store (Prepare t) c.args.tx.now.conn.now c.prepare.new.self.conn.now) text

@@ -4,7 +4,7 @@ use Rattle.std.specs.Prelude.{is_ok}
 use Rattle.sqlite.specs.Held.{state}
 use Rattle.sqlite.specs.State.{IsNotRun}
 use Rattle.sqlite.specs.Listing.{understood}
-use Rattle.plain_sql.specs.Imports.{insertion_of}
+use Rattle.plain_sql.specs.Imports.{insert_text}
 use Rattle.plain_sql.specs.PlainImports.{Prepare, IsRefused}
 use Rattle.plain_sql.proofs.QueryLemmas.{clean_before}
 use Rattle.plain_sql.proofs.CountLemmas.{not_understood}
@@ -15,7 +15,7 @@ pub returns-in-Err-SqlInputError-clause-tries : goal.returns-in-Err-SqlInputErro
 returns-in-Err-SqlInputError-clause-tries g c =
     let old = state g.P.Store c.args.plain.now in
     let new = state g.P.Store c.prepare.new.self in
-    let text : c.as_str.result.now ≡ insertion_of c.args.table.now c.args.count = search rules in
+    let text : c.as_str.result.now ≡ insert_text c.args.table.now c.args.count = search rules in
     record {
       told = λ clean.
           let none = not_understood old new c.as_str.result.now c.in-Err-SqlInputError.field-0-0 (subst (IsNotRun old new c.as_str.result.now []) c.in-Err-SqlInputError.field-0-is (c.in-Err-SqlInputError.ensures.err clean [])) in
@@ -31,7 +31,7 @@ returns-in-Err-SqlInputError-clause-kept g c = λ clean.
 
 pub returns-clause-tries : goal.returns-clause-tries
 returns-clause-tries g c =
-    let text : c.as_str.result.now ≡ insertion_of c.args.table.now c.args.count = search rules in
+    let text : c.as_str.result.now ≡ insert_text c.args.table.now c.args.count = search rules in
     record {
       told = tt;
       refused = λ refused. subst (λ t. IsRefused g.P.Store (Prepare t) c.args.plain.now c.prepare.new.self) text

@@ -1,7 +1,7 @@
 use Rattle.std.proofs.Common.{◌≡◌, sym, ap, ◌∙◌, ◌+◌, ◌-◌, ◌++◌, map, max, ◌/◌, length, replicate, string_bytes, rules}
 use Rattle.std.specs.Int.{div_ceil}
 use Rattle.std.proofs.lemmas.List.{length-map}
-use Rattle.shell_text.specs.Print.{in_columns, listed, names_across, names_down, names_line, names_lines, names_on, widest}
+use Rattle.shell_text.specs.Print.{in_columns, names_in_columns, names_across, names_down, names_line, names_lines, names_on, widest}
 use Rattle.shell_text.proofs.Listing.{lines_step}
 use Rattle.shell_text.proofs.names.listed.Goals as goal
 
@@ -22,4 +22,4 @@ loop-j-preserved c =
     let line : in_columns c.as_slice.result.now (map string_bytes c.as_slice-in-loop-j.result.now) ≡ names_line j names =
     ap (λ w. in_columns w (map string_bytes c.as_slice-in-loop-j.result.now)) widths ∙ ap (in_columns (replicate (names_across names) (widest names))) names_is in
     ap (λ t. t ++ names_lines (down - (j + 1)) (j + 1) names) (c.in_ok-push_columns.ensures ∙ ap (λ l. c.loop-j.text.items ++ l) line)
-    ∙ lines_step c.loop-j.text.items down j names (listed names) c.loop-j-test.true c.loop-j.invariant
+    ∙ lines_step c.loop-j.text.items down j names (names_in_columns names) c.loop-j-test.true c.loop-j.invariant

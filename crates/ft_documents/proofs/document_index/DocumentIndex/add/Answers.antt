@@ -8,8 +8,8 @@ use Rattle.ft_content.specs.Content.{cell_text}
 use Rattle.ft_content.specs.Index.{cell_tokens, document_tokens}
 use Rattle.ft_content.specs.Views.{cells_of, column_of}
 use Rattle.ft_documents.specs.Rewrite.{document_if}
-use Rattle.ft_documents.specs.MadeIndex.{Adds}
-use Rattle.ft_documents.specs.RewriteRows.{lists_in, sizes_in, with_entries, cell_entries, cell_sizes, sized, all_put, IsShortNumber, AreShortNumbers}
+use Rattle.ft_documents.specs.MadeIndex.{AddsDocuments, lists_in, sizes_in}
+use Rattle.ft_documents.specs.RewriteRows.{with_entries, cell_entries, cell_sizes, sized, all_put, IsShortNumber, AreShortNumbers}
 use Rattle.ft_documents.proofs.Steps.{mapped_more}
 use Rattle.ft_documents.proofs.DocumentSteps.{entries_from, sizes_from, lists_more, sizes_more, none_left, no_numbers}
 use Rattle.ft_documents.proofs.document_index.DocumentIndex.add.Goals as goal
@@ -65,10 +65,10 @@ returns c =
     let past : min (length columns) (length cells) ≤ c.loop-place.place = rw (length-map c.args.columns.now column_of, length-map c.as_slice-values.result.now shown_value) (omega (arith, c.loop-place-test.false, c.min-place-end.ensures)) in
     let none = none_left c.loop-place.place columns cells past in
     let so_far = rw t at c.loop-place.invariant in
-    let made : Adds columns ((c.args.docid, cells) ∷ []) c.args.self.now c.loop-place.self = record {
+    let made : AddsDocuments columns ((c.args.docid, cells) ∷ []) c.args.self.now c.loop-place.self = record {
       lists = ap (λ left. with_entries (entries_from c.args.docid c.loop-place.place left) (lists_in c.loop-place.self)) (sym none) ∙ so_far.0;
       sizes = ap (λ left. all_put column_key_cmp (sizes_from c.args.docid c.loop-place.place left) (sizes_in c.loop-place.self)) (sym none) ∙ so_far.1;
       numbers = All-cons (λ d. AreShortNumbers columns d.1) (c.args.docid, cells) [] (c.loop-place.invariant.2 (no_numbers c.loop-place.place columns cells past)) (All-nil (λ d. AreShortNumbers columns d.1));
     } in
-    subst (λ o. Adds columns (document_if c.args.docid (option_map cells_of o)) c.args.self.now c.loop-place.self) (sym c.in-Some.is)
-    (subst (λ vs. Adds columns ((c.args.docid, map shown_value vs) ∷ []) c.args.self.now c.loop-place.self) c.as_slice-values.ensures.value made)
+    subst (λ o. AddsDocuments columns (document_if c.args.docid (option_map cells_of o)) c.args.self.now c.loop-place.self) (sym c.in-Some.is)
+    (subst (λ vs. AddsDocuments columns ((c.args.docid, map shown_value vs) ∷ []) c.args.self.now c.loop-place.self) c.as_slice-values.ensures.value made)

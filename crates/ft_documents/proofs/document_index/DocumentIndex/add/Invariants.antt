@@ -3,7 +3,8 @@ use Rattle.ft_values.specs.Cells.{shown_value}
 use Rattle.ft_rows.specs.Store.{column_key_cmp}
 use Rattle.ft_content.specs.Index.{document_tokens}
 use Rattle.ft_content.specs.Views.{column_of}
-use Rattle.ft_documents.specs.RewriteRows.{lists_in, sizes_in, with_entries, all_put, lists_with, sizes_with, AreShortNumbers}
+use Rattle.ft_documents.specs.MadeIndex.{lists_in, sizes_in}
+use Rattle.ft_documents.specs.RewriteRows.{with_entries, all_put, lists_joined_by, sizes_with, AreShortNumbers}
 use Rattle.ft_documents.proofs.DocumentSteps.{entries_from, sizes_from}
 use Rattle.ft_documents.proofs.document_index.DocumentIndex.add.Given as goal
 
@@ -11,6 +12,6 @@ use Rattle.ft_documents.proofs.document_index.DocumentIndex.add.Given as goal
 abbrev pub invariant-loop-place : goal.invariant-loop-place
 invariant-loop-place l =
     let left = document_tokens (drop l.place (map column_of l.columns)) (drop l.place (map shown_value l.values)) in
-    (with_entries (entries_from l.docid l.place left) (lists_in l.self) ≡ lists_with (map column_of l.columns) ((l.docid, map shown_value l.values) ∷ []) (lists_in l.fn.self))
+    (with_entries (entries_from l.docid l.place left) (lists_in l.self) ≡ lists_joined_by (map column_of l.columns) ((l.docid, map shown_value l.values) ∷ []) (lists_in l.fn.self))
     × (all_put column_key_cmp (sizes_from l.docid l.place left) (sizes_in l.self) ≡ sizes_with (map column_of l.columns) ((l.docid, map shown_value l.values) ∷ []) (sizes_in l.fn.self))
     × (AreShortNumbers (drop l.place (map column_of l.columns)) (drop l.place (map shown_value l.values)) → AreShortNumbers (map column_of l.columns) (map shown_value l.values))

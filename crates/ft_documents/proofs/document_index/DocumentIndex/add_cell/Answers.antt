@@ -1,7 +1,7 @@
 use Rattle.std.proofs.Common.{◌≡◌, ◌<◌, ◌^◌, pos, rules, length, sym, refl, ap, subst, ◌∙◌, to_z, of_z, to_z-of_z, w64, arith}
 use Rattle.ft_query.specs.Tokens.{tokens_of}
-use Rattle.ft_documents.specs.MadeIndex.{AreSmall}
-use Rattle.ft_documents.specs.RewriteRows.{lists_in, with_entries, cell_entries}
+use Rattle.ft_documents.specs.MadeIndex.{lists_in, AreSmall}
+use Rattle.ft_documents.specs.RewriteRows.{with_entries, cell_entries}
 use Rattle.std.specs.FinMap.Entries.{put}
 use Rattle.ft_rows.specs.Store.{column_key_cmp}
 use Rattle.ft_documents.proofs.TokenSteps.{small_tokens, few_tokens, insert_put, size_some}
@@ -21,7 +21,7 @@ overflow_add-count c = omega (arith, c.loop-token.invariant.1, few_tokens c.text
 
 pub loop-token-preserved : goal.loop-token-preserved
 loop-token-preserved c =
-    let added = rw (to_z-of_z c.ranges.docid, c.spot_of-spot.ensures) at c.in_ok-add_spot.ensures in search rules
+    let added = rw (to_z-of_z c.ranges.docid, c.spot_of-spot.ensures) at c.in_ok-add_posting.ensures in search rules
 
 pub overflow_cast-count : goal.overflow_cast-count
 overflow_cast-count c = omega (arith, c.loop-token.invariant.1, few_tokens c.text_of.ensures)

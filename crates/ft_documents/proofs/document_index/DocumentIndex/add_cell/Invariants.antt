@@ -2,8 +2,8 @@ use Rattle.std.proofs.Common.{◌≡◌, ◌+◌, length}
 use Rattle.ft_query.specs.Tokens.{tokens_of}
 use Rattle.ft_values.specs.Cells.{shown_value}
 use Rattle.ft_content.specs.Content.{cell_text}
-use Rattle.ft_documents.specs.RewriteRows.{lists_in, sizes_in, with_entries, cell_entries}
-use Rattle.ft_documents.specs.MadeIndex.{AreSmall}
+use Rattle.ft_documents.specs.RewriteRows.{with_entries, cell_entries}
+use Rattle.ft_documents.specs.MadeIndex.{lists_in, sizes_in, AreSmall}
 use Rattle.ft_documents.proofs.document_index.DocumentIndex.add_cell.Given as goal
 
 -- the tokens so far are in the lists, and the others join them

@@ -12,7 +12,7 @@ use Rattle.ft_values.specs.Cells.{Cell, shown_value}
 use Rattle.ft_values.specs.declared.fault.Fault.{Fault}
 use Rattle.ft_content.specs.Deserved as deserved
 use Rattle.ft_content.specs.Views.{cells_of, column_of, placed, last_docid}
-use Rattle.ft_documents.specs.NewDocuments.{shown_entry, documents_in, with_new, Places}
+use Rattle.ft_documents.specs.NewDocuments.{shown_new, shown_documents, with_new, Places}
 use Rattle.ft_documents.specs.RewriteRows.{all_put}
 use Rattle.ft_documents.proofs.MapSteps.{find_looked_up, is_some_shown}
 use Rattle.ft_documents.proofs.KeyedRows.{true_of, of_true, find-values, sorted_put}
@@ -21,7 +21,7 @@ use Rattle.ft_documents.proofs.NewRows.{taken_is, row_is_new, put_shown, all_put
 use Rattle.ft_documents.proofs.new_documents.NewDocuments.add.Goals as goal
 use Rattle.ft_documents.proofs.new_documents.NewDocuments.add.Goals.{then-is_stored, else-is_stored}
 
-is_there : (entries : List (ℤ × Vec Value Global)) (docid : ℤ) (b : Bool) → FitsSigned w64 docid → b ≡ is_some (lookup (λ k. is_eq (int_cmp (to_z w64 (of_z w64 docid)) k)) entries) → b ≡ is_some (find int_cmp docid (map shown_entry entries))
+is_there : (entries : List (ℤ × Vec Value Global)) (docid : ℤ) (b : Bool) → FitsSigned w64 docid → b ≡ is_some (lookup (λ k. is_eq (int_cmp (to_z w64 (of_z w64 docid)) k)) entries) → b ≡ is_some (find int_cmp docid (map shown_new entries))
 is_there entries docid b fits is =
     is ∙ ap is_some (sym (find_looked_up int_cmp (to_z w64 (of_z w64 docid)) entries) ∙ ap (λ k. find int_cmp k entries) (to_z-of_z fits))
     ∙ sym (ap is_some (find-values int_cmp cells_of docid entries) ∙ is_some_shown cells_of (find int_cmp docid entries))
@@ -33,9 +33,9 @@ if_some N (Some x) h f = f x h
 pub returns-in_err-docid : goal.returns-in_err-docid
 returns-in_err-docid c documents beside stored =
     let values = zip (map (λ n. n.now) c.args.names.now) (map shown_value c.args.row.now) in
-    let docids : List ℤ = deserved.docids_in values in
+    let docids : List ℤ = deserved.docids_named values in
     let cells : List Cell = deserved.new_cells values (map column_of c.args.columns.now) in
-    let new = documents_in c.args.self.now in
+    let new = shown_documents c.args.self.now in
     let all = with_new c.args.self.now documents in
     let given : c.row_docid-given.result ≡ slice_get docids 0 = c.row_docid-given.ensures in
     let taken = taken_is (slice_get docids 0) new documents c.args.is_stored c.if-is_stored.is_taken beside.rising stored
@@ -57,9 +57,9 @@ returns-in_err-docid c documents beside stored =
 pub returns : goal.returns
 returns c documents beside stored =
     let values = zip (map (λ n. n.now) c.args.names.now) (map shown_value c.args.row.now) in
-    let docids : List ℤ = deserved.docids_in values in
+    let docids : List ℤ = deserved.docids_named values in
     let cells : List Cell = deserved.new_cells values (map column_of c.args.columns.now) in
-    let new = documents_in c.args.self.now in
+    let new = shown_documents c.args.self.now in
     let all = with_new c.args.self.now documents in
     let given : c.row_docid-given.result ≡ slice_get docids 0 = c.row_docid-given.ensures in
     let taken = taken_is (slice_get docids 0) new documents c.args.is_stored c.if-is_stored.is_taken beside.rising stored
@@ -81,9 +81,9 @@ returns c documents beside stored =
     let held = c.args.self.now.documents.entries in
     let added : List Cell = cells_of c.in_ok-cells.cells in
     let last_fits : FitsSigned w64 c.last_docid_after.result = search rules in
-    let grown : map shown_entry c.insert.new.self.entries ≡ put int_cmp docid added new =
-    ap (map shown_entry) (c.in_ok-insert.ensures.entries ∙ insert_put int_cmp (to_z w64 (of_z w64 docid)) c.in_ok-cells.cells held ∙ ap (λ k. put int_cmp k c.in_ok-cells.cells held) passed) ∙ put_shown docid c.in_ok-cells.cells held in
-    let with_it : all_put int_cmp (map shown_entry c.insert.new.self.entries) documents ≡ put int_cmp docid added all = ap (λ l. all_put int_cmp l documents) grown ∙ all_put_more docid added new documents beside.rising beside.sorted in (
+    let grown : map shown_new c.insert.new.self.entries ≡ put int_cmp docid added new =
+    ap (map shown_new) (c.in_ok-insert.ensures.entries ∙ insert_put int_cmp (to_z w64 (of_z w64 docid)) c.in_ok-cells.cells held ∙ ap (λ k. put int_cmp k c.in_ok-cells.cells held) passed) ∙ put_shown docid c.in_ok-cells.cells held in
+    let with_it : all_put int_cmp (map shown_new c.insert.new.self.entries) documents ≡ put int_cmp docid added all = ap (λ l. all_put int_cmp l documents) grown ∙ all_put_more docid added new documents beside.rising beside.sorted in (
       record {
         sorted = beside.sorted;
         rising = ap (is_sorted int_cmp) grown ∙ true_of _ (is_sorted-put int_cmp int_cmp_total docid added new (of_true _ beside.rising));

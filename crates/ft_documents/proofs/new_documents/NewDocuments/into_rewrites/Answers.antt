@@ -4,11 +4,11 @@ use Rattle.std.proofs.lemmas.Iterator.{YieldsList-from_map_by}
 use Rattle.std.proofs.lemmas.Iterator.Consumers.{map_from_collect, YieldsList-at, YieldsList-from_rest}
 use Rattle.sqlite_keyed.proofs.ListLemmas.{map-map}
 use Rattle.ft_documents.specs.Rewrite.{shown_rewrite}
-use Rattle.ft_documents.specs.NewDocuments.{shown_entry, new_rewrite}
+use Rattle.ft_documents.specs.NewDocuments.{shown_new, new_rewrite}
 use Rattle.ft_documents.proofs.new_documents.NewDocuments.into_rewrites.Goals as goal
 
 pub returns : goal.returns
 returns c =
     let road = YieldsList-at c.map.ensures.source (YieldsList-from_rest c.args.self.documents.entries (search rules)) in
-    let made = map_from_collect _ c.collect.ensures.ran (YieldsList-from_map_by _ shown_rewrite (λ e. new_rewrite (shown_entry e)) road c.map.ensures.closure (λ x r q k. search rules)) in
+    let made = map_from_collect _ c.collect.ensures.ran (YieldsList-from_map_by _ shown_rewrite (λ e. new_rewrite (shown_new e)) road c.map.ensures.closure (λ x r q k. search rules)) in
     search (rules, map-map)

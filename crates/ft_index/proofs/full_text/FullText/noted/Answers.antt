@@ -3,7 +3,7 @@ use Rattle.std.proofs.Common.{◌≡◌, ℕ, List, [], ◌∷◌, map, string_b
 use Rattle.std.specs.Prelude.{is_ok, true}
 use Rattle.ft_rows.specs.Shown.{shown_note}
 use Rattle.ft_content.specs.Views.{shown_info}
-use Rattle.ft_index.specs.Kept.{FullText, OnlyLooks, value_of}
+use Rattle.ft_index.specs.Kept.{FullText, OnlyLooks, store_value}
 use Rattle.ft_index.specs.Crashes.{LeavesRead}
 use Rattle.ft_index.specs.Changed.{with_tables}
 use Rattle.ft_index.proofs.Pinging.{read_leaves, read_looks}
@@ -14,7 +14,7 @@ spellings [] = refl
 spellings (n ∷ ns) = ap (λ l. string_bytes n ∷ l) (spellings ns)
 
 pub returns-clause-names : goal.returns-clause-names
-returns-clause-names g c = λ up. subst (λ (k : FullText g.row.S.Denot). map string_bytes c.in_ok-names.names.items ≡ map (λ (n : List ℕ × List ℕ). n.1) (value_of g.S.Store k).noted) c.self.view_is
+returns-clause-names g c = λ up. subst (λ (k : FullText g.row.S.Denot). map string_bytes c.in_ok-names.names.items ≡ map (λ (n : List ℕ × List ℕ). n.1) (store_value g.S.Store k).noted) c.self.view_is
     (sym (spellings c.in_ok-names.names.items) ∙ ap (map (λ (n : List ℕ × List ℕ). n.1)) (c.in_ok-names.ensures.names up.clean))
 
 pub returns-clause-looks : goal.returns-clause-looks

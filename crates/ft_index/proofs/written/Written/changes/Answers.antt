@@ -3,7 +3,7 @@ use Rattle.std.proofs.Common.{rules, map, subst, to_z-of_z, to_z, of_z, w64, Fit
 use Rattle.std.specs.Prelude.{All}
 use Rattle.ft_rows.specs.Changes.{shown_change}
 use Rattle.ft_content.specs.Views.{column_of}
-use Rattle.ft_documents.specs.Rewrite.{AreRight, shown_rewrite, docids_of}
+use Rattle.ft_documents.specs.Rewrite.{AreRight, shown_rewrite, rewritten_docids}
 use Rattle.ft_documents.specs.Tables.{IsOfDocids}
 use Rattle.ft_index.proofs.written.Written.changes.Goals as goal
 
@@ -15,5 +15,5 @@ returns c =
     let list = map shown_change c.in_ok-row_changes.field-0.items in (
       subst (λ k. AreRight k (map column_of known.columns.items) (map shown_rewrite rewrites.items) list) (to_z-of_z fits)
           (subst (λ l. AreRight (to_z w64 (of_z w64 known.id)) (map column_of l) (map shown_rewrite rewrites.items) list) c.as_slice.ensures.value c.in_ok-row_changes.ensures.right),
-      subst (λ k. All (IsOfDocids k (docids_of (map shown_rewrite rewrites.items))) list) (to_z-of_z fits) c.in_ok-row_changes.ensures.near,
+      subst (λ k. All (IsOfDocids k (rewritten_docids (map shown_rewrite rewrites.items))) list) (to_z-of_z fits) c.in_ok-row_changes.ensures.near,
     )

@@ -7,7 +7,7 @@ use Rattle.ft_query.specs.declared.walk.cursor.Cursor.{Cursor}
 use Rattle.ft_query.specs.Documents.{Document, place_count}
 use Rattle.ft_query.specs.Trees.{plain_term}
 use Rattle.ft_query.specs.Cursors.{lists_kept, places_left, listed_for}
-use Rattle.ft_query.specs.Lists.{Answers, NoCall, OneMore}
+use Rattle.ft_query.specs.Lists.{AllAnswer, NoCall, OneMore}
 use Rattle.ft_query.specs.Loaded.{AreCursorsOf}
 use Rattle.ft_query.proofs.Loading.{cursors_on, cursors_all, places_on}
 use Rattle.ft_query.proofs.Reaching.{no_call, reaches_on}
@@ -71,7 +71,7 @@ returns-clause-loads g c = record {
       cursors_all (g.L.Lists.documents c.loop-term.lists) c.args.terms.now c.loop-term.cursors.items (c.loop-term.invariant.lists clean)
       (omega (arith, c.loop-term.invariant.number, c.loop-term.cursors.ok.0, c.loop-term-test.false, c.loop-term.auto.term-index-end));
   number = grind (arith, common_steps);
-  asked = subst (λ n. Answers g.L.Lists.becomes n c.args.lists.now c.loop-term.lists) (grind (arith, common_steps)) c.loop-term.invariant.asked;
+  asked = subst (λ n. AllAnswer g.L.Lists.becomes n c.args.lists.now c.loop-term.lists) (grind (arith, common_steps)) c.loop-term.invariant.asked;
   given = c.loop-term.invariant.given;
 }
 

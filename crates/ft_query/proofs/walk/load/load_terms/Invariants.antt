@@ -1,5 +1,5 @@
 use Rattle.std.proofs.Common.{◌≡◌, true, ◌+◌, ◌-◌, ◌^◌, ◌<◌, min, vec_len}
-use Rattle.ft_query.specs.Lists.{Reaches, Answers}
+use Rattle.ft_query.specs.Lists.{Reaches, AllAnswer}
 use Rattle.ft_query.specs.Loaded.{AreCursorsOf}
 use Rattle.ft_query.specs.Cursors.{places_left}
 use Rattle.ft_query.proofs.walk.load.load_terms.Given as goal
@@ -13,7 +13,7 @@ invariant-loop-term g l =
     record {
       lists : is_clean l.lists → AreCursorsOf (documents l.lists) l.terms l.cursors.items;
       number : vec_len l.cursors ≡ l.term-index;
-      asked : Answers g.L.Lists.becomes l.term-index l.fn.lists l.lists;
+      asked : AllAnswer g.L.Lists.becomes l.term-index l.fn.lists l.lists;
       clean : is_clean l.lists → is_clean l.fn.lists × (documents l.lists ≡ documents l.fn.lists);
       becomes : Reaches g.L.Lists.becomes l.fn.lists true l.lists;
       failed : g.L.Lists.has_failed l.lists ≡ g.L.Lists.has_failed l.fn.lists;

@@ -1,6 +1,6 @@
 use Rattle.std.proofs.Common.{◌≡◌, map}
 use Rattle.ft_query.specs.Cursors.{lists_left, lists_kept, passed}
-use Rattle.ft_query.specs.Taken.{Takes}
+use Rattle.ft_query.specs.Taken.{TakesSteps}
 use Rattle.ft_query.proofs.Sweeps.{swept}
 use Rattle.ft_query.proofs.walk.search.pass.Given as goal
 
@@ -9,5 +9,5 @@ abbrev pub invariant-loop-cursor : goal.invariant-loop-cursor
 invariant-loop-cursor l = record {
   left : map lists_left l.cursors ≡ swept (passed l.docid) l.cursor-index (map lists_left l.fn.cursors);
   kept : map lists_kept l.cursors ≡ map lists_kept l.fn.cursors;
-  steps : Takes l.cursor-index l.fn.steps l.steps;
+  steps : TakesSteps l.cursor-index l.fn.steps l.steps;
 }

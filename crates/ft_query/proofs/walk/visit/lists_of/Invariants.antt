@@ -1,7 +1,7 @@
 use Rattle.std.proofs.Common.{◌≡◌, take}
 use Rattle.ft_query.specs.Visit.{plain_lists, places_in}
-use Rattle.ft_query.specs.Taken.{Takes}
+use Rattle.ft_query.specs.Taken.{TakesSteps}
 use Rattle.ft_query.proofs.walk.visit.lists_of.Given as goal
 
 abbrev pub invariant-loop-cursor : goal.invariant-loop-cursor
-invariant-loop-cursor l = (plain_lists l.lists.items ≡ places_in l.docid (take l.cursor-index l.cursors)) × Takes l.cursor-index l.initial.steps l.steps
+invariant-loop-cursor l = (plain_lists l.lists.items ≡ places_in l.docid (take l.cursor-index l.cursors)) × TakesSteps l.cursor-index l.initial.steps l.steps

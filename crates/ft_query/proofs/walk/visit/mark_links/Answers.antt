@@ -10,7 +10,7 @@ use Rattle.ft_query.specs.declared.walk.places.Starts.{Starts}
 use Rattle.ft_query.specs.declared.walk.visit.Found.{Found}
 use Rattle.ft_query.specs.Trees.{plain_term, plain_link}
 use Rattle.ft_query.specs.Taken.{TakesAtMost}
-use Rattle.ft_query.specs.Visit.{near_those, link_marks, link_cost, numbered, marks_from, total, plain_lists, plain_starts}
+use Rattle.ft_query.specs.Visit.{near_those, link_marks, link_cost, numbered_offsets, marks_from, total, plain_lists, plain_starts}
 use Rattle.ft_query.proofs.Marks.{count_more}
 use Rattle.ft_query.proofs.Passes.{numbered_marks, link_marks_one, back_lists, map-take}
 use Rattle.ft_query.proofs.walk.visit.mark_links.Invariants.{AreMarked}
@@ -55,7 +55,7 @@ marked_on : {marks : List (List Place)} {count cost at k : ℕ} {starts : List P
     → (own behind : List Places) (size : ℕ) (next : List Place) (new : Found) (between after : Steps)
     → size ≡ length link.to.terms.items → own ≡ take size lists → behind ≡ drop size lists
     → next ≡ near_those link.most k starts size others.places.items
-    → new.wanted ≡ mid.wanted → new.offsets.items ≡ mid.offsets.items ++ numbered mid.next (marks_from 0 (plain_lists own) next)
+    → new.wanted ≡ mid.wanted → new.offsets.items ≡ mid.offsets.items ++ numbered_offsets mid.next (marks_from 0 (plain_lists own) next)
     → new.next ≡ mid.next + length own
     → TakesAtMost (length starts + 3 * length others.places.items) steps between
     → TakesAtMost (total (plain_lists own) + length own * length next) between after
@@ -76,10 +76,10 @@ marked_on {marks} {count} {cost} {at} {k} {starts} {link} {links} {lists} {other
       left = omega (arith, so_far.left, long, enough);
       each = omega (arith, sum, so_far.each, is_size, long);
       offsets =
-          ap (λ os. os ++ numbered new.next more) offsets
-          ∙ ap (λ n. mid.offsets.items ++ numbered mid.next (marks_from 0 (plain_lists own) next) ++ numbered n more) number
+          ap (λ os. os ++ numbered_offsets new.next more) offsets
+          ∙ ap (λ n. mid.offsets.items ++ numbered_offsets mid.next (marks_from 0 (plain_lists own) next) ++ numbered_offsets n more) number
           ∙ numbered_marks mid.offsets.items mid.next own next more
-          ∙ ap (λ ms. mid.offsets.items ++ numbered mid.next ms) marked
+          ∙ ap (λ ms. mid.offsets.items ++ numbered_offsets mid.next ms) marked
           ∙ so_far.offsets;
       taken = record {
         at_least = omega (arith, so_far.taken.at_least, one.at_least, two.at_least);

@@ -8,7 +8,7 @@ use Rattle.ft_query.specs.declared.walk.places.Starts.{Starts}
 use Rattle.ft_query.specs.declared.walk.visit.Found.{Found}
 use Rattle.ft_query.specs.Trees.{plain_link}
 use Rattle.ft_query.specs.Taken.{TakesOf}
-use Rattle.ft_query.specs.Visit.{link_marks, link_cost, numbered, plain_lists, plain_starts}
+use Rattle.ft_query.specs.Visit.{link_marks, link_cost, numbered_offsets, plain_lists, plain_starts}
 use Rattle.ft_query.proofs.walk.visit.mark_links.Given as goal
 
 -- These marks are added but for those of the links that are left, and of so many steps the ones for
@@ -19,8 +19,8 @@ pub record AreMarked (marks : List (List Place)) (count cost at k : ℕ) (starts
   pub next : new.next ≡ old.next + at
   pub left : at + length lists ≡ count
   pub each : length (flat_map (λ link. link.to.terms) (map plain_link links)) ≡ length lists
-  pub offsets : new.offsets.items ++ numbered new.next (link_marks k starts (map plain_link links) (plain_lists lists) (plain_starts all)) ≡ old.offsets.items
-      ++ numbered old.next marks
+  pub offsets : new.offsets.items ++ numbered_offsets new.next (link_marks k starts (map plain_link links) (plain_lists lists) (plain_starts all)) ≡ old.offsets.items
+      ++ numbered_offsets old.next marks
   pub taken : TakesOf cost (link_cost k starts (map plain_link links) (plain_lists lists) (plain_starts all)) begun steps
 
 abbrev pub invariant-loop-i : goal.invariant-loop-i

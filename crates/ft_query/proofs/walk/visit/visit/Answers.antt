@@ -3,7 +3,7 @@ use Rattle.ft_query.specs.Trees.{tree_of}
 use Rattle.ft_query.specs.declared.lists.place.Place.{Place}
 use Rattle.ft_query.specs.declared.walk.visit.Wanted.{Wanted}
 use Rattle.ft_query.specs.Marked.{own_lists}
-use Rattle.ft_query.specs.Visit.{numbered, marks_of, plain_lists, places_in, if_wanted}
+use Rattle.ft_query.specs.Visit.{numbered_offsets, marks_of, plain_lists, places_in, if_wanted}
 use Rattle.ft_query.proofs.Costs.{document_bound, own_are}
 use Rattle.ft_query.proofs.Visits.{rejected_is, found_is}
 use Rattle.ft_query.proofs.walk.visit.visit.Goals as goal
@@ -23,11 +23,11 @@ returns-clause-offsets c = λ postings ordered same.
     let is = own_are (tree_of c.args.query.now) c.args.docid c.args.cursors.now c.as_slice-left.result.now c.requires
     (ap plain_lists c.as_slice-left.ensures.value ∙ c.in_ok-lists.ensures.lists ∙ ap (λ z. places_in z c.args.cursors.now) (to_z-of_z c.ranges.docid)) ∙ same in
     let told : Wanted → List (List Place) = λ wanted. if_wanted wanted (marks_of tree lists) in
-    let marked : c.visit_part.new.found.offsets.items ≡ numbered 0 (told c.args.wanted) =
+    let marked : c.visit_part.new.found.offsets.items ≡ numbered_offsets 0 (told c.args.wanted) =
     c.in_ok-visit_part.ensures.evaluates.offsets
-    ∙ ap (λ os. os ++ numbered c.no_offsets-found.result.next (told c.no_offsets-found.result.wanted)) c.no_offsets-found.ensures.offsets
-    ∙ ap (λ n. numbered n (told c.no_offsets-found.result.wanted)) c.no_offsets-found.ensures.next
-    ∙ ap (λ wanted. numbered 0 (told wanted)) c.no_offsets-found.ensures.wanted in
+    ∙ ap (λ os. os ++ numbered_offsets c.no_offsets-found.result.next (told c.no_offsets-found.result.wanted)) c.no_offsets-found.ensures.offsets
+    ∙ ap (λ n. numbered_offsets n (told c.no_offsets-found.result.wanted)) c.no_offsets-found.ensures.next
+    ∙ ap (λ wanted. numbered_offsets 0 (told wanted)) c.no_offsets-found.ensures.wanted in
     found_is c.args.wanted postings tree lists c.in_ok-visit_part.field-0 c.visit_part.new.found.offsets.items c.sort_offsets.new.offsets.items ordered is
     c.in_ok-visit_part.ensures.evaluates.accepted c.if-not-branch.false marked c.sort_offsets.ensures.permutation c.sort_offsets.ensures.sorted
 

@@ -3,7 +3,7 @@ use Rattle.std.proofs.lemmas.Grind.{common_steps}
 use Rattle.std.proofs.lemmas.List.{length-map}
 use Rattle.ft_query.specs.Marked.{chain_tree}
 use Rattle.ft_query.specs.Trees.{plain_phrase, plain_link, chain}
-use Rattle.ft_query.specs.Visit.{link_cost, visit_cost, linked, link_marks, marks_of, numbered, if_wanted, marks_from, plain_lists, plain_starts}
+use Rattle.ft_query.specs.Visit.{link_cost, visit_cost, linked, link_marks, marks_of, numbered_offsets, if_wanted, marks_from, plain_lists, plain_starts}
 use Rattle.ft_query.proofs.Marks.{chain_marks_count}
 use Rattle.ft_query.proofs.Passes.{chain_cost, numbered_marks, linked_length, starts_forward, starts_many, chain_marks}
 use Rattle.ft_query.proofs.walk.visit.visit_chain.Goals as goal
@@ -36,17 +36,17 @@ returns-clause-evaluates c =
     let n = c.args.found.now.next in
     let added =
     c.in_ok-mark_links-in-Offsets.ensures.marks.offsets
-    ∙ ap (λ os. os ++ numbered c.mark_phrase.new.found.next (link_marks c.len-size.result starts (map plain_link links) (plain_lists behind)
+    ∙ ap (λ os. os ++ numbered_offsets c.mark_phrase.new.found.next (link_marks c.len-size.result starts (map plain_link links) (plain_lists behind)
     (plain_starts c.deref.result.now))) c.in_ok-mark_phrase-in-Offsets.ensures.marks.offsets
-    ∙ ap (λ k. old ++ numbered n (marks_from 0 (plain_lists own) starts) ++ numbered k
+    ∙ ap (λ k. old ++ numbered_offsets n (marks_from 0 (plain_lists own) starts) ++ numbered_offsets k
     (link_marks c.len-size.result starts (map plain_link links) (plain_lists behind)
     (plain_starts c.deref.result.now))) c.in_ok-mark_phrase-in-Offsets.ensures.marks.next
-    ∙ ap (λ ss. old ++ numbered n (marks_from 0 (plain_lists own) starts) ++ numbered (n + length own)
+    ∙ ap (λ ss. old ++ numbered_offsets n (marks_from 0 (plain_lists own) starts) ++ numbered_offsets (n + length own)
     (link_marks c.len-size.result starts (map plain_link links) (plain_lists behind) ss)) all
     ∙ numbered_marks old n own starts (link_marks c.len-size.result starts (map plain_link links) (plain_lists behind) later)
-    ∙ ap (λ ms. old ++ numbered n ms) one
-    ∙ ap (λ ls. old ++ numbered n (marks_of (chain (plain_phrase first) (map plain_link ls)) (plain_lists lists))) c.as_slice-links.ensures.value
-    ∙ ap (λ wanted. old ++ numbered n (if_wanted wanted (marks_of (chain (plain_phrase first) (map plain_link c.args.near.now.links.items))
+    ∙ ap (λ ms. old ++ numbered_offsets n ms) one
+    ∙ ap (λ ls. old ++ numbered_offsets n (marks_of (chain (plain_phrase first) (map plain_link ls)) (plain_lists lists))) c.as_slice-links.ensures.value
+    ∙ ap (λ wanted. old ++ numbered_offsets n (if_wanted wanted (marks_of (chain (plain_phrase first) (map plain_link c.args.near.now.links.items))
     (plain_lists lists)))) (sym c.in-Offsets.is) in
     let tree = chain_tree c.args.near.now in
     let told = ap (λ wanted. length (if_wanted wanted (marks_of tree (plain_lists lists)))) c.in-Offsets.is in

@@ -4,7 +4,7 @@ use Rattle.sqlite_value.specs.Order.{bytes}
 use Rattle.ft_values.specs.declared.rows.Spot.{Spot}
 use Rattle.ft_rows.specs.Store.{ListKey}
 use Rattle.ft_store.specs.Found.{found_spots, found_places}
-use Rattle.ft_rows.specs.Shown.{shown_entry, entries_with, list_entries}
+use Rattle.ft_rows.specs.Shown.{shown_entry, entries_with, entries_of_list}
 use Rattle.ft_store.proofs.EntryLemmas.{all_more, others_more, other_last, entries_more}
 use Rattle.ft_store.proofs.lists.EntriesOfGathered.add.Goals as goal
 
@@ -32,6 +32,6 @@ returns-clause-added c = λ rows h tab.
     let found = rw c.in-Some.is at c.in_ok-list.ensures.found.found in
     let term = rw c.in-Some-2.is at c.in_ok-term.ensures.found.found in
     let old = map shown_entry c.args.self.now.entries.items in (
-      entries_more (found_places tab) row list_entries rows old _ (c.in_ok-push_entries.ensures ∙ ap₂ (λ t l. old ++ entries_with t l) term.0 found.0) before.0,
+      entries_more (found_places tab) row entries_of_list rows old _ (c.in_ok-push_entries.ensures ∙ ap₂ (λ t l. old ++ entries_with t l) term.0 found.0) before.0,
       all_more IsTold (found_places tab) row rows before.1 (found.1, term.1),
     )

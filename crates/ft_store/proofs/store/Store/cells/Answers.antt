@@ -3,13 +3,13 @@ use Rattle.sqlite.specs.Given.{IsPlain}
 use Rattle.sqlite.specs.Listing.{understood}
 use Rattle.sqlite.specs.Held.{state}
 use Rattle.ft_store.proofs.Texts.{cells_text}
-use Rattle.ft_store.proofs.TextLemmas.{cells_plain}
+use Rattle.ft_store.proofs.TextLemmas.{cells_means}
 use Rattle.ft_store.proofs.AnswerLemmas.{cells_shown}
 use Rattle.ft_store.proofs.AskedLemmas.{cells_blamed}
 use Rattle.ft_store.proofs.store.Store.cells.Goals as goal
 
 pub select-requires : goal.select-requires
-select-requires g c = record { settled = c.self.invariant.settled; shown = λ clean is_open. subst (λ s. IsPlain (understood s cells_text)) (sym (c.self.invariant.store clean is_open).schema) cells_plain }
+select-requires g c = record { settled = c.self.invariant.settled; shown = λ clean is_open. subst (λ s. IsPlain (understood s cells_text)) (sym (c.self.invariant.store clean is_open).schema) cells_means.plain }
 
 pub returns-clause-rows : goal.returns-clause-rows
 returns-clause-rows g c = λ clean.

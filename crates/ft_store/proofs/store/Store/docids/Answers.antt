@@ -3,14 +3,14 @@ use Rattle.sqlite.specs.Given.{IsPlain}
 use Rattle.sqlite.specs.Listing.{understood}
 use Rattle.sqlite.specs.Held.{state}
 use Rattle.ft_store.proofs.Texts.{docids_text}
-use Rattle.ft_store.proofs.TextLemmas.{docids_plain}
+use Rattle.ft_store.proofs.TextLemmas.{docids_means}
 use Rattle.ft_store.proofs.FoundNumbers.{numbers_in}
 use Rattle.ft_store.proofs.DocidLemmas.{docids_shown}
 use Rattle.ft_store.proofs.AskedLemmas.{docids_blamed}
 use Rattle.ft_store.proofs.store.Store.docids.Goals as goal
 
 pub select-requires : goal.select-requires
-select-requires g c = record { settled = c.self.invariant.settled; shown = λ clean is_open. subst (λ s. IsPlain (understood s docids_text)) (sym (c.self.invariant.store clean is_open).schema) docids_plain }
+select-requires g c = record { settled = c.self.invariant.settled; shown = λ clean is_open. subst (λ s. IsPlain (understood s docids_text)) (sym (c.self.invariant.store clean is_open).schema) docids_means.plain }
 
 pub returns-clause-rows : goal.returns-clause-rows
 returns-clause-rows g c = λ clean.

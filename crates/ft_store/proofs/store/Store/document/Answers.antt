@@ -3,13 +3,13 @@ use Rattle.sqlite.specs.Given.{IsPlain}
 use Rattle.sqlite.specs.Listing.{understood}
 use Rattle.sqlite.specs.Held.{state}
 use Rattle.ft_store.proofs.Texts.{document_text}
-use Rattle.ft_store.proofs.TextLemmas.{document_plain}
+use Rattle.ft_store.proofs.TextLemmas.{document_means}
 use Rattle.ft_store.proofs.AnswerLemmas.{document_shown}
 use Rattle.ft_store.proofs.AskedLemmas.{document_blamed}
 use Rattle.ft_store.proofs.store.Store.document.Goals as goal
 
 pub select-requires : goal.select-requires
-select-requires g c = record { settled = c.self.invariant.settled; shown = λ clean is_open. subst (λ s. IsPlain (understood s document_text)) (sym (c.self.invariant.store clean is_open).schema) document_plain }
+select-requires g c = record { settled = c.self.invariant.settled; shown = λ clean is_open. subst (λ s. IsPlain (understood s document_text)) (sym (c.self.invariant.store clean is_open).schema) document_means.plain }
 
 pub returns-clause-rows : goal.returns-clause-rows
 returns-clause-rows g c = λ clean.

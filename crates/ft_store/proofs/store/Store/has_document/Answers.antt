@@ -3,14 +3,14 @@ use Rattle.sqlite.specs.Given.{IsPlain}
 use Rattle.sqlite.specs.Listing.{understood}
 use Rattle.sqlite.specs.Held.{state}
 use Rattle.ft_store.proofs.Texts.{has_document_text}
-use Rattle.ft_store.proofs.TextLemmas.{has_document_plain}
+use Rattle.ft_store.proofs.TextLemmas.{has_document_means}
 use Rattle.ft_store.proofs.FoundNumbers.{some_number}
 use Rattle.ft_store.proofs.DocidLemmas.{some_row, document_found}
 use Rattle.ft_store.proofs.AskedLemmas.{has_document_blamed}
 use Rattle.ft_store.proofs.store.Store.has_document.Goals as goal
 
 pub select-requires : goal.select-requires
-select-requires g c = record { settled = c.self.invariant.settled; shown = λ clean is_open. subst (λ s. IsPlain (understood s has_document_text)) (sym (c.self.invariant.store clean is_open).schema) has_document_plain }
+select-requires g c = record { settled = c.self.invariant.settled; shown = λ clean is_open. subst (λ s. IsPlain (understood s has_document_text)) (sym (c.self.invariant.store clean is_open).schema) has_document_means.plain }
 
 pub returns-clause-there : goal.returns-clause-there
 returns-clause-there g c = λ clean.

@@ -4,14 +4,14 @@ use Rattle.sqlite.specs.Given.{IsPlain}
 use Rattle.sqlite.specs.Listing.{understood}
 use Rattle.sqlite.specs.Held.{state}
 use Rattle.ft_store.proofs.Texts.{last_text}
-use Rattle.ft_store.proofs.TextLemmas.{last_plain}
+use Rattle.ft_store.proofs.TextLemmas.{last_means}
 use Rattle.ft_store.proofs.LastLemmas.{last_shown}
 use Rattle.ft_store.proofs.FoundNumbers.{first_number}
 use Rattle.ft_store.proofs.AskedLemmas.{last_blamed}
 use Rattle.ft_store.proofs.store.Store.last_docid.Goals as goal
 
 pub select-requires : goal.select-requires
-select-requires g c = record { settled = c.self.invariant.settled; shown = λ clean is_open. subst (λ s. IsPlain (understood s last_text)) (sym (c.self.invariant.store clean is_open).schema) last_plain }
+select-requires g c = record { settled = c.self.invariant.settled; shown = λ clean is_open. subst (λ s. IsPlain (understood s last_text)) (sym (c.self.invariant.store clean is_open).schema) last_means.plain }
 
 pub returns-clause-last : goal.returns-clause-last
 returns-clause-last g c = λ clean.

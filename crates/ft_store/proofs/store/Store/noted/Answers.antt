@@ -4,13 +4,13 @@ use Rattle.sqlite.specs.Listing.{understood}
 use Rattle.sqlite.specs.Held.{state}
 use Rattle.ft_rows.specs.Store.{name_cmp}
 use Rattle.ft_store.proofs.Texts.{noted_text}
-use Rattle.ft_store.proofs.TextLemmas.{noted_plain}
+use Rattle.ft_store.proofs.TextLemmas.{noted_means}
 use Rattle.ft_store.proofs.AnswerLemmas.{noted_shown, all_kept}
 use Rattle.ft_store.proofs.AskedLemmas.{noted_blamed}
 use Rattle.ft_store.proofs.store.Store.noted.Goals as goal
 
 pub select-requires : goal.select-requires
-select-requires g c = record { settled = c.self.invariant.settled; shown = λ clean is_open. subst (λ s. IsPlain (understood s noted_text)) (sym (c.self.invariant.store clean is_open).schema) noted_plain }
+select-requires g c = record { settled = c.self.invariant.settled; shown = λ clean is_open. subst (λ s. IsPlain (understood s noted_text)) (sym (c.self.invariant.store clean is_open).schema) noted_means.plain }
 
 pub returns-clause-rows : goal.returns-clause-rows
 returns-clause-rows g c = λ clean.

@@ -1,9 +1,0 @@
--- the changes so far, and those of the sizes that are left
-use Rattle.std.proofs.Common.{◌≡◌, ◌++◌, map}
-use Rattle.ft_rows.specs.Store.{column_key_cmp}
-use Rattle.ft_rows.specs.Changes.{shown_change}
-use Rattle.ft_documents.specs.RewriteRows as rows
-use Rattle.ft_documents.proofs.document_index.DocumentIndex.drop_sizes.Given as goal
-
-abbrev pub invariant-loop-key : goal.invariant-loop-key
-invariant-loop-key l = map shown_change l.changes.items ++ rows.dropped_sizes l.tab (rows.gone column_key_cmp l.key-iterator l.new.entries) ≡ map shown_change l.fn.changes.items ++ rows.dropped_sizes l.tab (rows.gone column_key_cmp (rows.sizes_in l.self) l.new.entries)

@@ -1,0 +1,67 @@
+-- Steps. What the statements that change rows make of a store, and what a function of a transaction
+-- makes of it that runs them.
+use Rattle.std.specs.Prelude.{◌≢◌, ◌⊎◌, ℕ, List, Result, Ok, Err, IsTrue}
+use Rattle.std.specs.Borrow.{MutBor}
+use Rattle.sqlite.specs.Order.{Row}
+use Rattle.sqlite.specs.Tree.{Trees}
+use Rattle.sqlite.specs.State.{ExecutesInside}
+use Rattle.sqlite.specs.Store.{Ghosts}
+use Rattle.sqlite.specs.Held.{Held, state}
+use Rattle.sqlite.specs.declared.error.Error.{Error}
+use Rattle.sqlite.specs.declared.error.Error.TheVariants.{SqliteFailure}
+use Rattle.sqlite.specs.declared.error.ErrorCode.TheVariants as code
+use Rattle.ft_rows.specs.Store.{StoreValue}
+use Rattle.ft_store.specs.declared.fault.StoreFault.{StoreFault}
+use Rattle.ft_store.specs.Rows.{value_of}
+use Rattle.ft_store.specs.Calls.{IsStore, Steps}
+use Rattle.ft_store.specs.Blame.{IsBlamed}
+use Rattle.ft_store.specs.Inside.{StepsInside, StepsInsideIfOpen}
+use Rattle.ft_store.specs.Puts.{IsFull, IsTooBig, AreGrown, KeepsRest, GrowsOnOk, GrowsIfOpen, BlamesRows, BlamesIfOpen}
+
+-- the statement is refused, and not for want of memory
+abbrev pub FailsInside : {S : Type 0} → Ghosts S → Held S → Held S → List ℕ → Row → Type 0
+FailsInside g old new sql params = (e : Error) × (e ≢ SqliteFailure code.OutOfMemory) × ExecutesInside 0 sql params (state g old) (state g new) (Err e)
+
+-- The statement takes rows out of one table of a store, by its tree: where it is done the value
+-- becomes that of `f`, and it is refused only by what lies outside the store.
+pub record TakesRows {S : Type 0} (g : Ghosts S) (sql : List ℕ) (params : Row) (tree : ℕ) (f : StoreValue → StoreValue) : Type 0 where
+  pub done : (old new : Held S) (count : ℕ) → IsStore (state g old).now → ExecutesInside 0 sql params (state g old) (state g new) (Ok count)
+      → Steps (state g old) (state g new) (f (value_of (state g old).now.trees)) × AreGrown 0 (state g old).now.trees (state g new).now.trees
+      × KeepsRest tree (state g old).now.trees (state g new).now.trees
+  pub refused : (old new : Held S) → (IsTrue (state g old).is_open → IsStore (state g old).now) → FailsInside g old new sql params
+      → IsBlamed (state g old) (state g new)
+
+-- Two statements replace a row of one table: the one takes out what has its key, and the other adds
+-- it, unless the table is full or so many values with so many bytes are too big. The value becomes
+-- that of `f`.
+pub record ReplacesRow {S : Type 0} (g : Ghosts S) (drop add : List ℕ) (key row : Row) (tree : ℕ) (f : StoreValue → StoreValue)
+    (values count : ℕ) : Type 0 where
+  pub gone : StoreValue → StoreValue
+  pub takes : TakesRows g drop key tree gone
+  pub adds : (old mid new : Held S) (count : ℕ) → Steps (state g old) (state g mid) (gone (value_of (state g old).now.trees))
+      → ExecutesInside 0 add row (state g mid) (state g new) (Ok count)
+      → Steps (state g old) (state g new) (f (value_of (state g old).now.trees)) × AreGrown 1 (state g mid).now.trees (state g new).now.trees
+      × KeepsRest tree (state g mid).now.trees (state g new).now.trees
+  pub refused : (old mid new : Held S) → Steps (state g old) (state g mid) (gone (value_of (state g old).now.trees))
+      → AreGrown 0 (state g old).now.trees (state g mid).now.trees → FailsInside g mid new add row
+      → IsBlamed (state g mid) (state g new) ⊎ (IsFull 1 ((state g old).now.trees tree) ⊎ IsTooBig values count)
+
+-- What a function of a transaction makes of a store: where it is answered Ok the value becomes that
+-- of `f`, and so many rows were put at most. It is refused only by what lies outside the store, or
+-- for such a reason in the rows that there were before the call.
+pub record Changes {S : Type 0} (g : Ghosts S) (old new : MutBor (Held S)) (result : Result (Unit {0}) StoreFault)
+    (f : StoreValue → StoreValue) (count : ℕ) (Why : Trees → Type 0) : Type 0 where
+  pub done : StepsInside g old new result f
+  pub grown : GrowsOnOk g old.now new.now result count
+  pub refused : BlamesRows g old.now new.now result Why
+
+-- the same, in an open database
+pub record ChangesIfOpen {S : Type 0} (g : Ghosts S) (old new : MutBor (Held S)) (result : Result (Unit {0}) StoreFault)
+    (f : StoreValue → StoreValue) (count : ℕ) (Why : Trees → Type 0) : Type 0 where
+  pub done : StepsInsideIfOpen g old new result f
+  pub grown : GrowsIfOpen g old.now new.now result count
+  pub refused : BlamesIfOpen g old.now new.now result Why
+
+-- rows are taken out, and no table grows
+abbrev pub Drops : {S : Type 0} → Ghosts S → MutBor (Held S) → MutBor (Held S) → Result (Unit {0}) StoreFault → (StoreValue → StoreValue) → Type 0
+Drops g old new result f = Changes g old new result f 0 (λ _. ⊥)
