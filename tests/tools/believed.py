@@ -15,7 +15,7 @@ LAWS = [
     ("choices_of_chain", "crates/ft_query/src/laws.rt", "choices"),
     ("words_by_forms", "crates/shell_text/src/words.rt", "pieces_of"),
     ("dot_words_by_forms", "crates/shell_text/src/dot.rt", "dot_word_chars"),
-    ("statements_by_grammar", "crates/ft_statements/src/laws.rt", "command_of"),
+    ("statements_by_grammar", "crates/ft_statements/src/laws.rt", "spelled_command"),
     ("statements_by_grammar", "crates/ft_statements/src/laws.rt", "class_of"),
     ("dot_lines_by_grammar", "crates/ft_statements/src/laws.rt", "dot_command_of"),
     ("literals_by_marks", "crates/ft_statements/src/laws.rt", "halved"),
