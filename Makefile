@@ -3,9 +3,9 @@
 # `make install` copies the program, its manual and its manual page.
 PREFIX ?= /usr/local
 export RT ?= rt
-# How many checks `make` and `make wrong-bodies` run side by side: one a processor, where 7 GB of memory are free for each. `make test` hands
-# it on only where it is given: by itself `rt ci` gives the processors that no other crate waits for to one proof, and looks at the memory.
-RT_JOBS ?= $(or $(shell RT='$(RT)' tests/gate/jobs),1)
+# How many checks `make` runs side by side: one a processor, where 7 GB of memory are free for each. `make test` hands it on only where it is
+# given: by itself `rt ci` gives the processors that no other crate waits for to one proof, and looks at the memory.
+RT_JOBS ?= $(or $(shell RT='$(RT)' tests/gate/prove --jobs),1)
 # `make wrong-bodies CRATE=ft_line` tries the edits of that crate, whatever is written of it.
 CRATE ?=
 # Flags of the checks by which `make` proves, as `--jobs 1`. Without them `rt` chooses how many processors a check takes.
@@ -48,17 +48,15 @@ test:
 test-all:
 	tests/gate/run --all
 
-# Tries the edits that must fail of the crates where something changed since they were refused, and writes where all were refused; and runs
-# the tests of the script that does so, where it has changed.
+# Tries the edits that must fail of the crates where something changed since they were refused, and writes where all were refused.
 wrong-bodies:
 	@crates="$(or $(CRATE),$$(tests/wrong-bodies --stale))"; [ -z "$$crates" ] || $(side_by_side) $$(printf 'prove-%s ' $$crates)
-	RT_JOBS=$(RT_JOBS) tests/wrong-bodies $(CRATE)
-	! tests/gate/tests --stale || tests/gate/tests
+	tests/wrong-bodies $(CRATE)
 
 install: build
 	mkdir -p "$(DESTDIR)$(PREFIX)/bin" "$(DESTDIR)$(PREFIX)/share/man/man1" "$(DESTDIR)$(PREFIX)/share/doc/ft4sh"
 	cp bin/ft4sh "$(DESTDIR)$(PREFIX)/bin/ft4sh"
-	cp docs/ft4sh.1 "$(DESTDIR)$(PREFIX)/share/man/man1/ft4sh.1"
+	awk -f docs/man.awk docs/MANUAL.md > "$(DESTDIR)$(PREFIX)/share/man/man1/ft4sh.1"
 	cp docs/MANUAL.md docs/FORMATS.md CHANGELOG.md examples/* "$(DESTDIR)$(PREFIX)/share/doc/ft4sh/"
 
 clean:
