@@ -92,16 +92,6 @@ module _ {D : Type 0} (g : disk.Ghosts D) (tells : Bool) where
       others = λ t other a b. second t other ∙ first t other;
     }
 
-    pub plain_refuses : (old mid last new : Names) (why : OpenFault) → (IsTrue tells → Stay old mid) → (IsTrue tells → Stay mid last) → OpensPlainIn g tells path last new (Err why) → OpensBothIn g tells path beside old new (Err why)
-    plain_refuses old mid last new why first second it = record {
-      plain = tt;
-      store = tt;
-      refused = inl it.refused.0;
-      plain_left = λ t. subst (λ b. IsLetGo g b (new path)) (second t path ∙ first t path) (it.refused.1 t);
-      store_left = λ t. inl (it.others t beside swapped ∙ (second t beside ∙ first t beside));
-      others = λ t other a b. it.others t other a ∙ (second t other ∙ first t other);
-    }
-
     pub both_open : (old mid last tables new : Names) (conn : Held (FileStore D g)) (made : StoreState (FileStore D g)) → (IsTrue tells → Stay old mid) → (IsTrue tells → Stay mid last) → OpensPlainIn g tells path last tables (Ok conn) →
         OpensStoreIn g tells beside tables new (Ok made) → OpensBothIn g tells path beside old new (Ok (conn, made))
     both_open old mid last tables new conn made first second it that = record {

@@ -56,11 +56,6 @@ module _ {P : Type 0} (g : Ghosts P) where
       let before = first later.0 in
       (before.0, stays_all_kept (state g a) (state g b) (state g c) before.1.0 later.1)
 
-  pub counted_left : (a b : Held P) {X : Type 0} → IfClean g a b (Stays (state g a) (state g b) × X) → IfClean g a b (CommitsNothing (state g a) (state g b))
-  counted_left a b first clean =
-      let before = first clean in
-      (before.0, stays_all_kept (state g a) (state g b) (state g b) before.1.0 (all_kept (state g b)))
-
   pub nothing_done : (a : Held P) → IfClean g a a (CommitsNothing (state g a) (state g a))
   nothing_done a clean = (clean, all_kept (state g a))
 

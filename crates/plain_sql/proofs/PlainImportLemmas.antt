@@ -106,32 +106,10 @@ runs_split text n records i d row within is =
     ∙ ap (λ rs. map step (map texts_of rs)) (take-append-drop i records)
 
 module _ {P : Type 0} (g : Ghosts P) where
-  pub run_kept : (text : List ℕ) (values : Row) (old new : Held P) (r : Result ℕ Error) {C : Trees → Type 0} → Survives (state g old) (state g new) C → IsInside g old
-      → (HasCleanDisk (state g new) → IsTrue (state g old).in_transaction → ExecutesInside 0 text values (state g old) (state g new) r) → KeepsLast g old new
-  run_kept text values old new r survives inside runs clean =
-      let before = clean_before survives clean in (before, inside_keeps text values (state g old) (state g new) r (runs clean (inside before)))
-
-  pub run_done : (text : List ℕ) (values : Row) (old new : Held P) (count : ℕ) {C : Trees → Type 0} → Survives (state g old) (state g new) C → IsInside g old
-      → (HasCleanDisk (state g new) → IsTrue (state g old).in_transaction → ExecutesInside 0 text values (state g old) (state g new) (Ok count)) → Does g (Run text values) old new
-  run_done text values old new count survives inside runs = (count, λ clean. let before = clean_before survives clean in (before, runs clean (inside before)))
-
-  pub run_inside : (text : List ℕ) (values : Row) (old new : Held P) (count : ℕ) {C : Trees → Type 0} → Survives (state g old) (state g new) C → IsInside g old
-      → (HasCleanDisk (state g new) → IsTrue (state g old).in_transaction → ExecutesInside 0 text values (state g old) (state g new) (Ok count)) → IsInside g new
-  run_inside text values old new count survives inside runs clean = (runs clean (inside (clean_before survives clean))).1.mode
-
   pub run_refused : (text : List ℕ) (values : Row) (old new : Held P) (e : Error) {C : Trees → Type 0} → Survives (state g old) (state g new) C → IsInside g old → is_memory_error e ≡ false
       → (HasCleanDisk (state g new) → IsTrue (state g old).in_transaction → ExecutesInside 0 text values (state g old) (state g new) (Err e)) → IsRefused g (Run text values) old new
   run_refused text values old new e survives inside cause runs =
       record { error = e; cause = cause; refused = λ clean. let before = clean_before survives clean in (before, runs clean (inside before)) }
-
-  pub prepare_done : (text : List ℕ) (old new : Held P) {C : Trees → Type 0} → Survives (state g old) (state g new) C → (HasCleanDisk (state g new) → IsUnchanged (state g old) (state g new)) → Does g (Prepare text) old new
-  prepare_done text old new survives same clean = (clean_before survives clean, same clean)
-
-  pub prepare_inside : (old new : Held P) {C : Trees → Type 0} → Survives (state g old) (state g new) C → IsInside g old → (HasCleanDisk (state g new) → IsUnchanged (state g old) (state g new)) → IsInside g new
-  prepare_inside old new survives inside same clean = (same clean).0.mode ∙ inside (clean_before survives clean)
-
-  pub prepare_kept : (old new : Held P) {C : Trees → Type 0} → Survives (state g old) (state g new) C → (HasCleanDisk (state g new) → IsUnchanged (state g old) (state g new)) → KeepsLast g old new
-  prepare_kept old new survives same clean = (clean_before survives clean, unchanged_keeps (state g old) (state g new) (same clean))
 
   pub prepare_refused : (text : List ℕ) (old new : Held P) (e : Error) {C : Trees → Type 0} → Survives (state g old) (state g new) C → is_memory_error e ≡ false
       → (HasCleanDisk (state g new) → (values : Row) → IsNotRun (state g old) (state g new) text values e) → IsRefused g (Prepare text) old new
