@@ -8,7 +8,7 @@ export RT ?= rt
 RT_JOBS ?= $(or $(shell RT='$(RT)' tests/gate/prove --jobs),1)
 # `make wrong-bodies CRATE=ft_line` tries the edits of that crate, whatever is written of it.
 CRATE ?=
-# Flags of the checks by which `make` proves, as `--jobs 1`. Without them `rt` chooses how many processors a check takes.
+# Flags of the checks by which `make` proves, as `--jobs 1`. Without them a check takes as many processors as there are and memory is free for.
 CHECK_FLAGS ?=
 
 CRATES := $(shell sed -n 's/^\([a-z0-9_]*\):.*/\1/p' crates.txt)
