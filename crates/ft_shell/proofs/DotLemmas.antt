@@ -8,7 +8,7 @@ use Rattle.ft_statements.specs.declared.dots.DotCommand.{DotCommand}
 use Rattle.ft_statements.specs.declared.dots.DotCommand.TheVariants as commands
 use Rattle.ft_statements.specs.declared.dots.Import.{Import}
 use Rattle.ft_statements.specs.Dots as forms
-use Rattle.ft_statements.specs.DotViews.{command_as}
+use Rattle.ft_statements.specs.Views.{command_as}
 use Rattle.ft_shell.specs.DotParts.{Sets}
 use Rattle.shell_io.specs.Sources.{Files}
 use Rattle.shell_io.specs.Outcomes.{Answer, lacks_memory}

@@ -2,7 +2,7 @@
 ghost use Rattle.std.specs.Prelude.{◌≡◌, ◌⊎◌};
 ghost use Rattle.shell_text.specs.Dot.{dot_words_of};
 ghost use Rattle.shell_io.specs.OutputViews.{answer_as};
-ghost use Rattle.ft_statements.specs.DotViews.{command_as};
+ghost use Rattle.ft_statements.specs.Views.{command_as};
 ghost use Rattle.ft_statements.specs.Dots.{dot_command_of};
 ghost use Rattle.shell_io.specs.Outcomes.{lacks_memory};
 ghost use Rattle.ft_shell.specs.Turns.{DotOrLacks};

@@ -2,13 +2,12 @@
 ghost use Rattle.std.specs.Prelude.{◌≡◌, ◌+◌, ◌^◌, ◌<◌, length, map, None, option_map, string_bytes, IfOk};
 ghost use Rattle.std.specs.List.{enumerate_from};
 ghost use Rattle.ft_content.specs.Views.{shown_info};
-ghost use Rattle.ft_statements.specs.DotViews.{import_as};
 ghost use Rattle.ft_shell.specs.ImportTurns.{width_in, TextImport, IntoNamed, IntoNew, PlainImport};
 ghost use Rattle.ft_shell.specs.DotTurns.{DotTurn};
 ghost use Rattle.ft_shell.specs.Shell.{shell_of};
 ghost use Rattle.ft_statements.specs.Dots.{Importing};
 ghost use Rattle.shell_io.specs.OutputViews.{answer_as};
-ghost use Rattle.ft_statements.specs.Views.{texts_of};
+ghost use Rattle.ft_statements.specs.Views.{import_as, texts_of};
 ghost use Rattle.ft_values.specs.Cells.{shown_value};
 ghost use Rattle.ft_content.specs.Command.{Insert};
 ghost use Rattle.ft_content.specs.Views as views;

@@ -35,9 +35,6 @@ columns_more [] argument = refl
 columns_more (Setting name value ∷ more) argument = columns_more more argument
 columns_more (Column name ∷ more) argument = ap (λ s. name ∷ s) (columns_more more argument)
 
-abbrev pub two_texts : String Global × String Global → List ℕ × List ℕ
-two_texts s = (string_bytes s.0, string_bytes s.1)
-
 -- those of one argument more
 pub one_setting : (ys : List Code) (y : Code) (a : Argument) → argument_as y ≡ a → settings_in (map argument_as (ys ++ y ∷ [])) ≡ settings_in (map argument_as ys) ++ settings_in (a ∷ [])
 one_setting ys y a is =

@@ -1,9 +1,12 @@
 -- A dot line is read as its grammar says.
-use Rattle.std.proofs.Common.{◌≡◌, inl, inr, ℕ, Bool, true, false, cond, List, [], ◌∷◌, Option, Some, None, option_map, unwrap_or, refl, sym, ap, ◌∙◌, bytes_eq}
+use Prim.Native.String.{String}
+use Rattle.std.proofs.Common.{◌≡◌, inl, inr, ℕ, Bool, true, false, cond, List, [], ◌∷◌, Option, Some, None, option_map, unwrap_or, Result, Ok, Err, IfOk, refl, sym, ap, ◌∙◌, codes}
 use Rattle.std.proofs.lemmas.Slice.Eq.{bytes_eq-Decides}
+use Rattle.ft_statements.specs.declared.dots.DotCommand.{DotCommand as Code}
 use Rattle.ft_statements.specs.Forms.{Form, means, one, ends, ◌&◌, ◌·◌, Has}
-use Rattle.ft_statements.specs.Reading.{FrontRead, ◌>>=◌, one_at, end_at, onto_read, found, read}
-use Rattle.ft_statements.specs.Dots.{DotCommand, Row, rows, Usage, SaysRow, SaysIn, Says, said_in, dot_command_of, all_words, files, file_named, options, Import, import, import_of}
+use Rattle.ft_statements.specs.Reading.{FrontRead, ◌>>=◌, onto_read, found, read}
+use Rattle.ft_statements.specs.Dots.{DotCommand, Row, dot_row, rows, Usage, SaysRow, SaysIn, Says, said_in, dot_command_of, is_exact, any_word, all_words, files, file_named, options, Import, import}
+use Rattle.ft_statements.specs.Views.{command_as, IsSaid}
 use Rattle.ft_statements.proofs.FormLaw.{none_or, found_sound, found_complete}
 
 -- ---- the law
@@ -14,34 +17,35 @@ whole_sound form = found_sound (form · ends) λ ts x rest has. has.3.1
 whole_complete : (form : Form (List ℕ) DotCommand) (words : List (List ℕ)) (c : DotCommand) → Has (form · ends) words c [] → found (read (form · ends) words) ≡ Some c
 whole_complete form words c = found_complete (form · ends) words c []
 
-row_sound : (r : Row) (words : List (List ℕ)) (c : DotCommand) → unwrap_or (found (read (r.form · ends) words)) (Usage r.usage) ≡ c → SaysRow r words c
-row_sound r words c e = by_read (found (read (r.form · ends) words)) refl e where
-  by_read : (o : Option DotCommand) → found (read (r.form · ends) words) ≡ o → unwrap_or o (Usage r.usage) ≡ c → SaysRow r words c
-  by_read (Some d) is e1 = inl (whole_sound r.form words c (is ∙ ap Some e1))
-  by_read None is e1 = inr ((λ d has. let some = whole_complete r.form words d has in cc), sym e1)
+-- what a row makes of words
+abbrev row_says : String → Form (List ℕ) DotCommand → List (List ℕ) → DotCommand
+row_says usage form words = unwrap_or (found (read (form · ends) words)) (Usage (codes usage))
 
-row_complete : (r : Row) (words : List (List ℕ)) (c : DotCommand) → SaysRow r words c → unwrap_or (found (read (r.form · ends) words)) (Usage r.usage) ≡ c
-row_complete r words c (inl has) = ap (λ o. unwrap_or o (Usage r.usage)) (whole_complete r.form words c has)
-row_complete r words c (inr (never, is)) =
-    ap (λ o. unwrap_or o (Usage r.usage)) (none_or (found (read (r.form · ends) words)) λ d some. never d (whole_sound r.form words d some)) ∙ sym is
+row_sound : (usage : String) (form : Form (List ℕ) DotCommand) (words : List (List ℕ)) (c : DotCommand) → row_says usage form words ≡ c → SaysRow usage form words c
+row_sound usage form words c e = by_read (found (read (form · ends) words)) refl e where
+  by_read : (o : Option DotCommand) → found (read (form · ends) words) ≡ o → unwrap_or o (Usage (codes usage)) ≡ c → SaysRow usage form words c
+  by_read (Some d) is e1 = inl (whole_sound form words c (is ∙ ap Some e1))
+  by_read None is e1 = inr ((λ d has. let some = whole_complete form words d has in cc), sym e1)
 
--- the row that is taken
-abbrev chosen : Bool → Row → List {1} Row → List ℕ → List (List ℕ) → DotCommand
-chosen b r rs name words = cond b (unwrap_or (found (read (r.form · ends) words)) (Usage r.usage)) (said_in rs name words)
+row_complete : (usage : String) (form : Form (List ℕ) DotCommand) (words : List (List ℕ)) (c : DotCommand) → SaysRow usage form words c → row_says usage form words ≡ c
+row_complete usage form words c (inl has) = ap (λ o. unwrap_or o (Usage (codes usage))) (whole_complete form words c has)
+row_complete usage form words c (inr (never, is)) =
+    ap (λ o. unwrap_or o (Usage (codes usage))) (none_or (found (read (form · ends) words)) λ d some. never d (whole_sound form words d some)) ∙ sym is
 
 in_sound : (rs : List {1} Row) (name : List ℕ) (words : List (List ℕ)) (c : DotCommand) → said_in rs name words ≡ c → SaysIn rs name words c
 in_sound [] name words c e = sym e
-in_sound (r ∷ rs) name words c e = by_test (in_sound rs name words c) (bytes_eq name r.name) refl e where
-  by_test : (said_in rs name words ≡ c → SaysIn rs name words c) → (b : Bool) → bytes_eq name r.name ≡ b → chosen b r rs name words ≡ c → SaysIn (r ∷ rs) name words c
-  by_test later true is e1 = inl ((bytes_eq-Decides name r.name).0 is, row_sound r words c e1)
-  by_test later false other e1 = inr ((λ same. let is = (bytes_eq-Decides name r.name).1 same in cc), later e1)
+in_sound (dot_row own usage form ∷ rs) name words c e = by_test (in_sound rs name words c) (is_exact own name) refl e where
+  by_test : (said_in rs name words ≡ c → SaysIn rs name words c) → (b : Bool) → is_exact own name ≡ b → cond b (row_says usage form words) (said_in rs name words) ≡ c → SaysIn (dot_row own usage form ∷ rs) name words c
+  by_test later true is e1 = inl ((bytes_eq-Decides name (codes own)).0 is, row_sound usage form words c e1)
+  by_test later false other e1 = inr ((λ same. let is = (bytes_eq-Decides name (codes own)).1 same in cc), later e1)
 
 in_complete : (rs : List {1} Row) (name : List ℕ) (words : List (List ℕ)) (c : DotCommand) → SaysIn rs name words c → said_in rs name words ≡ c
 in_complete [] name words c is = sym is
-in_complete (r ∷ rs) name words c (inl (same, says)) = ap (λ b. chosen b r rs name words) ((bytes_eq-Decides name r.name).1 same) ∙ row_complete r words c says
-in_complete (r ∷ rs) name words c (inr (other, says)) = by_test (bytes_eq name r.name) refl (in_complete rs name words c says) where
-  by_test : (b : Bool) → bytes_eq name r.name ≡ b → said_in rs name words ≡ c → chosen b r rs name words ≡ c
-  by_test true is later = absurd (other ((bytes_eq-Decides name r.name).0 is))
+in_complete (dot_row own usage form ∷ rs) name words c (inl (same, says)) =
+    ap (λ b. cond b (row_says usage form words) (said_in rs name words)) ((bytes_eq-Decides name (codes own)).1 same) ∙ row_complete usage form words c says
+in_complete (dot_row own usage form ∷ rs) name words c (inr (other, says)) = by_test (is_exact own name) refl (in_complete rs name words c says) where
+  by_test : (b : Bool) → is_exact own name ≡ b → said_in rs name words ≡ c → cond b (row_says usage form words) (said_in rs name words) ≡ c
+  by_test true is later = absurd (other ((bytes_eq-Decides name (codes own)).0 is))
   by_test false is later = later
 
 pub line_sound : (words : List (List ℕ)) (c : DotCommand) → dot_command_of words ≡ c → Says words c
@@ -54,10 +58,15 @@ unfolding dot_command_of
 line_complete [] c is = sym is
 line_complete (name ∷ words) c says = in_complete rows name words c says
 
+-- what the read command says
+pub said : {E : Type 0} (words : List (List ℕ)) (result : Result Code E) → IfOk result (λ command. command_as command ≡ dot_command_of words) → IfOk result (IsSaid words)
+said words (Ok command) is = record { command = is; says = line_sound words (command_as command) (sym is) }
+said words (Err fault) is = tt
+
 -- ---- what the code reads
 
 abbrev at_end : {A : Type 0} → A × List (List ℕ) → FrontRead (List ℕ) A
-at_end r = end_at r.1 >>= λ s. Some (r.0, s.1)
+at_end r = read ends r.1 >>= λ s. Some (r.0, s.1)
 
 -- what was read, where nothing is left
 abbrev ended : {A : Type 0} → FrontRead (List ℕ) A → Option A
@@ -111,7 +120,7 @@ abbrev paired : List ℕ → List ℕ → List ℕ × List ℕ
 paired file table = (file, table)
 
 abbrev next : {A : Type 0} → (List ℕ → A) × List (List ℕ) → FrontRead (List ℕ) A
-next r = one_at Some r.1 >>= λ s. Some (r.0 s.0, s.1)
+next r = read any_word r.1 >>= λ s. Some (r.0 s.0, s.1)
 
 pub files_are : (words : List (List ℕ)) → found (read (files · ends) words) ≡ files_in words
 unfolding files
@@ -124,6 +133,9 @@ files_are (file ∷ rest) = by_name rest (file_named file) where
   by_name (t ∷ []) (Some x) = refl
   by_name (t ∷ u ∷ us) None = refl
   by_name (t ∷ u ∷ us) (Some x) = refl
+
+abbrev import_of : Bool × Option ℕ → List ℕ × List ℕ → Import
+import_of options files = record { csv = options.0; skip = options.1; file = files.0; table = files.1 }
 
 abbrev named : Bool × Option ℕ → List ℕ × List ℕ → Option Import
 named options names = Some (import_of options names)

@@ -1,8 +1,9 @@
 -- What is read by a form is what has it, for all forms.
-use Rattle.std.proofs.Common.{◌≡◌, inl, inr, ℕ, zero, suc, ◌+◌, ◌≤◌, ◌<◌, Bool, true, false, cond, List, [], ◌∷◌, ◌++◌, length, Option, Some, None, refl, sym, ap, ◌∙◌, subst, arith, append_assoc, length-append}
+use Rattle.std.proofs.Common.{◌≡◌, inl, inr, ℕ, zero, suc, ◌+◌, ◌-◌, ◌≤◌, ◌<◌, Bool, true, false, cond, ◌&&◌, ◌==◌, List, [], ◌∷◌, ◌++◌, length, drop, Option, Some, None, refl, sym, ap, ◌∙◌, subst, arith, append_assoc, length-append}
+use Rattle.std.proofs.Math.Dec.{eqb-suc-zero}
 use Rattle.std.specs.Option.{option_or}
-use Rattle.ft_statements.specs.Forms.{Mark, Opens, Closes, Parts, Other, Form, means, one, ends, ◌&◌, ◌·◌, such, when, first, list, balanced, begins, Separated, last_part, then_comma, IsBalanced, no_word, any_word, any_part, group, Stops, at_end, at_close, at_part, Has}
-use Rattle.ft_statements.specs.Reading.{FrontRead, ◌>>=◌, onto_read, one_at, end_at, list_behind, list_at, balanced_step, balanced_at, read, found}
+use Rattle.ft_statements.specs.Forms.{Mark, Opens, Closes, Parts, Other, Form, means, one, ends, ◌&◌, ◌·◌, such, when, first, list, balanced, begins, Separated, last_part, then_comma, IsBalanced, no_word, any_word, any_part, group, ends_part, Stops, Has}
+use Rattle.ft_statements.specs.Reading.{FrontRead, ◌>>=◌, onto_read, list_at, depth_after, balanced_at, read, found}
 
 -- ---- steps one after the other
 
@@ -45,20 +46,20 @@ means_read x = record {
 
 one_read : {W A : Type 0} (f : W → Option A) → IsRead (one f)
 one_read {W} {A} f = record { sound = sound; complete = complete; within = λ ts y rest has. omega (arith, ap length has.1) } where
-  sound : (ts : List W) (x : A) (rest : List W) → one_at f ts ≡ Some (x, rest) → (t : W) × (ts ≡ t ∷ rest) × (f t ≡ Some x)
+  sound : (ts : List W) (x : A) (rest : List W) → read (one f) ts ≡ Some (x, rest) → (t : W) × (ts ≡ t ∷ rest) × (f t ≡ Some x)
   sound [] x rest e = cc
   sound (t ∷ ts) x rest e = bound (f t) _ e λ y is e1. finally (λ r. (u : W) × (t ∷ ts ≡ u ∷ r.1) × (f u ≡ Some r.0)) (t, refl, is) e1
 
-  complete : (ts : List W) (x : A) (rest : List W) → (t : W) × (ts ≡ t ∷ rest) × (f t ≡ Some x) → one_at f ts ≡ Some (x, rest)
-  complete ts x rest has = ap (one_at f) has.1 ∙ goes_on _ has.2 refl
+  complete : (ts : List W) (x : A) (rest : List W) → (t : W) × (ts ≡ t ∷ rest) × (f t ≡ Some x) → read (one f) ts ≡ Some (x, rest)
+  complete ts x rest has = ap (read (one f)) has.1 ∙ goes_on _ has.2 refl
 
 ends_read : {W : Type 0} → IsRead {W = W} ends
 ends_read {W} = record {
   sound = sound;
-  complete = λ ts x rest has. ap end_at has.0 ∙ ap (λ us. Some (tt, us)) (sym has.1);
+  complete = λ ts x rest has. ap (read ends) has.0 ∙ ap (λ us. Some (tt, us)) (sym has.1);
   within = λ ts x rest has. omega (arith, ap length has.1);
 } where
-  sound : (ts : List W) (x : Unit {0}) (rest : List W) → end_at ts ≡ Some (x, rest) → (ts ≡ []) × (rest ≡ [])
+  sound : (ts : List W) (x : Unit {0}) (rest : List W) → read ends ts ≡ Some (x, rest) → (ts ≡ []) × (rest ≡ [])
   sound [] x rest e = (refl, sym (ap (λ r. r.1) (some_inj e)))
   sound (t ∷ ts) x rest e = cc
 
@@ -125,21 +126,16 @@ list_read : {W A : Type 0} (comma : W → Bool) (p : Form W A) → IsRead p → 
 list_read {W} {A} comma p by_p = record { sound = λ ts xs rest e. sound (length ts + 1) ts xs rest e; complete = λ ts xs rest has. complete (length ts + 1) has (omega arith); within = λ ts xs rest has. within has } where
   sound : (n : ℕ) (ts : List W) (xs : List A) (rest : List W) → list_at comma (read p) n ts ≡ Some (xs, rest) → Separated comma (Has p) ts xs rest
   sound zero ts xs rest e = cc
-  sound (suc n) ts xs rest e = bound (read p ts) _ e λ r is e1. behind (λ us ys left found. sound n us ys left found) r.0 r.1 (by_p.sound ts r.0 r.1 is) e1 where
-    behind : ((us : List W) (ys : List A) (left : List W) → list_at comma (read p) n us ≡ Some (ys, left) → Separated comma (Has p) us ys left) → (x : A) (us : List W) → Has p ts x us → list_behind comma (list_at comma (read p) n) x us ≡ Some (xs, rest) → Separated comma (Has p) ts xs rest
-    behind later x [] has e1 = finally (λ r. Separated comma (Has p) ts r.0 r.1) (last_part has refl) e1
-    behind later x (t ∷ us) has e1 = by_test (comma t) refl e1 where
-      by_test : (b : Bool) → comma t ≡ b → cond b (onto_read x (list_at comma (read p) n us)) (Some (x ∷ [], t ∷ us)) ≡ Some (xs, rest) → Separated comma (Has p) ts xs rest
-      by_test true is e2 = from_onto (Separated comma (Has p) ts) x _ e2 λ ys found. then_comma has is (later us ys rest found)
-      by_test false is e2 = finally (λ z. Separated comma (Has p) ts z.0 z.1) (last_part has is) e2
-
-  last_behind : (more : List W → FrontRead W (List A)) (x : A) (us : List W) → begins comma us ≡ false → list_behind comma more x us ≡ Some (x ∷ [], us)
-  last_behind more x [] other = refl
-  last_behind more x (t ∷ us) other = ap (λ b. cond b (onto_read x (more us)) (Some (x ∷ [], t ∷ us))) other
+  sound (suc n) ts xs rest e = bound (read p ts) _ e λ r is e1. behind (λ us ys left found. sound n us ys left found) r.0 r.1 (by_p.sound ts r.0 r.1 is) (begins comma r.1) refl e1 where
+    behind : ((us : List W) (ys : List A) (left : List W) → list_at comma (read p) n us ≡ Some (ys, left) → Separated comma (Has p) us ys left) → (x : A) (us : List W) → Has p ts x us →
+        (b : Bool) → begins comma us ≡ b → cond b (onto_read x (list_at comma (read p) n (drop 1 us))) (Some (x ∷ [], us)) ≡ Some (xs, rest) → Separated comma (Has p) ts xs rest
+    behind later x us has false other e1 = finally (λ r. Separated comma (Has p) ts r.0 r.1) (last_part has other) e1
+    behind later x [] has true is e1 = cc
+    behind later x (t ∷ us) has true is e1 = from_onto (Separated comma (Has p) ts) x _ e1 λ ys found. then_comma has is (later us ys rest found)
 
   complete : (n : ℕ) {ts : List W} {xs : List A} {rest : List W} → Separated comma (Has p) ts xs rest → length ts < n → list_at comma (read p) n ts ≡ Some (xs, rest)
   complete zero d h = absurd (omega (arith, h))
-  complete (suc n) (last_part {ts} {rest} {x} has other) h = goes_on _ (by_p.complete ts x rest has) (last_behind _ x rest other)
+  complete (suc n) (last_part {ts} {rest} {x} has other) h = goes_on _ (by_p.complete ts x rest has) (ap (λ b. cond b (onto_read x (list_at comma (read p) n (drop 1 rest))) (Some (x ∷ [], rest))) other)
   complete (suc n) (then_comma {ts} {us} {rest} {t} {x} {xs} has is more) h =
       goes_on _ (by_p.complete ts x (t ∷ us) has)
       (ap (λ b. cond b (onto_read x (list_at comma (read p) n us)) (Some (x ∷ [], t ∷ us))) is ∙ ap (onto_read x) (complete n more (omega (arith, h, by_p.within ts x (t ∷ us) has))))
@@ -179,18 +175,31 @@ record Front {W : Type 0} (mark : W → Mark) (d : ℕ) (ts us rest : List W) : 
 front_on : {W : Type 0} {mark : W → Mark} {d e : ℕ} {t : W} {ts us rest : List W} → Front mark e ts us rest → (Closing mark e us → Closing mark d (t ∷ us)) → Front mark d (t ∷ ts) (t ∷ us) rest
 front_on {t = t} f more = record { are = ap (λ ws. t ∷ ws) f.are; closing = more f.closing; stops = f.stops }
 
+above : (d : ℕ) (b : Bool) → (suc d == 0 && b) ≡ false
+above d b = ap (λ x. x && b) (eqb-suc-zero d)
+
+no_end : (b : Bool) → (b && false) ≡ false
+no_end true = refl
+no_end false = refl
+
+-- a word that doesn't end them goes on
+closing_on : {W : Type 0} {mark : W → Mark} {us : List W} {t : W} (m : Mark) (d : ℕ) → mark t ≡ m → (d == 0 && ends_part m) ≡ false → Closing mark (depth_after m d) us → Closing mark d (t ∷ us)
+closing_on Opens d is goes c = opened is c
+closing_on Closes zero is goes c = cc
+closing_on {mark = mark} {us = us} Closes (suc d) is goes c = let one : suc d - 1 ≡ d = omega arith in one_closed no_word is (subst (λ e. Closing mark e us) one c)
+closing_on Parts zero is goes c = cc
+closing_on Parts (suc d) is goes c = parted is c
+closing_on Other d is goes c = closing_other is c
+
 balanced_sound : {W : Type 0} (mark : W → Mark) (ts : List W) (d : ℕ) (us rest : List W) → balanced_at mark ts d ≡ Some (us, rest) → Front mark d ts us rest
-balanced_sound mark [] zero us rest e = finally (λ r. Front mark zero [] r.0 r.1) (record { are = refl; closing = all_closed no_word; stops = at_end }) e
+balanced_sound mark [] zero us rest e = finally (λ r. Front mark zero [] r.0 r.1) (record { are = refl; closing = all_closed no_word; stops = tt }) e
 balanced_sound mark [] (suc d) us rest e = cc
-balanced_sound {W} mark (t ∷ ts) d us rest e = by_mark (balanced_sound mark ts) (mark t) refl d e where
-  by_mark : ((d : ℕ) (us rest : List W) → balanced_at mark ts d ≡ Some (us, rest) → Front mark d ts us rest) →
-      (m : Mark) → mark t ≡ m → (d : ℕ) → balanced_step m t ts (balanced_at mark ts) d ≡ Some (us, rest) → Front mark d (t ∷ ts) us rest
-  by_mark on Opens is d e = from_onto (Front mark d (t ∷ ts)) t _ e λ vs read. front_on (on (suc d) vs rest read) (opened is)
-  by_mark on Closes is zero e = finally (λ r. Front mark zero (t ∷ ts) r.0 r.1) (record { are = refl; closing = all_closed no_word; stops = at_close ts is }) e
-  by_mark on Closes is (suc d) e = from_onto (Front mark (suc d) (t ∷ ts)) t _ e λ vs read. front_on (on d vs rest read) (one_closed no_word is)
-  by_mark on Parts is zero e = finally (λ r. Front mark zero (t ∷ ts) r.0 r.1) (record { are = refl; closing = all_closed no_word; stops = at_part ts is }) e
-  by_mark on Parts is (suc d) e = from_onto (Front mark (suc d) (t ∷ ts)) t _ e λ vs read. front_on (on (suc d) vs rest read) (parted is)
-  by_mark on Other is d e = from_onto (Front mark d (t ∷ ts)) t _ e λ vs read. front_on (on d vs rest read) (closing_other is)
+balanced_sound {W} mark (t ∷ ts) d us rest e = by_test (balanced_sound mark ts) d (d == 0 && ends_part (mark t)) refl e where
+  by_test : ((d : ℕ) (us rest : List W) → balanced_at mark ts d ≡ Some (us, rest) → Front mark d ts us rest) → (d : ℕ) (b : Bool) → (d == 0 && ends_part (mark t)) ≡ b →
+      cond b (Some ([], t ∷ ts)) (onto_read t (balanced_at mark ts (depth_after (mark t) d))) ≡ Some (us, rest) → Front mark d (t ∷ ts) us rest
+  by_test on d false goes e = from_onto (Front mark d (t ∷ ts)) t _ e λ vs read. front_on (on (depth_after (mark t) d) vs rest read) (closing_on (mark t) d refl goes)
+  by_test on zero true stops e = finally (λ r. Front mark zero (t ∷ ts) r.0 r.1) (record { are = refl; closing = all_closed no_word; stops = stops }) e
+  by_test on (suc d) true stops e = let no = above d (ends_part (mark t)) in cc
 
 -- words put before what is read after them
 abbrev pub all_onto : {W A : Type 0} → List A → FrontRead W (List A) → FrontRead W (List A)
@@ -207,27 +216,33 @@ Deep true zero = ⊥
 Deep true (suc d) = Unit
 Deep false d = Unit
 
+-- such a word is read, and then what is after it
+pub goes : {W : Type 0} (mark : W → Mark) (t : W) (ts : List W) (d : ℕ) (m : Mark) → mark t ≡ m → (d == 0 && ends_part m) ≡ false →
+    balanced_at mark (t ∷ ts) d ≡ onto_read t (balanced_at mark ts (depth_after m d))
+goes mark t ts d m is other =
+    ap (λ m. cond (d == 0 && ends_part m) (Some ([], t ∷ ts)) (onto_read t (balanced_at mark ts (depth_after m d)))) is
+    ∙ ap (λ b. cond b (Some ([], t ∷ ts)) (onto_read t (balanced_at mark ts (depth_after m d)))) other
+
 balanced_through : {W : Type 0} {mark : W → Mark} {inside : Bool} {us : List W} → IsBalanced mark inside us → (d : ℕ) → Deep inside d → (rest : List W) →
     balanced_at mark (us ++ rest) d ≡ all_onto us (balanced_at mark rest d)
 balanced_through no_word d deep rest = refl
 balanced_through {mark = mark} (any_word {inside} {t} {ts} is b) d deep rest =
-    ap (λ m. balanced_step m t (ts ++ rest) (balanced_at mark (ts ++ rest)) d) is ∙ ap (onto_read t) (balanced_through b d deep rest)
+    goes mark t (ts ++ rest) d Other is (no_end (d == 0)) ∙ ap (onto_read t) (balanced_through b d deep rest)
 balanced_through (any_part {t} {ts} is b) zero deep rest = absurd deep
 balanced_through {mark = mark} (any_part {t} {ts} is b) (suc d) deep rest =
-    ap (λ m. balanced_step m t (ts ++ rest) (balanced_at mark (ts ++ rest)) (suc d)) is ∙ ap (onto_read t) (balanced_through b (suc d) tt rest)
+    goes mark t (ts ++ rest) (suc d) Parts is (above d true) ∙ ap (onto_read t) (balanced_through b (suc d) tt rest)
 balanced_through {mark = mark} (group {inside} {left} {us} {ts} is b right closes more) d deep rest =
-    let words = us ++ right ∷ ts in
-    ap (λ m. balanced_step m left (words ++ rest) (balanced_at mark (words ++ rest)) d) is
+    let one : suc d - 1 ≡ d = omega arith in
+    goes mark left ((us ++ right ∷ ts) ++ rest) d Opens is (no_end (d == 0))
     ∙ ap (λ ws. onto_read left (balanced_at mark ws (suc d))) (append_assoc us (right ∷ ts) rest)
     ∙ ap (onto_read left) (balanced_through b (suc d) tt (right ∷ ts ++ rest))
-    ∙ ap (λ m. onto_read left (all_onto us (balanced_step m right (ts ++ rest) (balanced_at mark (ts ++ rest)) (suc d)))) closes
-    ∙ ap (λ o. onto_read left (all_onto us (onto_read right o))) (balanced_through more d deep rest)
+    ∙ ap (λ o. onto_read left (all_onto us o)) (goes mark right (ts ++ rest) (suc d) Closes closes (above d true))
+    ∙ ap (λ o. onto_read left (all_onto us (onto_read right o))) (ap (balanced_at mark (ts ++ rest)) one ∙ balanced_through more d deep rest)
     ∙ ap (onto_read left) (sym (onto_all us right ts (balanced_at mark rest d)))
 
-stopped : {W : Type 0} {mark : W → Mark} {rest : List W} → Stops mark rest → balanced_at mark rest zero ≡ Some ([], rest)
-stopped at_end = refl
-stopped {mark = mark} (at_close {t} ts is) = ap (λ m. balanced_step m t ts (balanced_at mark ts) zero) is
-stopped {mark = mark} (at_part {t} ts is) = ap (λ m. balanced_step m t ts (balanced_at mark ts) zero) is
+stopped : {W : Type 0} (mark : W → Mark) (rest : List W) → Stops mark rest → balanced_at mark rest zero ≡ Some ([], rest)
+stopped mark [] stops = refl
+stopped mark (t ∷ ts) stops = ap (λ b. cond b (Some ([], t ∷ ts)) (onto_read t (balanced_at mark ts (depth_after (mark t) zero)))) stops
 
 pub all_there : {W A : Type 0} (us : List A) (rest : List W) → all_onto us (Some ([], rest)) ≡ Some (us, rest)
 all_there [] rest = refl
@@ -242,7 +257,7 @@ balanced_read {W} mark = record { sound = sound; complete = complete; within = �
   sound ts us rest e = let f = balanced_sound mark ts zero us rest e in (f.are, closed f.closing, f.stops)
 
   complete : (ts us rest : List W) → (ts ≡ us ++ rest) × IsBalanced mark false us × Stops mark rest → balanced_at mark ts zero ≡ Some (us, rest)
-  complete ts us rest has = ap (λ ws. balanced_at mark ws zero) has.0 ∙ balanced_through has.1 zero tt rest ∙ ap (all_onto us) (stopped has.2) ∙ all_there us rest
+  complete ts us rest has = ap (λ ws. balanced_at mark ws zero) has.0 ∙ balanced_through has.1 zero tt rest ∙ ap (all_onto us) (stopped mark rest has.2) ∙ all_there us rest
 
 -- ---- any form
 

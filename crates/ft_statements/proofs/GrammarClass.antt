@@ -3,12 +3,13 @@ use Rattle.std.proofs.Common.{◌≡◌, ℕ, Bool, true, false, cond, ◌&&◌,
 use Rattle.std.specs.List.{Any, list_any}
 use Rattle.std.specs.Option.{option_map_or}
 use Rattle.std.proofs.lemmas.List.Folds.{Any-from_list_any, list_any-from_Any}
+use Rattle.ft_values.specs.Names.{same_name}
 use Rattle.ft_content.specs.Command.{Command}
 use Rattle.ft_statements.specs.Forms.{Form, Has}
 use Rattle.ft_statements.specs.Words.{Token, spells, is_one_of, name_of}
 use Rattle.ft_statements.specs.Reading.{FrontRead, read}
 use Rattle.ft_statements.specs.Grammar.{words, done, statement, IsStatement}
-use Rattle.ft_statements.specs.Statements.{Class, Plain, FullText, spelled_command, is_named, is_table, names_table, makes_table, is_full_text, class_of, lead_words, IsTable, table_name, IsFullText, makes_virtual, names_one, HasClass, plain_class, full_text_class}
+use Rattle.ft_statements.specs.Statements.{Class, Plain, FullText, spelled_command, is_table, names_table, is_full_text, class_of, lead_words, IsTable, table_name, IsFullText, makes_virtual, names_one, HasClass, plain_class, full_text_class}
 use Rattle.ft_statements.proofs.FormLaw.{law, finally, some_inj, none_or, found_sound, found_complete}
 
 -- ---- statements
@@ -32,13 +33,13 @@ one_statement ts a b d e = some_inj (sym (statement_complete ts a d) ∙ stateme
 
 table_sound : (tables : List (List ℕ)) (t : Token) → is_table tables t ≡ true → IsTable tables t
 table_sound tables t e = by_name (name_of t) refl e where
-  by_name : (o : Option (List ℕ)) → name_of t ≡ o → option_map_or (λ name. list_any (is_named name) tables) o false ≡ true → IsTable tables t
+  by_name : (o : Option (List ℕ)) → name_of t ≡ o → option_map_or (λ name. list_any (λ table. same_name table name) tables) o false ≡ true → IsTable tables t
   by_name None none e1 = cc
-  by_name (Some name) is e1 = table_name is (Any-from_list_any (is_named name) tables e1)
+  by_name (Some name) is e1 = table_name is (Any-from_list_any (λ table. same_name table name) tables e1)
 
 table_complete : {tables : List (List ℕ)} {t : Token} → IsTable tables t → is_table tables t ≡ true
 table_complete {tables} (table_name {t} {name} is any) =
-    ap (λ o. option_map_or (λ name. list_any (is_named name) tables) o false) is ∙ list_any-from_Any (is_named name) tables any
+    ap (λ o. option_map_or (λ name. list_any (λ table. same_name table name) tables) o false) is ∙ list_any-from_Any (λ table. same_name table name) tables any
 
 -- ---- full-text statements
 
@@ -82,6 +83,9 @@ names_complete tables (t ∷ u ∷ us) lead {table} behind is_lead is =
 
 abbrev virtual : Form Token (Unit {0})
 virtual = words (codes "CREATE" ∷ codes "VIRTUAL" ∷ [])
+
+abbrev makes_table : List Token → Bool
+makes_table ts = is_some (read virtual ts)
 
 abbrev there : Bool → Option (Unit {0})
 there b = cond b (Some tt) None

@@ -7,6 +7,5 @@ pub mod StatementRows
 pub mod DotRows
 pub mod TableLemmas
 pub mod GrammarClass
-pub mod DotLemmas
 pub mod DotLaw
 pub mod PlainLaw

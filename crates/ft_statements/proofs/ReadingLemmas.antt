@@ -1,19 +1,18 @@
 -- Words read one after the other.
 use Rattle.std.proofs.Common.{◌≡◌, ℕ, zero, suc, ◌+◌, ◌-◌, ◌<◌, ◌≤◌, Bool, true, false, cond, ◌&&◌, ◌==◌, List, [], ◌∷◌, ◌++◌, length, map, drop, take, get_or, Some, None, refl, sym, ap, ◌∙◌, arith, codes}
 use Rattle.std.proofs.lemmas.List.{drop_more, take_more, drop_all, take_all, map-append, length-drop, length-map}
-use Rattle.std.proofs.lemmas.Bool.Decides.{nat_tests}
 use Rattle.std.specs.Result.{IsErr, IsErrAnd}
 use Rattle.std.specs.Prelude.{Result, Ok, Err}
 use Rattle.ft_statements.specs.declared.statement.StatementFault.{StatementFault}
 use Rattle.ft_statements.specs.declared.statement.StatementFault.TheVariants.{Syntax}
 use Rattle.ft_statements.specs.declared.reading.Reader.{Reader}
-use Rattle.ft_statements.specs.Forms.{Mark, Opens, Closes, Parts, Other, begins}
+use Rattle.ft_statements.specs.Forms.{begins, ends_part}
 use Rattle.ft_statements.specs.Words.{Token, spells}
-use Rattle.ft_statements.specs.Reading.{◌>>=◌, FrontRead, onto_read, list_behind, list_at, balanced_step, balanced_at, depth_after, ends_part, read}
+use Rattle.ft_statements.specs.Reading.{◌>>=◌, FrontRead, onto_read, list_at, balanced_at, depth_after, read}
 use Rattle.ft_statements.specs.Grammar.{spelled, mark_of}
 use Rattle.ft_statements.specs.declared.words.Token.{Token as RustToken}
 use Rattle.ft_statements.specs.Views.{seen, plain, rest_of, Advances}
-use Rattle.ft_statements.proofs.FormLaw.{all_onto, onto_all, all_there, some_inj}
+use Rattle.ft_statements.proofs.FormLaw.{all_onto, onto_all, all_there, some_inj, goes}
 
 -- ---- lists
 
@@ -24,6 +23,10 @@ is_comma t = spells (codes ",") t
 pub at_most : {A : Type 0} (form : List Token → FrontRead Token A) (ps : List RustToken) → list_at is_comma form (length (plain ps) + 1) (plain ps) ≡ list_at is_comma form (length ps + 1) (plain ps)
 at_most form ps = ap (λ n. list_at is_comma form (n + 1) (plain ps)) (length-map ps seen)
 
+-- what is read after a part
+abbrev behind : {A : Type 0} → (List Token → FrontRead Token (List A)) → A × List Token → FrontRead Token (List A)
+behind more r = cond (begins is_comma r.1) (onto_read r.0 (more (drop 1 r.1))) (Some (r.0 ∷ [], r.1))
+
 -- after a comma, the list goes on
 pub list_goes : {A : Type 0} (form : List Token → FrontRead Token A) (n i : ℕ) (found : List A) (ts us rest : List Token) (x : A) (all : List A) → i < n → form ts ≡ Some (x, us) → begins is_comma us ≡ true →
     read (spelled (codes ",")) us ≡ Some (tt, rest) → all ≡ found ++ x ∷ [] → all_onto all (list_at is_comma form (n - (i + 1)) rest) ≡ all_onto found (list_at is_comma form (n - i) ts)
@@ -31,11 +34,11 @@ list_goes form n i found ts [] rest x all h is there passed are = cc
 list_goes form n i found ts (t ∷ us) rest x all h is there passed are =
     let more = list_at is_comma form (n - (i + 1)) in
     let one : suc (n - (i + 1)) ≡ n - i = omega (arith, h) in
-    let behind : us ≡ rest = ap (λ r. r.1) (some_inj (sym (ap (λ b. cond b (Some tt) None >>= λ x. Some (x, us)) there) ∙ passed)) in
+    let same : us ≡ rest = ap (λ r. r.1) (some_inj (sym (ap (λ b. cond b (Some tt) None >>= λ x. Some (x, us)) there) ∙ passed)) in
     ap (λ xs. all_onto xs (more rest)) are ∙ onto_all found x [] (more rest)
-    ∙ ap (λ ws. all_onto found (onto_read x (more ws))) (sym behind)
+    ∙ ap (λ ws. all_onto found (onto_read x (more ws))) (sym same)
     ∙ ap (λ b. all_onto found (cond b (onto_read x (more us)) (Some (x ∷ [], t ∷ us)))) (sym there)
-    ∙ ap (λ o. all_onto found (o >>= λ r. list_behind is_comma more r.0 r.1)) (sym is)
+    ∙ ap (λ o. all_onto found (o >>= behind more)) (sym is)
     ∙ ap (λ m. all_onto found (list_at is_comma form m ts)) one
 
 -- where none stands, it ends
@@ -45,12 +48,9 @@ list_stops form n i found ts us rest x all h is there are left =
     let more = list_at is_comma form (n - (i + 1)) in
     let one : n - i ≡ suc (n - (i + 1)) = omega (arith, h) in
     ap (λ m. all_onto found (list_at is_comma form m ts)) one
-    ∙ ap (λ o. all_onto found (o >>= λ r. list_behind is_comma more r.0 r.1)) is
-    ∙ ap (all_onto found) (last us there)
-    ∙ sym (onto_all found x [] (Some ([], us))) ∙ all_there (found ++ x ∷ []) us ∙ (λ j. Some (sym are j, sym left j)) where
-      last : (us : List Token) → begins is_comma us ≡ false → list_behind is_comma (list_at is_comma form (n - (i + 1))) x us ≡ Some (x ∷ [], us)
-      last [] there = refl
-      last (t ∷ us) there = ap (λ b. cond b (onto_read x (list_at is_comma form (n - (i + 1)) us)) (Some (x ∷ [], t ∷ us))) there
+    ∙ ap (λ o. all_onto found (o >>= behind more)) is
+    ∙ ap (λ b. all_onto found (cond b (onto_read x (more (drop 1 us))) (Some (x ∷ [], us)))) there
+    ∙ sym (onto_all found x [] (Some ([], us))) ∙ all_there (found ++ x ∷ []) us ∙ (λ j. Some (sym are j, sym left j))
 
 onto_none : {A : Type 0} (found : List A) → all_onto found (let none : FrontRead Token (List A) = None in none) ≡ None
 onto_none [] = refl
@@ -61,7 +61,7 @@ pub list_fails : {A : Type 0} (form : List Token → FrontRead Token A) (n i : �
 list_fails form n i found ts h none =
     let more = list_at is_comma form (n - (i + 1)) in
     let one : n - i ≡ suc (n - (i + 1)) = omega (arith, h) in
-    ap (λ m. all_onto found (list_at is_comma form m ts)) one ∙ ap (λ o. all_onto found (o >>= λ r. list_behind is_comma more r.0 r.1)) none ∙ onto_none found
+    ap (λ m. all_onto found (list_at is_comma form m ts)) one ∙ ap (λ o. all_onto found (o >>= behind more)) none ∙ onto_none found
 
 pub list_spent : {A : Type 0} (form : List Token → FrontRead Token A) (n i : ℕ) (found : List A) (ts : List Token) → n ≤ i → all_onto found (list_at is_comma form (n - i) ts) ≡ None
 list_spent form n i found ts h = let none : n - i ≡ 0 = omega (arith, h) in ap (λ m. all_onto found (list_at is_comma form m ts)) none ∙ onto_none found
@@ -72,27 +72,6 @@ one_more shown found more x is = ap (map shown) is ∙ map-append shown found (x
 
 -- ---- any words
 
-step_on : (m : Mark) (t : Token) (ts : List Token) (more : ℕ → FrontRead Token (List Token)) (depth : ℕ) → (depth == 0 && ends_part m) ≡ false → balanced_step m t ts more depth ≡ onto_read t (more (depth_after m depth))
-step_on Opens t ts more depth e = refl
-step_on Closes t ts more zero e = cc
-step_on Closes t ts more (suc depth) e = let one : depth ≡ suc depth - 1 = omega arith in ap (λ d. onto_read t (more d)) one
-step_on Parts t ts more zero e = cc
-step_on Parts t ts more (suc depth) e = refl
-step_on Other t ts more depth e = refl
-
-above : (n : ℕ) (b : Bool) → ¬ ((suc n == 0 && b) ≡ true)
-above n b e = grind (arith, nat_tests, e)
-
-step_out : (m : Mark) (t : Token) (ts : List Token) (more : ℕ → FrontRead Token (List Token)) (depth : ℕ) → (depth == 0 && ends_part m) ≡ true → balanced_step m t ts more depth ≡ Some ([], t ∷ ts)
-step_out Opens t ts more zero e = cc
-step_out Closes t ts more zero e = refl
-step_out Parts t ts more zero e = refl
-step_out Other t ts more zero e = cc
-step_out Opens t ts more (suc depth) e = absurd (above depth false e)
-step_out Closes t ts more (suc depth) e = absurd (above depth true e)
-step_out Parts t ts more (suc depth) e = absurd (above depth true e)
-step_out Other t ts more (suc depth) e = absurd (above depth false e)
-
 -- one more of them
 pub words_more : (ps : List RustToken) (i depth : ℕ) (d : RustToken) → i < length ps → (depth == 0 && ends_part (mark_of (seen (get_or ps i d)))) ≡ false →
     all_onto (plain (take (i + 1) ps)) (balanced_at mark_of (plain (drop (i + 1) ps)) (depth_after (mark_of (seen (get_or ps i d))) depth)) ≡ all_onto (plain (take i ps)) (balanced_at mark_of (plain (drop i ps)) depth)
@@ -101,7 +80,7 @@ words_more ps i depth d h other =
     let more = balanced_at mark_of (plain (drop (i + 1) ps)) in
     ap (λ us. all_onto us (more (depth_after (mark_of t) depth))) (ap plain (take_more ps i d h) ∙ map-append seen (take i ps) (get_or ps i d ∷ []))
     ∙ onto_all (plain (take i ps)) t [] (more (depth_after (mark_of t) depth))
-    ∙ ap (all_onto (plain (take i ps))) (sym (step_on (mark_of t) t (plain (drop (i + 1) ps)) more depth other))
+    ∙ ap (all_onto (plain (take i ps))) (sym (goes mark_of t (plain (drop (i + 1) ps)) depth (mark_of t) refl other))
     ∙ ap (λ qs. all_onto (plain (take i ps)) (balanced_at mark_of (plain qs) depth)) (sym (drop_more ps i d h))
 
 -- the one that stands there ends them
@@ -111,7 +90,7 @@ words_stop ps i depth d h out =
     let t = seen (get_or ps i d) in
     let more = plain (drop (i + 1) ps) in
     ap (λ qs. all_onto (plain (take i ps)) (balanced_at mark_of (plain qs) depth)) (drop_more ps i d h)
-    ∙ ap (all_onto (plain (take i ps))) (step_out (mark_of t) t more (balanced_at mark_of more) depth out)
+    ∙ ap (λ b. all_onto (plain (take i ps)) (cond b (Some ([], t ∷ more)) (onto_read t (balanced_at mark_of more (depth_after (mark_of t) depth))))) out
     ∙ all_there (plain (take i ps)) (t ∷ more)
     ∙ ap (λ qs. Some (plain (take i ps), plain qs)) (sym (drop_more ps i d h) ∙ sym (take_all (length ps - i) (drop i ps) (omega (arith, length-drop i ps))))
 

@@ -1,8 +1,7 @@
 -- Meaning. The arguments of CREATE VIRTUAL TABLE, and what it makes of them ("Creating and
 -- Destroying FTS Tables" of the SQLite document "SQLite FTS3 and FTS4 Extensions").
-use Rattle.std.specs.Prelude.{ℕ, Bool, List, [], ◌∷◌, map, Option, Some, None, codes}
+use Rattle.std.specs.Prelude.{ℕ, List, [], ◌∷◌, map, Option, Some, None, codes}
 use Rattle.std.specs.List.{join_with_byte}
-use Rattle.ft_content.specs.Command.{Command, Create}
 use Rattle.ft_statements.specs.Words.{Token, bare}
 
 -- An argument is an option with its value, or a column.
@@ -19,6 +18,7 @@ abbrev pub tokenizer_of : List Token → Option Argument
 tokenizer_of [] = None
 tokenizer_of (t ∷ ts) = Some (Setting (codes "tokenize") (joined (t ∷ ts)))
 
+-- the options and the columns each keep the order of the arguments
 abbrev pub settings_in : List Argument → List (List ℕ × List ℕ)
 settings_in [] = []
 settings_in (Setting name value ∷ more) = (name, value) ∷ settings_in more
@@ -28,7 +28,3 @@ abbrev pub columns_in : List Argument → List (List ℕ)
 columns_in [] = []
 columns_in (Setting name value ∷ more) = columns_in more
 columns_in (Column name ∷ more) = name ∷ columns_in more
-
--- the options and the columns each keep the order of the arguments
-abbrev pub create_with : Bool → List ℕ → List ℕ → List Argument → Command
-create_with new table kind given = Create table kind (settings_in given) (columns_in given) new

@@ -94,22 +94,14 @@ options = when (is_exact "--csv") (means (λ csv skip. (csv, skip)) & may_csv & 
 unfoldable pub files : Form (List ℕ) (List ℕ × List ℕ)
 files = means (λ file table. (file, table)) & one file_named & any_word
 
-abbrev pub import_of : Bool × Option ℕ → List ℕ × List ℕ → Import
-import_of options files = record { csv = options.0; skip = options.1; file = files.0; table = files.1 }
-
 unfoldable pub import : Form (List ℕ) Import
-import = means import_of & options & files
+import = means (λ options files. record { csv = options.0; skip = options.1; file = files.0; table = files.1 }) & options & files
 
 -- ---- the commands
 
 -- a name, how its command is used, and the form of the words after it
-pub record Row : Type 1 where
-  pub name : List ℕ
-  pub usage : List ℕ
-  pub form : Form (List ℕ) DotCommand
-
-abbrev pub dot_row : String → String → Form (List ℕ) DotCommand → Row
-dot_row name usage form = record { name = codes name; usage = codes usage; form = form }
+pub data Row : Type 1 where
+  dot_row : (name usage : String) (form : Form (List ℕ) DotCommand) → Row
 
 unfoldable pub rows : List {1} Row
 rows =
@@ -128,13 +120,13 @@ rows =
     ∷ []
 
 -- the command that the words after its name make, or how it is used where they make none
-abbrev pub SaysRow : Row → List (List ℕ) → DotCommand → Type 0
-SaysRow r words c = Has (r.form · ends) words c [] ⊎ (((d : DotCommand) → ¬ Has (r.form · ends) words d []) × (c ≡ Usage r.usage))
+abbrev pub SaysRow : String → Form (List ℕ) DotCommand → List (List ℕ) → DotCommand → Type 0
+SaysRow usage form words c = Has (form · ends) words c [] ⊎ (((d : DotCommand) → ¬ Has (form · ends) words d []) × (c ≡ Usage (codes usage)))
 
 -- the first row of this name; nothing is known where there is none
 abbrev pub SaysIn : List {1} Row → List ℕ → List (List ℕ) → DotCommand → Type 0
 SaysIn [] name words c = c ≡ Unknown
-SaysIn (r ∷ rs) name words c = ((name ≡ r.name) × SaysRow r words c) ⊎ ((name ≢ r.name) × SaysIn rs name words c)
+SaysIn (dot_row own usage form ∷ rs) name words c = ((name ≡ codes own) × SaysRow usage form words c) ⊎ ((name ≢ codes own) × SaysIn rs name words c)
 
 -- what a dot line says: nothing without words
 abbrev pub Says : List (List ℕ) → DotCommand → Type 0
@@ -145,7 +137,8 @@ Says (name ∷ words) c = SaysIn rows name words c
 
 abbrev pub said_in : List {1} Row → List ℕ → List (List ℕ) → DotCommand
 said_in [] name words = Unknown
-said_in (r ∷ rs) name words = if bytes_eq name r.name then unwrap_or (found (read (r.form · ends) words)) (Usage r.usage) else said_in rs name words
+said_in (dot_row own usage form ∷ rs) name words =
+    if is_exact own name then unwrap_or (found (read (form · ends) words)) (Usage (codes usage)) else said_in rs name words
 
 unfoldable pub dot_command_of : List (List ℕ) → DotCommand
 dot_command_of [] = Nothing

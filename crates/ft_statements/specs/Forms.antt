@@ -55,11 +55,16 @@ pub data IsBalanced {W : Type 0} (mark : W → Mark) : (inside : Bool) → List 
       mark left ≡ Opens → IsBalanced mark true us → (right : W) → mark right ≡ Closes → IsBalanced mark inside ts →
       IsBalanced mark inside (left ∷ us ++ right ∷ ts)
 
+-- whether a word ends those before it, where no group is open
+abbrev pub ends_part : Mark → Bool
+ends_part Closes = true
+ends_part Parts = true
+ends_part _ = false
+
 -- no word is left, or the next one closes or parts
-pub data Stops {W : Type 0} (mark : W → Mark) : List W → Type 0 where
-  at_end : Stops mark []
-  at_close : {t : W} (ts : List W) → mark t ≡ Closes → Stops mark (t ∷ ts)
-  at_part : {t : W} (ts : List W) → mark t ≡ Parts → Stops mark (t ∷ ts)
+abbrev pub Stops : {W : Type 0} → (W → Mark) → List W → Type 0
+Stops mark [] = Unit {0}
+Stops mark (t ∷ ts) = ends_part (mark t) ≡ true
 
 -- the words have the form at their front, which means this, and these are left
 abbrev pub Has : {W A : Type 0} → Form W A → List W → A → List W → Type 0

@@ -4,15 +4,15 @@
 -- and Destroying FTS Tables", written as in "Populating FTS Tables", and read as in "Simple FTS
 -- Queries". Where one of several forms is read, the first that the words have is taken.
 use Prim.Native.String.{String}
-use Rattle.std.specs.Prelude.{◌≡◌, ℕ, Bool, true, false, List, [], ◌∷◌, Option, Some, None, if◌then◌else◌, codes, ℤ}
+use Rattle.std.specs.Prelude.{ℕ, Bool, true, false, List, [], ◌∷◌, Option, Some, None, if◌then◌else◌, codes, ℤ}
 use Rattle.std.specs.Str.{str_eq_ignore_ascii_case}
 use Rattle.ft_content.specs.Content.{Cell, Null, Int, Text}
-use Rattle.ft_content.specs.Command.{Command, Drop, Insert, Update, Delete, Select, Rebuild, Check, Optimize, Filter, All}
+use Rattle.ft_content.specs.Command.{Command, Create, Drop, Insert, Update, Delete, Select, Rebuild, Check, Optimize, Filter, All}
 use Rattle.ft_content.specs.Command.{Docid, Match, Item, AllColumns, Named, OffsetsOf, Items, Counted, Listed}
 use Rattle.ft_statements.specs.Forms.{Mark, Opens, Closes, Parts, Other, Form, means, one, ends, ◌&◌, ◌·◌, such, when, first, list, balanced, Has}
 use Rattle.ft_statements.specs.Words.{Token, spells, name_of, literal_of}
 use Rattle.ft_statements.specs.Values.{number_of, signed, counted}
-use Rattle.ft_statements.specs.Create.{Argument, Setting, Column, joined, tokenizer_of, create_with}
+use Rattle.ft_statements.specs.Create.{Argument, Setting, Column, joined, tokenizer_of, settings_in, columns_in}
 
 -- ---- single words
 
@@ -117,8 +117,8 @@ arguments = when (spells (codes "(")) (parens (when (spells (codes ")")) (means 
 
 unfoldable pub create : Form Token Command
 create =
-    means create_with · word "CREATE" · word "VIRTUAL" · word "TABLE" & may (codes "IF" ∷ codes "NOT" ∷ codes "EXISTS" ∷ [])
-    & name · word "USING" & name & arguments
+    means (λ new table kind given. Create table kind (settings_in given) (columns_in given) new) · word "CREATE" · word "VIRTUAL" · word "TABLE"
+    & may (codes "IF" ∷ codes "NOT" ∷ codes "EXISTS" ∷ []) & name · word "USING" & name & arguments
 
 -- ---- DROP TABLE [IF EXISTS] name
 

@@ -13,6 +13,3 @@ pub mod Grammar
 -- Steps
 pub mod Reading
 pub mod Views
-pub mod Classes
-pub mod DotViews
-pub mod PlainViews

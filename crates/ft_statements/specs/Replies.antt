@@ -7,8 +7,8 @@ use Rattle.std.specs.Ordering.{nat_cmp}
 use Rattle.std.specs.Cmp.Lexicographic.{slice_cmp}
 use Rattle.shell_text.specs.Print as print
 use Rattle.shell_text.specs.Print.{Settings, PrintedTable, printed}
+use Rattle.ft_values.specs.Names.{same_name}
 use Rattle.ft_content.specs.Content.{Cell, Null, Int, Text}
-use Rattle.ft_statements.specs.Statements.{is_named}
 use Rattle.ft_content.specs.Command.{Grid, Reply, Done, Rows}
 
 -- a cell as a value that is printed
@@ -27,7 +27,7 @@ reply_text settings (Rows grid) = printed settings (printed_table grid)
 
 -- whether one of the full-text tables has this name, in any case of ASCII letters
 abbrev pub is_own : List (List ℕ) → List ℕ → Bool
-is_own tables name = list_any (is_named name) tables
+is_own tables name = list_any (λ table. same_name table name) tables
 
 -- `.tables` lists the full-text tables and the plain ones that were found, but for those that a
 -- full-text table hides

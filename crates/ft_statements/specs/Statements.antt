@@ -13,13 +13,9 @@ use Rattle.ft_statements.specs.Grammar.{words, statement, IsStatement}
 abbrev pub lead_words : List (List ℕ)
 lead_words = codes "FROM" ∷ codes "INTO" ∷ codes "UPDATE" ∷ codes "TABLE" ∷ codes "JOIN" ∷ codes "EXISTS" ∷ []
 
--- the same text, in any case of ASCII letters
-abbrev pub is_named : List ℕ → List ℕ → Bool
-is_named name table = same_name table name
-
--- the name of one of the tables
+-- the name of one of the tables, in any case of ASCII letters
 pub data IsTable (tables : List (List ℕ)) : Token → Type 0 where
-  table_name : {t : Token} {name : List ℕ} → name_of t ≡ Some name → Any (λ table. is_named name table ≡ true) tables → IsTable tables t
+  table_name : {t : Token} {name : List ℕ} → name_of t ≡ Some name → Any (λ table. same_name table name ≡ true) tables → IsTable tables t
 
 -- CREATE VIRTUAL {word} | {word} lead table {word}
 pub data IsFullText (tables : List (List ℕ)) : List Token → Type 0 where
@@ -42,18 +38,15 @@ pub data HasClass (tables : List (List ℕ)) : List Token → Class → Type 0 w
 -- ---- computed
 
 abbrev pub is_table : List (List ℕ) → Token → Bool
-is_table tables t = option_map_or (λ name. list_any (is_named name) tables) (name_of t) false
+is_table tables t = option_map_or (λ name. list_any (λ table. same_name table name) tables) (name_of t) false
 
 abbrev pub names_table : List (List ℕ) → List Token → Bool
 names_table tables [] = false
 names_table tables (t ∷ []) = false
 names_table tables (t ∷ next ∷ more) = (is_one_of lead_words t && is_table tables next) || names_table tables (next ∷ more)
 
-abbrev pub makes_table : List Token → Bool
-makes_table ts = is_some (read (words (codes "CREATE" ∷ codes "VIRTUAL" ∷ [])) ts)
-
 abbrev pub is_full_text : List (List ℕ) → List Token → Bool
-is_full_text tables ts = makes_table ts || names_table tables ts
+is_full_text tables ts = is_some (read (words (codes "CREATE" ∷ codes "VIRTUAL" ∷ [])) ts) || names_table tables ts
 
 unfoldable pub spelled_command : List Token → Option Command
 spelled_command ts = found (read statement ts)

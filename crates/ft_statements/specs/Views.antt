@@ -1,22 +1,30 @@
--- Steps. Words, and what was read of them, as the code holds them.
-use Rattle.std.specs.Prelude.{ℕ, ◌≡◌, ◌≤◌, ◌+◌, Bool, true, false, List, map, Option}
-use Rattle.std.specs.Prelude.{Some, None, Result, option_map, string_bytes, String, Vec, IfOk, OnErr, IsErrOf}
+-- Steps. Words, what was read of them, and classes and commands, as the code holds them.
+use Rattle.std.specs.Prelude.{ℕ, ◌≡◌, Bool, true, false, List, map, Option, Some, None, Result, option_map, string_bytes, String, Vec, IfOk, OnErr, IsErrOf}
 use Rattle.std.specs.declared.alloc.Global.{Global}
 use Rattle.std.specs.Borrow.{Bor}
+use Rattle.ft_content.specs.Views.{command_of}
 use Rattle.ft_statements.specs.declared.words.Token.{Token as RustToken}
 use Rattle.ft_statements.specs.declared.reading.Reader.{Reader}
-use Rattle.ft_statements.specs.declared.statement.StatementFault.{StatementFault}
-use Rattle.ft_statements.specs.declared.statement.StatementFault.TheVariants.{Syntax}
 use Rattle.ft_statements.specs.declared.create.Argument.{Argument}
 use Rattle.ft_statements.specs.declared.create.Argument.TheVariants as arguments
-use Rattle.ft_statements.specs.Words.{Token}
+use Rattle.ft_statements.specs.declared.statement.StatementFault.{StatementFault}
+use Rattle.ft_statements.specs.declared.statement.StatementFault.TheVariants.{Syntax}
+use Rattle.ft_statements.specs.declared.statement.Class.{Class}
+use Rattle.ft_statements.specs.declared.statement.Class.TheVariants as classes
+use Rattle.ft_statements.specs.declared.plain.PlainStatement.{PlainStatement}
+use Rattle.ft_statements.specs.declared.dots.Import.{Import}
+use Rattle.ft_statements.specs.declared.dots.DotCommand.{DotCommand}
+use Rattle.ft_statements.specs.declared.dots.DotCommand.TheVariants as commands
+use Rattle.ft_statements.specs.Words.{Token, token}
 use Rattle.ft_statements.specs.Forms.{Form, begins}
-use Rattle.ft_statements.specs.Reading.{FrontRead, read, depth_after}
-use Rattle.ft_statements.specs.Grammar.{mark_of}
-use Rattle.ft_statements.specs.Create as forms
+use Rattle.ft_statements.specs.Reading.{FrontRead, read}
+use Rattle.ft_statements.specs.Create as makes
+use Rattle.ft_statements.specs.Statements as statements
+use Rattle.ft_statements.specs.Plain as plains
+use Rattle.ft_statements.specs.Dots as dots
 
 abbrev pub seen : RustToken → Token
-seen p = record { kind = p.kind; text = p.text.now }
+seen p = token p.kind p.text.now
 
 abbrev pub plain : List RustToken → List Token
 plain tokens = map seen tokens
@@ -25,34 +33,38 @@ plain tokens = map seen tokens
 abbrev pub rest_of : Reader → List Token
 rest_of reader = plain reader.left.now
 
--- the texts behind references
-abbrev pub each_text : List (Bor (List ℕ)) → List (List ℕ)
-each_text texts = map (λ text. text.now) texts
-
-abbrev pub argument_as : Argument → forms.Argument
-argument_as (arguments.Setting name value) = forms.Setting (string_bytes name) (string_bytes value)
-argument_as (arguments.Column name) = forms.Column (string_bytes name)
-
-abbrev pub settings_as : {A : Type 0} → Vec (String Global × String Global) A → List (List ℕ × List ℕ)
-settings_as settings = map (λ s. (string_bytes s.0, string_bytes s.1)) settings.items
-
 abbrev pub texts_of : {A : Type 0} → Vec (String Global) A → List (List ℕ)
 texts_of texts = map string_bytes texts.items
 
--- options and columns, as those among arguments
-pub record AreSortedOf {A B : Type 0} (all : List forms.Argument) (options : Vec (String Global × String Global) A)
-    (names : Vec (String Global) B) : Type 0 where
-  pub settings : settings_as options ≡ forms.settings_in all
-  pub columns : texts_of names ≡ forms.columns_in all
+abbrev pub argument_as : Argument → makes.Argument
+argument_as (arguments.Setting name value) = makes.Setting (string_bytes name) (string_bytes value)
+argument_as (arguments.Column name) = makes.Column (string_bytes name)
 
--- so many parentheses are open after a word, at most one more than before it
-pub record IsDepthAfter (before : ℕ) (word : Token) (now : ℕ) : Type 0 where
-  pub depth : now ≡ depth_after (mark_of word) before
-  pub most : now ≤ before + 1
+abbrev pub class_as : Class → statements.Class
+class_as classes.Plain = statements.Plain
+class_as (classes.FullText command) = statements.FullText (command_of command)
 
--- a list of names, if there is one
-abbrev pub names_if : {A : Type 0} → Option (Vec (String Global) A) → Option (List (List ℕ))
-names_if names = option_map texts_of names
+abbrev pub import_as : Import → dots.Import
+import_as what = record { csv = what.csv; skip = what.skip; file = string_bytes what.file; table = string_bytes what.table }
+
+abbrev pub command_as : DotCommand → dots.DotCommand
+command_as commands.Nothing = dots.Nothing
+command_as (commands.Mode mode) = dots.SetMode mode
+command_as (commands.Headers shown) = dots.SetHeaders shown
+command_as (commands.Separator text) = dots.SetSeparator (string_bytes text)
+command_as (commands.Null text) = dots.SetNull (string_bytes text)
+command_as (commands.Echo on) = dots.SetEcho on
+command_as (commands.Bail on) = dots.SetBail on
+command_as (commands.Print words) = dots.Print (map string_bytes words.items)
+command_as (commands.Import what) = dots.Importing (import_as what)
+command_as commands.Tables = dots.Tables
+command_as commands.Quit = dots.Quit
+command_as (commands.Usage text) = dots.Usage text.now
+command_as commands.Unknown = dots.Unknown
+
+-- what was read of a dot line, and the words after it
+abbrev pub with_left : {A : Type 0} → A × Bor (List (String Global)) → A × List (List ℕ)
+with_left read = (read.0, map string_bytes read.1.now)
 
 -- ---- what a reader finds, or that there is no such thing; of want of memory nothing is said
 
@@ -78,3 +90,24 @@ pub record Takes (test : Token → Bool) (form : Form Token (Unit {0})) (before 
   pub stands : there ≡ begins test (rest_of before)
   pub passed : there ≡ true → read form (rest_of before) ≡ Some (tt, rest_of after)
   pub stays : there ≡ false → rest_of after ≡ rest_of before
+
+-- ---- what all of the words say
+
+-- the class of a statement, where these full-text tables are there, as it is read and as the
+-- grammar spells it; or it has none
+pub record ReadsClass (tables : List (List ℕ)) (ts : List Token) (result : Result Class StatementFault) : Type 0 where
+  pub class : IfOk result (λ class. statements.class_of tables ts ≡ Some (class_as class))
+  pub syntax : IsErrOf result Syntax → statements.class_of tables ts ≡ None
+  pub spelled : IfOk result (λ class. statements.HasClass tables ts (class_as class))
+  pub unspelled : IsErrOf result Syntax → (class : statements.Class) → ¬ statements.HasClass tables ts class
+
+-- how a plain statement is run, whether it has MATCH, and the name of the table that it makes
+pub record IsRunAs (ts : List Token) (statement : PlainStatement) : Type 0 where
+  pub asks : statement.asks ≡ plains.asks ts
+  pub seeks : statement.seeks ≡ plains.seeks ts
+  pub made : option_map string_bytes statement.made ≡ plains.made_name ts
+
+-- the command that a line's words make, as it is read and as the grammar says
+pub record IsSaid (words : List (List ℕ)) (result : DotCommand) : Type 0 where
+  pub command : command_as result ≡ dots.dot_command_of words
+  pub says : dots.Says words (command_as result)

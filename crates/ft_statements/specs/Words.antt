@@ -1,7 +1,7 @@
 -- Meaning. The words of a statement with their texts: keywords, names, texts and numbers. Names and
 -- literals are those of the SQLite document "SQL Language Expressions" (section "Literal Values
 -- (Constants)") and of its page "SQLite Keywords".
-use Rattle.std.specs.Prelude.{◌≢◌, ℕ, ◌+◌, ◌-◌, Bool, true, false, ◌==◌, ◌&&◌, List, [], ◌∷◌, map, length, take, slice_range, Option}
+use Rattle.std.specs.Prelude.{◌≢◌, ℕ, ◌+◌, ◌-◌, Bool, false, ◌==◌, ◌&&◌, List, [], ◌∷◌, map, length, take, slice_range, Option}
 use Rattle.std.specs.Prelude.{Some, None, if◌then◌else◌, chars, encode_utf8_all}
 use Rattle.std.specs.List.{list_any}
 use Rattle.std.specs.Str.{str_eq_ignore_ascii_case}
@@ -11,26 +11,22 @@ use Rattle.shell_text.specs.declared.words.SqlKind.{SqlKind}
 use Rattle.shell_text.specs.declared.words.SqlKind.TheVariants as kinds
 
 -- a word by its kind, and its bytes with the marks of a literal or a quoted name
-pub record Token : Type 0 where
-  pub kind : SqlKind
-  pub text : List ℕ
+pub data Token : Type 0 where
+  token : (kind : SqlKind) (text : List ℕ) → Token
 
 abbrev pub sql_token : List ℕ → SqlWord → Token
-sql_token text w = record { kind = w.kind; text = slice_range text w.start (w.start + w.size) }
+sql_token text w = token w.kind (slice_range text w.start (w.start + w.size))
 
 -- the words of a statement's text, in order
 abbrev pub sql_tokens : List ℕ → List Token
 sql_tokens text = map (sql_token text) (words_of text)
 
-abbrev pub is_bare : SqlKind → Bool
-is_bare kinds.Word = true
-is_bare kinds.Symbol = true
-is_bare _ = false
-
 -- the word is this keyword, without marks and in any case of ASCII letters, or this single
 -- character ("SQLite Keywords")
 abbrev pub spells : List ℕ → Token → Bool
-spells word t = is_bare t.kind && str_eq_ignore_ascii_case t.text word
+spells word (token kinds.Word text) = str_eq_ignore_ascii_case text word
+spells word (token kinds.Symbol text) = str_eq_ignore_ascii_case text word
+spells word _ = false
 
 -- the word is one of these
 abbrev pub is_one_of : List (List ℕ) → Token → Bool
@@ -64,28 +60,19 @@ abbrev pub without_marks : List ℕ → List ℕ
 without_marks text = encode_utf8_all (between_marks (chars text))
 
 -- the text that a word stands for
-abbrev pub bare_text : SqlKind → List ℕ → List ℕ
-bare_text kinds.Quoted text = without_marks text
-bare_text kinds.Text text = without_marks text
-bare_text _ text = text
-
 abbrev pub bare : Token → List ℕ
-bare t = bare_text t.kind t.text
+bare (token kinds.Quoted text) = without_marks text
+bare (token kinds.Text text) = without_marks text
+bare (token _ text) = text
 
 -- a name is any word without marks, or a quoted one ("SQLite Keywords"; that a keyword may be a
 -- name is an own choice)
-abbrev pub is_name_kind : SqlKind → Bool
-is_name_kind kinds.Word = true
-is_name_kind kinds.Quoted = true
-is_name_kind _ = false
-
 abbrev pub name_of : Token → Option (List ℕ)
-name_of t = if is_name_kind t.kind then Some (bare t) else None
+name_of (token kinds.Word text) = Some text
+name_of (token kinds.Quoted text) = Some (without_marks text)
+name_of _ = None
 
 -- a text stands between single quotes ("Literal Values (Constants)")
-abbrev pub is_literal : SqlKind → Bool
-is_literal kinds.Text = true
-is_literal _ = false
-
 abbrev pub literal_of : Token → Option (List ℕ)
-literal_of t = if is_literal t.kind then Some (bare t) else None
+literal_of (token kinds.Text text) = Some (without_marks text)
+literal_of _ = None

@@ -4,7 +4,7 @@ ghost use Rattle.ft_content.specs.Views as views;
 ghost use Rattle.ft_statements.specs.Create as makes;
 ghost use Rattle.ft_statements.specs.Reading.{read};
 ghost use Rattle.ft_statements.specs.Grammar as forms;
-ghost use Rattle.ft_statements.specs.Views.{plain, argument_as, AreSortedOf, Advances};
+ghost use Rattle.ft_statements.specs.Views.{plain, argument_as, Advances};
 
 use crate::reading::{Reader, Spelled};
 use crate::statement::StatementFault;
@@ -123,8 +123,9 @@ fn sorted(
     alloc: Global,
     arguments: Vec<Argument>,
 ) -> Result<(Vec<(String, String)>, Vec<String>), AllocError>
-    ensures { IfOk result (λ sorted. AreSortedOf (map argument_as arguments.items) sorted.0
-        sorted.1) }
+    ensures { IfOk result (λ sorted.
+        (map views.option_of sorted.0.items ≡ makes.settings_in (map argument_as arguments.items))
+        × (views.names_in sorted.1 ≡ makes.columns_in (map argument_as arguments.items))) }
 {
     let mut options = Vec::new(alloc);
     let mut columns = Vec::new(alloc);

@@ -5,7 +5,7 @@ ghost use Rattle.std.specs.List.{list_all};
 ghost use Rattle.ft_statements.specs.Forms.{means, one, ends, ◌·◌};
 ghost use Rattle.ft_statements.specs.Reading.{found, read};
 ghost use Rattle.ft_statements.specs.Dots as forms;
-ghost use Rattle.ft_statements.specs.DotViews.{command_as, import_as, with_left, IsSaid};
+ghost use Rattle.ft_statements.specs.Views.{command_as, import_as, with_left, IsSaid};
 
 use crate::values::digits_value;
 use shell_text::Mode;

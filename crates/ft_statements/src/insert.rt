@@ -1,10 +1,10 @@
 //! INSERT and the special commands.
-ghost use Rattle.std.specs.Prelude.{◌≡◌, List, string_bytes};
+ghost use Rattle.std.specs.Prelude.{◌≡◌, List, option_map, string_bytes};
 ghost use Rattle.ft_content.specs.Content.{Cell};
 ghost use Rattle.ft_content.specs.Views as views;
 ghost use Rattle.ft_statements.specs.Reading.{read};
 ghost use Rattle.ft_statements.specs.Grammar as forms;
-ghost use Rattle.ft_statements.specs.Views.{names_if, Gives, Advances};
+ghost use Rattle.ft_statements.specs.Views.{texts_of, Gives, Advances};
 
 use crate::reading::{Reader, Spelled};
 use crate::statement::StatementFault;
@@ -50,7 +50,7 @@ fn special(words: &mut Reader<'_>) -> Result<Command, StatementFault>
 // A list of names, if a parenthesis stands there.
 #[tactic(auto, unfolding(crate::specs::Grammar::columns))]
 fn columns(words: &mut Reader<'_>) -> Result<Option<Vec<String>>, StatementFault>
-    ensures { Advances names_if (read forms.columns) words.old words.new result }
+    ensures { Advances (option_map texts_of) (read forms.columns) words.old words.new result }
 {
     if !words.takes("(") {
         return Ok(None);

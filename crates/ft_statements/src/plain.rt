@@ -5,8 +5,7 @@ ghost use Rattle.shell_text.specs.Words.{words_of};
 ghost use Rattle.ft_statements.specs.Words as tokens;
 ghost use Rattle.ft_statements.specs.Reading.{read};
 ghost use Rattle.ft_statements.specs.Plain as forms;
-ghost use Rattle.ft_statements.specs.PlainViews.{IsRunAs};
-ghost use Rattle.ft_statements.specs.Views.{seen, plain, rest_of, Gives};
+ghost use Rattle.ft_statements.specs.Views.{seen, plain, rest_of, Gives, IsRunAs};
 
 use crate::reading::Reader;
 use crate::statement::StatementFault;

@@ -1,12 +1,13 @@
 //! Reading words from the front of a statement.
 ghost use Rattle.std.specs.Prelude.{◌≡◌, ◌≤◌, ◌+◌, ◌-◌, ◌==◌, ◌&&◌, codes, ◌<◌, OnOk, ◌^◌, string_bytes, IfOk, ℕ, List, map, length, Some, Ok, IfErr, Err};
 ghost use Rattle.ft_statements.specs.declared.statement.StatementFault.TheVariants.{Syntax};
-ghost use Rattle.ft_statements.specs.Forms.{Closes, begins, ends};
+ghost use Rattle.ft_statements.specs.Forms.{Closes, one, begins, ends, ends_part};
 ghost use Rattle.ft_statements.specs.Words as words;
 ghost use Rattle.ft_statements.specs.Words.{Token};
-ghost use Rattle.ft_statements.specs.Reading.{FrontRead, read, list_at, one_at, ends_part};
+ghost use Rattle.ft_statements.specs.Reading as reads;
+ghost use Rattle.ft_statements.specs.Reading.{FrontRead, read, list_at};
 ghost use Rattle.ft_statements.specs.Grammar as forms;
-ghost use Rattle.ft_statements.specs.Views.{seen, plain, rest_of, each_text, IsDepthAfter, Advances, Passes, Takes};
+ghost use Rattle.ft_statements.specs.Views.{seen, plain, rest_of, Advances, Passes, Takes};
 
 use crate::statement::StatementFault;
 use crate::words::{Token, is_word, literal_of, name_of};
@@ -82,7 +83,7 @@ impl<'a> Reader<'a> {
 
     // Passes these words, which stand one after the other.
     fn words(&mut self, words: &[&str]) -> Result<(), StatementFault>
-        ensures { Passes (forms.words (each_text words.now)) self.old self.new result }
+        ensures { Passes (forms.words (map (λ w. w.now) words.now)) self.old self.new result }
     {
         let mut ahead = *self;
         for word in words {
@@ -95,14 +96,14 @@ impl<'a> Reader<'a> {
     /// Passes these words if they stand there, and says whether they do.
     pub(crate) fn takes_all(&mut self, words: &[&str]) -> bool
         ensures { Some (result, rest_of self.new)
-            ≡ read (forms.may (each_text words.now)) (rest_of self.old) }
+            ≡ read (forms.may (map (λ w. w.now) words.now)) (rest_of self.old) }
     {
         self.words(words).is_ok()
     }
 
     /// The next word.
     pub(crate) fn next(&mut self) -> Result<&'a Token<'a>, StatementFault>
-        ensures { Advances (λ p. seen p.now) (one_at Some) self.old self.new result }
+        ensures { Advances (λ p. seen p.now) (read (one Some)) self.old self.new result }
     {
         let [first, rest @ ..] = self.left else {
             return Err(StatementFault::Syntax);
@@ -179,7 +180,8 @@ impl<'a> Reader<'a> {
 // How many parentheses are open after a word.
 fn depth_after(depth: usize, word: &Token<'_>) -> usize
     requires { depth < 2 ^ 64 - 1 }
-    ensures { IsDepthAfter depth (seen word.now) result }
+    ensures groups { result ≡ reads.depth_after (forms.mark_of (seen word.now)) depth }
+    ensures most { result ≤ depth + 1 }
 {
     if is_word(word, "(") {
         depth + 1

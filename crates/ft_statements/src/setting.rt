@@ -1,7 +1,7 @@
 //! What dot-commands set and print.
 ghost use Rattle.std.specs.Prelude.{◌≡◌, map, string_bytes, IfOk};
 ghost use Rattle.std.specs.List.{join_with_byte};
-ghost use Rattle.ft_statements.specs.DotViews.{command_as};
+ghost use Rattle.ft_statements.specs.Views.{command_as};
 ghost use Rattle.ft_statements.specs.Settings as forms;
 
 use crate::dots::DotCommand;

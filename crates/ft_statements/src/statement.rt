@@ -1,6 +1,5 @@
 //! Which class a statement is of.
 ghost use Rattle.std.specs.Prelude.{◌≡◌, IfOk};
-ghost use Rattle.std.specs.List.{list_any};
 ghost use Rattle.shell_text.specs.Words.{words_of};
 ghost use Rattle.ft_content.specs.Views as views;
 ghost use Rattle.ft_statements.specs.declared.statement.StatementFault.TheVariants.{Memory};
@@ -8,8 +7,7 @@ ghost use Rattle.ft_statements.specs.Words as tokens;
 ghost use Rattle.ft_statements.specs.Reading.{read};
 ghost use Rattle.ft_statements.specs.Grammar as grammar;
 ghost use Rattle.ft_statements.specs.Statements as forms;
-ghost use Rattle.ft_statements.specs.Views.{seen, plain, rest_of, Gives, Advances};
-ghost use Rattle.ft_statements.specs.Classes.{ReadsClass};
+ghost use Rattle.ft_statements.specs.Views.{seen, plain, rest_of, Gives, Advances, ReadsClass};
 
 use crate::change::{delete, update};
 use crate::create::{create, drop_table};
@@ -18,6 +16,7 @@ use crate::reading::Reader;
 use crate::select::select;
 use crate::words::{Token, is_one_of, name_of, tokens_of};
 use ft_content::{Command, TableInfo};
+use ft_values::has_table;
 use shell_text::SqlWord;
 use std::alloc::{AllocError, AllocFailed, Global};
 use thiserror::Error;
@@ -86,13 +85,6 @@ fn statement(mut words: Reader<'_>) -> Result<Command, StatementFault>
 
 // The words after which a full-text table's name makes a statement full-text.
 const LEADS: [&str; 6] = ["FROM", "INTO", "UPDATE", "TABLE", "JOIN", "EXISTS"];
-
-/// Whether one of these tables has this name.
-pub(crate) fn has_table(tables: &[TableInfo], name: &str) -> bool
-    ensures { result ≡ list_any (forms.is_named name.now) (views.info_names tables.now) }
-{
-    ft_values::has_table(tables, name)
-}
 
 // Whether this word is the name of one of these tables.
 fn is_table(alloc: Global, tables: &[TableInfo], word: &Token<'_>) -> Result<bool, AllocError>

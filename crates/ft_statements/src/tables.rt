@@ -4,9 +4,15 @@ ghost use Rattle.ft_content.specs.Views as views;
 ghost use Rattle.ft_statements.specs.Replies as forms;
 ghost use Rattle.ft_statements.specs.Views.{texts_of};
 
-use crate::statement::has_table;
 use ft_content::TableInfo;
 use std::alloc::{AllocError, Global};
+
+// Whether one of these tables has this name.
+fn has_table(tables: &[TableInfo], name: &str) -> bool
+    ensures { result ≡ forms.is_own (views.info_names tables.now) name.now }
+{
+    ft_values::has_table(tables, name)
+}
 
 // The names of full-text tables.
 fn own_names(alloc: Global, tables: &[TableInfo]) -> Result<Vec<String>, AllocError>

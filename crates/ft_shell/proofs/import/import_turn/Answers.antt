@@ -2,8 +2,7 @@
 use Rattle.std.proofs.Common.{rules, ◌≡◌, ◌+◌, length, map, min, refl, ap, ◌∙◌, subst, inl, inr}
 use Rattle.std.specs.Prelude.{unwrap_or}
 use Rattle.std.specs.List.{enumerate_from}
-use Rattle.ft_statements.specs.DotViews.{import_as}
-use Rattle.ft_statements.specs.Views.{texts_of}
+use Rattle.ft_statements.specs.Views.{import_as, texts_of}
 use Rattle.shell_io.specs.FaultWords.{record_words}
 use Rattle.shell_io.specs.OutputViews.{answer_as}
 use Rattle.shell_io.specs.Records.{kept}

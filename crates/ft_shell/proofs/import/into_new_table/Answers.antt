@@ -2,8 +2,7 @@
 use Rattle.std.proofs.Common.{rules, ◌≡◌, ◌<◌, ◌≤◌, ◌+◌, ◌-◌, Some, length, map, take, drop, string_bytes, refl, sym, ap, ◌∙◌, subst, arith}
 use Rattle.std.specs.List.{enumerate_from}
 use Rattle.std.proofs.lemmas.List.{length-map}
-use Rattle.ft_statements.specs.DotViews.{import_as}
-use Rattle.ft_statements.specs.Views.{texts_of}
+use Rattle.ft_statements.specs.Views.{import_as, texts_of}
 use Rattle.plain_sql.specs.IntoTables.{fault_words}
 use Rattle.shell_io.specs.OutputViews.{answer_as}
 use Rattle.plain_sql.specs.PlainImports.{CommitsAll, Declines}

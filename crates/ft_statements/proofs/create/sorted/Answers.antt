@@ -1,16 +1,17 @@
 -- one argument more
 use Rattle.std.proofs.Common.{map, sym, ap, ◌∙◌, ◌∷◌, ◌++◌, [], string_bytes}
 use Rattle.std.proofs.lemmas.List.{map-append, append-nil}
+use Rattle.ft_content.specs.Views.{option_of}
 use Rattle.ft_statements.specs.Views.{argument_as}
-use Rattle.ft_statements.proofs.CreateLemmas.{one_setting, one_column, two_texts}
+use Rattle.ft_statements.proofs.CreateLemmas.{one_setting, one_column}
 use Rattle.ft_statements.proofs.create.sorted.Goals as goal
 
 pub loop-argument-preserved-in-Continue-1 : goal.loop-argument-preserved-in-Continue-1
 loop-argument-preserved-in-Continue-1 c =
     let ys = c.loop-argument.yielded in
     let is = ap argument_as c.in-Setting.is in
-    let setting = two_texts (c.in-Setting.name, c.in-Setting.value) in (
-      ap (map two_texts) c.in_ok-push-in-Setting.ensures.items ∙ map-append two_texts c.loop-argument.options.items ((c.in-Setting.name, c.in-Setting.value) ∷ [])
+    let setting = option_of (c.in-Setting.name, c.in-Setting.value) in (
+      ap (map option_of) c.in_ok-push-in-Setting.ensures.items ∙ map-append option_of c.loop-argument.options.items ((c.in-Setting.name, c.in-Setting.value) ∷ [])
           ∙ ap (λ found. found ++ setting ∷ []) c.loop-argument.invariant.0 ∙ sym (one_setting ys c.in-Some.argument _ is),
       c.loop-argument.invariant.1 ∙ sym (one_column ys c.in-Some.argument _ is ∙ append-nil _),
     )

@@ -1,4 +1,4 @@
-use Rattle.ft_statements.proofs.DotLemmas.{said}
+use Rattle.ft_statements.proofs.DotLaw.{said}
 use Rattle.ft_statements.proofs.dots.dot_command.Goals as goal
 
 pub returns : goal.returns

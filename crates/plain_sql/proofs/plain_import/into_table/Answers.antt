@@ -2,8 +2,7 @@
 use Rattle.std.proofs.Common.{rules, ◌≡◌, ℕ, None, map, string_bytes, refl, ap, ◌∙◌, subst}
 use Rattle.std.specs.List.{enumerate_from}
 use Rattle.sqlite.specs.Held.{state}
-use Rattle.ft_statements.specs.DotViews.{import_as}
-use Rattle.ft_statements.specs.Views.{texts_of}
+use Rattle.ft_statements.specs.Views.{import_as, texts_of}
 use Rattle.shell_io.specs.Records.{warnings}
 use Rattle.plain_sql.specs.IntoTables.{fault_words, into}
 use Rattle.plain_sql.specs.PlainStatements.{IfClean}

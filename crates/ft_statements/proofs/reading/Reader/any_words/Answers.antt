@@ -16,7 +16,7 @@ returns-then-ends_words c = record {
 pub loop-i-preserved : goal.loop-i-preserved
 loop-i-preserved c = record {
   same =
-      ap (λ depth. all_onto (plain (take (c.loop-i.i + 1) c.args.self.now.left.now)) (balanced_at mark_of (plain (drop (c.loop-i.i + 1) c.args.self.now.left.now)) depth)) c.depth_after-depth.ensures.depth
+      ap (λ depth. all_onto (plain (take (c.loop-i.i + 1) c.args.self.now.left.now)) (balanced_at mark_of (plain (drop (c.loop-i.i + 1) c.args.self.now.left.now)) depth)) c.depth_after-depth.ensures.groups
       ∙ words_more c.args.self.now.left.now c.loop-i.i c.loop-i.depth _ c.loop-i-test.true (sym c.ends_words.ensures ∙ c.if-ends_words.false)
       ∙ c.loop-i.invariant.same;
   bound = omega (arith, c.depth_after-depth.ensures.most, c.loop-i.invariant.bound);
