@@ -41,9 +41,6 @@ pub data DotCommand : Type 0 where
 abbrev pub is_exact : String → List ℕ → Bool
 is_exact text word = bytes_eq word (codes text)
 
-abbrev pub exact : String → Form (List ℕ) (Unit {0})
-exact text = one (λ word. if is_exact text word then Some tt else None)
-
 abbrev pub any_word : Form (List ℕ) (List ℕ)
 any_word = one Some
 
@@ -83,10 +80,10 @@ file_named word = if is_exact "--csv" word || is_exact "--skip" word then None e
 -- other formats")
 
 unfoldable pub may_csv : Form (List ℕ) Bool
-may_csv = when (is_exact "--csv") (means true · exact "--csv") (means false)
+may_csv = when (is_exact "--csv") (means true · any_word) (means false)
 
 unfoldable pub may_skip : Form (List ℕ) (Option ℕ)
-may_skip = when (is_exact "--skip") (means Some · exact "--skip" & one skip_named) (means None)
+may_skip = when (is_exact "--skip") (means Some · any_word & one skip_named) (means None)
 
 unfoldable pub options : Form (List ℕ) (Bool × Option ℕ)
 options = when (is_exact "--csv") (means (λ csv skip. (csv, skip)) & may_csv & may_skip) (means (λ skip csv. (csv, skip)) & may_skip & may_csv)

@@ -4,14 +4,14 @@
 -- and Destroying FTS Tables", written as in "Populating FTS Tables", and read as in "Simple FTS
 -- Queries". Where one of several forms is read, the first that the words have is taken.
 use Prim.Native.String.{String}
-use Rattle.std.specs.Prelude.{ℕ, Bool, true, false, List, [], ◌∷◌, Option, Some, None, if◌then◌else◌, codes, ℤ}
+use Rattle.std.specs.Prelude.{ℕ, ◌-◌, ◌^◌, nat_le, Bool, true, false, List, [], ◌∷◌, Option, Some, None, if◌then◌else◌, codes, ℤ}
 use Rattle.std.specs.Str.{str_eq_ignore_ascii_case}
 use Rattle.ft_content.specs.Content.{Cell, Null, Int, Text}
 use Rattle.ft_content.specs.Command.{Command, Create, Drop, Insert, Update, Delete, Select, Rebuild, Check, Optimize, Filter, All}
 use Rattle.ft_content.specs.Command.{Docid, Match, Item, AllColumns, Named, OffsetsOf, Items, Counted, Listed}
 use Rattle.ft_statements.specs.Forms.{Mark, Opens, Closes, Parts, Other, Form, means, one, ends, ◌&◌, ◌·◌, such, when, first, list, balanced, Has}
 use Rattle.ft_statements.specs.Words.{Token, spells, name_of, literal_of}
-use Rattle.ft_statements.specs.Values.{number_of, signed, counted}
+use Rattle.ft_statements.specs.Values.{number_of, signed}
 use Rattle.ft_statements.specs.Create.{Argument, Setting, Column, joined, tokenizer_of, settings_in, columns_in}
 
 -- ---- single words
@@ -198,7 +198,7 @@ order = clause "ORDER" (means tt · word "BY" · key · may (codes "ASC" ∷ [])
 
 -- number          less than 2 ^ 63, without a sign
 unfoldable pub count : Form Token ℕ
-count = such (means counted & number)
+count = such (means (λ n. if nat_le n (2 ^ 63 - 1) then Some n else None) & number)
 
 -- [OFFSET n]
 unfoldable pub offset : Form Token ℕ

@@ -15,7 +15,3 @@ number_of _ = None
 abbrev pub signed : Bool → ℕ → Option ℤ
 signed true n = if nat_le n (2 ^ 63) then Some (neg_ℤ (pos n)) else None
 signed false n = if nat_le n (2 ^ 63 - 1) then Some (pos n) else None
-
--- a number of rows, where it is less than 2 ^ 63
-abbrev pub counted : ℕ → Option ℕ
-counted n = if nat_le n (2 ^ 63 - 1) then Some n else None

@@ -6,7 +6,6 @@ use Rattle.std.specs.Prelude.{Some, None, if◌then◌else◌, chars, encode_utf
 use Rattle.std.specs.List.{list_any}
 use Rattle.std.specs.Str.{str_eq_ignore_ascii_case}
 use Rattle.shell_text.specs.Words.{words_of}
-use Rattle.shell_text.specs.declared.words.SqlWord.{SqlWord}
 use Rattle.shell_text.specs.declared.words.SqlKind.{SqlKind}
 use Rattle.shell_text.specs.declared.words.SqlKind.TheVariants as kinds
 
@@ -14,12 +13,9 @@ use Rattle.shell_text.specs.declared.words.SqlKind.TheVariants as kinds
 pub data Token : Type 0 where
   token : (kind : SqlKind) (text : List ℕ) → Token
 
-abbrev pub sql_token : List ℕ → SqlWord → Token
-sql_token text w = token w.kind (slice_range text w.start (w.start + w.size))
-
 -- the words of a statement's text, in order
 abbrev pub sql_tokens : List ℕ → List Token
-sql_tokens text = map (sql_token text) (words_of text)
+sql_tokens text = map (λ w. token w.kind (slice_range text w.start (w.start + w.size))) (words_of text)
 
 -- the word is this keyword, without marks and in any case of ASCII letters, or this single
 -- character ("SQLite Keywords")

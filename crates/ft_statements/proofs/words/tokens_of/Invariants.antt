@@ -1,8 +1,9 @@
 -- the words so far
-use Rattle.std.proofs.Common.{◌≡◌, map, take}
-use Rattle.ft_statements.specs.Words.{sql_token}
+use Rattle.std.proofs.Common.{◌≡◌, ◌+◌, map, take}
+use Rattle.std.specs.Prelude.{slice_range}
+use Rattle.ft_statements.specs.Words.{token}
 use Rattle.ft_statements.specs.Views.{plain}
 use Rattle.ft_statements.proofs.words.tokens_of.Given as goal
 
 abbrev pub invariant-loop-word : goal.invariant-loop-word
-invariant-loop-word l = plain l.tokens.items ≡ map (sql_token l.text) (take l.word-index l.words)
+invariant-loop-word l = plain l.tokens.items ≡ map (λ w. token w.kind (slice_range l.text w.start (w.start + w.size))) (take l.word-index l.words)
