@@ -1,6 +1,6 @@
 -- Steps. Words read by their form, from the front. That what is read is what has the form is a law.
 use Rattle.std.specs.Prelude.{ℕ, zero, suc, ◌+◌, ◌-◌, Bool, ◌==◌, ◌&&◌, List, [], ◌∷◌, length, drop, Option, Some, None, option_map, if◌then◌else◌}
-use Rattle.std.specs.Option.{option_or}
+use Rattle.std.specs.Option.{option_or, option_and_then}
 use Rattle.ft_statements.specs.Forms.{Mark, Opens, Closes, Form, means, one, ends, ◌&◌, ◌·◌, such, when, first, list, balanced, begins, ends_part}
 
 -- what the front of the words means, and the words after it
@@ -9,8 +9,7 @@ FrontRead W A = Option (A × List W)
 
 infixl 10 ◌>>=◌
 abbrev pub ◌>>=◌ : {A B : Type 0} → Option A → (A → Option B) → Option B
-None >>= f = None
-(Some x) >>= f = f x
+o >>= f = option_and_then f o
 
 -- one is put before what is read after it
 abbrev pub onto_read : {W A : Type 0} → A → FrontRead W (List A) → FrontRead W (List A)
@@ -27,7 +26,7 @@ depth_after Opens depth = suc depth
 depth_after Closes depth = depth - 1
 depth_after _ depth = depth
 
--- words where so many groups are open
+-- words up to one that ends them, where so many groups are open before the first
 abbrev pub balanced_at : {W : Type 0} → (W → Mark) → List W → ℕ → FrontRead W (List W)
 balanced_at mark [] zero = Some ([], [])
 balanced_at mark [] (suc depth) = None
