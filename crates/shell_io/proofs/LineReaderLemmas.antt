@@ -1,5 +1,5 @@
 -- Lines of an input that is read piece by piece.
-use Rattle.std.proofs.Common.{◌≡◌, ◌≢◌, ℕ, zero, suc, ◌-◌, ◌<◌, min, take, drop, append_assoc, Bool, true, false, cond, ◌||◌, ◌&&◌, ◌==◌, List, [], ◌∷◌, ◌++◌, length, Option, Some, None, Result, Ok, Err, refl, sym, ap, ◌∙◌, arith, append-nil, length-append, lt-ltb, not}
+use Rattle.std.proofs.Common.{◌≡◌, ◌≢◌, ℕ, zero, suc, ◌-◌, ◌<◌, min, take, drop, append_assoc, Bool, true, false, cond, ◌||◌, ◌&&◌, ◌==◌, List, [], ◌∷◌, ◌++◌, length, Ok, Err, refl, sym, ap, ◌∙◌, arith, append-nil, length-append, lt-ltb, not}
 use Rattle.std.specs.Prelude.{slice_index}
 use Rattle.std.proofs.lemmas.Bool.{eqb-true, false_from_ne_true}
 use Rattle.std.proofs.lemmas.List.{length-take-le, take-append-drop, take_all}
@@ -8,9 +8,8 @@ use Rattle.std.specs.List.{list_any}
 use Rattle.std.specs.Str.{is_utf8}
 use Rattle.shell_text.specs.declared.units.SplitFault.{SplitFault}
 use Rattle.shell_text.specs.declared.units.SplitFault.TheVariants as fault
-use Rattle.shell_text.specs.declared.units.Unit.{Unit as SeenUnit}
-use Rattle.shell_text.specs.Units.{Member, Fault, last_member, tail_in, Reading, Role, Refused, Command, Joins, is_idle, lines_of, onto_line, most_bytes, role_of, size_with, member_of, after_role, after_line, units_in, without_block}
-use Rattle.shell_text.specs.Splitting.{Finishes, Splitting, TakesLine, given_by, without_ended}
+use Rattle.shell_text.specs.Units.{Member, Fault, Reading, Role, Refused, Command, Joins, is_idle, lines_of, onto_line, most_bytes, role_of, size_with, member_of, after_role, after_line, units_in, without_block}
+use Rattle.shell_text.specs.Splitting.{Splitting, TakesLine, given_by, without_ended}
 use Rattle.shell_text.specs.Words.{next_is, first_byte, pieces_from}
 use Rattle.shell_io.specs.LinesRead.{EndsWith, LinesRead, HasNoEnd, Way, at_end, behind, end_line, members_left}
 

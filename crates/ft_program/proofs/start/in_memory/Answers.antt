@@ -1,5 +1,5 @@
 -- two empty databases
-use Rattle.std.proofs.Common.{inl, inr, refl}
+use Rattle.std.proofs.Common.{inl, refl}
 use Rattle.ram_disk.specs.contracts.disk.RamDisk.TheImpl.{ghosts}
 use Rattle.ram_disk.specs.Clean.{never_lies_is_clean}
 use Rattle.ft_program.proofs.MemoryLemmas.{from_nothing}
