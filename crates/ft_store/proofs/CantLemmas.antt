@@ -1,11 +1,11 @@
 -- Why changes are refused, told by the rows that there were before all of them.
-use Rattle.std.proofs.Common.{◌≡◌, ◌∙◌, ◌∷◌, ◌++◌, ◌⊎◌, ◌≤◌, ◌<◌, ◌+◌, ℕ, Bool, true, false, List, [], length, map, take, drop, get_or, All, inl, inr, refl, sym, ap, subst, arith, append_assoc, true≢false}
+use Rattle.std.proofs.Common.{◌≡◌, ◌∙◌, ◌∷◌, ◌++◌, ◌⊎◌, ◌≤◌, ◌<◌, ◌+◌, ℕ, Bool, true, false, List, [], length, map, take, get_or, All, inl, inr, refl, sym, ap, subst, arith, append_assoc, true≢false}
 use Rattle.std.specs.Prelude.{Any, String, string_bytes}
-use Rattle.std.specs.List.{AllByRecursion, sum_by, between}
+use Rattle.std.specs.List.{AllByRecursion, sum_by}
 use Rattle.std.specs.declared.alloc.Global.{Global}
-use Rattle.std.proofs.lemmas.List.{length-map, get_or-map, length-take-le, take_more, map-append, take-append-drop}
+use Rattle.std.proofs.lemmas.List.{length-map, get_or-map, length-take-le}
 use Rattle.std.proofs.lemmas.List.Elements.{recursion_from_All}
-use Rattle.std.proofs.lemmas.List.Sums.{sum_by-append, sum_by-cons, sum_by_push}
+use Rattle.std.proofs.lemmas.List.Sums.{sum_by-append, sum_by-cons}
 use Rattle.sqlite.specs.Tree.{Trees}
 use Rattle.sqlite.specs.State.{State, HasCleanDisk, Survives}
 use Rattle.sqlite_rules.specs.Lists.{Has}
@@ -19,12 +19,9 @@ use Rattle.ft_store.specs.Calls.{Goes}
 use Rattle.ft_store.specs.Groups.{PackedList, PutsList, entry_put}
 use Rattle.ft_store.specs.Blame.{IsBlamed, TakesOut}
 use Rattle.ft_store.specs.Puts.{IsFull, AreGrown, IsTooBig, IsBigEntry, rows_put, CantPut, CantPutAll}
-use Rattle.ft_store.proofs.BlameLemmas.{blamed_on, blamed_then}
-use Rattle.ft_store.proofs.GroupLemmas.{applied-append, front}
+use Rattle.ft_store.proofs.BlameLemmas.{blamed_then}
+use Rattle.ft_store.proofs.GroupLemmas.{applied-append}
 use Rattle.ft_store.proofs.RiseLemmas.{full_since, full_more}
-
-pub grown_count : (n m : ℕ) (a b : Trees) → n ≡ m → AreGrown n a b → AreGrown m a b
-grown_count n m a b same = subst (λ k. AreGrown k a b) same
 
 -- ---- one change
 
@@ -148,41 +145,6 @@ take_one xs i within = let a = length-take-le i xs (omega (arith, within)) in le
 
 pub room_left : {X : Type 0} (xs : List X) (i : ℕ) → i < length xs → length (take i xs) + 1 ≤ length xs
 room_left xs i within = let a = length-take-le i xs (omega (arith, within)) in omega (arith, a, within)
-
--- ---- the loops over the changes
-
-one_more_shown : (changes : List RowChange) (i : ℕ) (change : RowChange) → i < length changes → change ≡ get_or changes i change → map shown_change (take (i + 1) changes) ≡ map shown_change (take i changes) ++ shown_change change ∷ []
-one_more_shown changes i change inside is =
-    ap (map shown_change) (take_more changes i change inside ∙ ap (λ c. take i changes ++ c ∷ []) (sym is)) ∙ map-append shown_change (take i changes) (change ∷ [])
-
-pub one_more_rows : (changes : List RowChange) (i : ℕ) (change : RowChange) → i < length changes → change ≡ get_or changes i change
-    → sum_by rows_put (map shown_change (take i changes)) + rows_put (shown_change change) ≡ sum_by rows_put (map shown_change (take (i + 1) changes))
-one_more_rows changes i change inside is = sym (ap (sum_by rows_put) (one_more_shown changes i change inside is) ∙ sum_by_push rows_put (map shown_change (take i changes)) (shown_change change))
-
-pub split_one : (changes : List RowChange) (i : ℕ) (change : RowChange) → i < length changes → change ≡ get_or changes i change
-    → map shown_change changes ≡ (map shown_change (take i changes) ++ shown_change change ∷ []) ++ map shown_change (drop (i + 1) changes)
-split_one changes i change inside is =
-    ap (map shown_change) (sym (take-append-drop (i + 1) changes)) ∙ map-append shown_change (take (i + 1) changes) (drop (i + 1) changes)
-    ∙ ap (λ l. l ++ map shown_change (drop (i + 1) changes)) (one_more_shown changes i change inside is)
-
-module _ (changes : List RowChange) (at end : ℕ) (le : at ≤ end) where
-  more_shown : map shown_change (take end changes) ≡ map shown_change (take at changes) ++ map shown_change (between at end changes)
-  more_shown = ap (map shown_change) (front changes at end le) ∙ map-append shown_change (take at changes) (between at end changes)
-
-  pub more_rows : sum_by rows_put (map shown_change (take at changes)) + sum_by rows_put (map shown_change (between at end changes)) ≡ sum_by rows_put (map shown_change (take end changes))
-  more_rows = sym (ap (sum_by rows_put) more_shown ∙ sum_by-append rows_put (map shown_change (take at changes)) (map shown_change (between at end changes)))
-
-  pub split_part : map shown_change changes ≡ (map shown_change (take at changes) ++ map shown_change (between at end changes)) ++ map shown_change (drop end changes)
-  split_part =
-      ap (map shown_change) (sym (take-append-drop end changes)) ∙ map-append shown_change (take end changes) (drop end changes) ∙ ap (λ l. l ++ map shown_change (drop end changes)) more_shown
-
--- ---- a transaction that is given up
-
-pub blamed_at : (old now new : State) (C : _) (Why : Type 0) → HasCleanDisk new → Survives now new C → (HasCleanDisk now → IsBlamed old now ⊎ Why) → IsBlamed old new ⊎ Why
-blamed_at old now new C Why clean past why = elim (why (omega (arith, clean, past.clean))) [
-  | inl blamed ↦ inl (blamed_on old now new C blamed past)
-  | inr other ↦ inr other
-]
 
 -- ---- changes that only take rows out
 

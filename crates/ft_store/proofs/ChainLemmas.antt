@@ -60,7 +60,7 @@ module _ (a b c : State) (one : Looking a b) (kept : HasCleanDisk c → Keeps b 
 
 -- ---- a read that was answered, and then what is made of its rows
 
-ok_too : {A E K : Type 0} (r : Result A E) → K → OnOk r K
+pub ok_too : {A E K : Type 0} (r : Result A E) → K → OnOk r K
 ok_too (Ok a) k = k
 ok_too (Err e) k = tt
 

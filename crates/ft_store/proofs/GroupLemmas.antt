@@ -1,19 +1,17 @@
 -- How lists that are added together make the steps of a change.
-use Rattle.std.proofs.Common.{◌≡◌, ℕ, suc, ◌+◌, ◌-◌, ◌<◌, ◌≤◌, Bool, true, false, List, [], ◌∷◌, ◌++◌, map, length, take, get_or, All, Ok, refl, sym, ap, ap₂, ◌∙◌, subst, arith, IsTrue}
+use Rattle.std.proofs.Common.{◌≡◌, ℕ, suc, ◌+◌, ◌<◌, Bool, true, false, List, [], ◌∷◌, ◌++◌, map, length, take, get_or, All, Ok, refl, sym, ap, ap₂, ◌∙◌, subst, arith, IsTrue}
 use Rattle.std.specs.Prelude.{if◌then◌else◌, MatchBool}
-use Rattle.std.specs.List.{flat_map, between}
+use Rattle.std.specs.List.{flat_map}
 use Rattle.std.specs.FinMap.Entries.{put}
-use Rattle.std.proofs.Math.Seq.{take-add}
-use Rattle.std.proofs.lemmas.List.{nil_from_length, map-append, map_push, take_more, get_or-map}
+use Rattle.std.proofs.lemmas.List.{nil_from_length, map_push, take_more, get_or-map}
 use Rattle.std.proofs.lemmas.List.Concat.{flat_map-append}
-use Rattle.std.proofs.lemmas.List.Elements.{All-append}
 use Rattle.sqlite.specs.Order.{Row}
 use Rattle.sqlite.specs.State.{State, Executes, Shows, ExecutesInside, IsUnchanged}
 use Rattle.ft_values.specs.declared.rows.RowChange.{RowChange}
 use Rattle.ft_values.specs.declared.rows.RowChange.TheVariants as row
 use Rattle.ft_rows.specs.Store.{StoreValue, Change, list_key_cmp, all_applied}
 use Rattle.ft_store.specs.Rows.{value_of}
-use Rattle.ft_rows.specs.Changes.{shown_change, CanApply}
+use Rattle.ft_rows.specs.Changes.{shown_change}
 use Rattle.ft_store.specs.Calls.{IsStore, Steps, Goes}
 use Rattle.ft_store.specs.Groups.{PackedList, entry_values, with_lists, entry_put, PutsList}
 use Rattle.ft_store.proofs.Texts.{add_lists_text}
@@ -57,7 +55,7 @@ does_add_lists old new kept shown es len values is count ran =
 
 -- ---- what steps make
 
-goes_of : (old new : State) (v : StoreValue) → Steps old new v → Goes old new v
+pub goes_of : (old new : State) (v : StoreValue) → Steps old new v → Goes old new v
 goes_of old new v step = record { going = λ _. (step.shown.is_open, step.store, step.is); was_open = λ _. step.shown.was_open; committed = step.shown.committed_is; inside = step.shown.mode }
 
 pub goes_nowhere : (old new : State) → IsUnchanged old new → IsTrue old.in_transaction → (IsTrue old.is_open → IsStore old.now) → Goes old new (value_of old.now.trees)
@@ -86,7 +84,7 @@ adds_eight old new es values false len is inside kept same = goes_nowhere old ne
 
 -- ---- changes that put lists
 
-each_puts : (changes : List RowChange) → All PutsList changes → (v : StoreValue) → with_lists (map entry_put changes) v ≡ all_applied (map shown_change changes) v
+pub each_puts : (changes : List RowChange) → All PutsList changes → (v : StoreValue) → with_lists (map entry_put changes) v ≡ all_applied (map shown_change changes) v
 each_puts [] all v = refl
 each_puts (change ∷ changes) all v = go change (all 0 change (omega arith)) (each_puts changes (λ i d low. all (suc i) d (omega (arith, low))))
   where
@@ -95,15 +93,6 @@ each_puts (change ∷ changes) all v = go change (all 0 change (omega arith)) (e
     go (row.PutEntries tab term docid spots) can more =
         ap (λ l. with_lists (map entry_put changes) (record v { lists = put list_key_cmp (entry_put (row.PutEntries tab term docid spots)).0 l v.lists })) (packed_back spots.items can) ∙ more _
     go _ can more = absurd can
-
-can_put : (c : RowChange) → PutsList c → CanApply c
-can_put (row.PutEntries tab term docid spots) can = can
-can_put _ can = absurd can
-
-pub adds_all : (old new : State) (changes : List RowChange) (added : Bool) → All PutsList changes → Goes old new (if added then with_lists (map entry_put changes) (value_of old.now.trees) else value_of old.now.trees)
-    → Goes old new (if added then all_applied (map shown_change changes) (value_of old.now.trees) else value_of old.now.trees)
-adds_all old new changes true all goes = subst (Goes old new) (each_puts changes all _) goes
-adds_all old new changes false all goes = goes
 
 -- ---- what the loops make, one change more
 
@@ -129,17 +118,3 @@ one_more_bound changes i change lists list values inside is all at before =
 pub applied-append : (xs ys : List Change) (v : StoreValue) → all_applied (xs ++ ys) v ≡ all_applied ys (all_applied xs v)
 applied-append [] ys v = refl
 applied-append (x ∷ xs) ys v = applied-append xs ys _
-
-module _ (changes : List RowChange) (at end : ℕ) (le : at ≤ end) where
-  pub front : take end changes ≡ take at changes ++ between at end changes
-  front = let e : end ≡ at + (end - at) = omega (arith, le) in ap (λ n. take n changes) e ∙ take-add at (end - at) changes
-
-  pub group_can : All CanApply (take at changes) → All CanApply (between at end changes) → All CanApply (take end changes)
-  group_can before group = subst (All CanApply) (sym front) (All-append CanApply (take at changes) (between at end changes) before group)
-
-  pub group_goes : (old was now : State) (v : StoreValue) → Goes old was (all_applied (map shown_change (take at changes)) v)
-      → Goes was now (all_applied (map shown_change (between at end changes)) (value_of was.now.trees)) → Goes old now (all_applied (map shown_change (take end changes)) v)
-  group_goes old was now v before step =
-      subst (λ l. Goes old now (all_applied l v)) (sym (map-append shown_change (take at changes) (between at end changes)) ∙ ap (map shown_change) (sym front))
-      (subst (Goes old now) (sym (applied-append (map shown_change (take at changes)) (map shown_change (between at end changes)) v))
-      (goes_then old was now _ (all_applied (map shown_change (between at end changes))) before step))

@@ -1,6 +1,6 @@
 -- Calls in one transaction, one after the other.
 use Rattle.std.proofs.Common.{◌≡◌, ◌⊎◌, ◌+◌, ◌∙◌, ℕ, List, IsTrue, Result, Ok, Err, arith, inl, inr, refl, sym, subst, ◌<◌, ℤ, pos, map, take, length, get_or}
-use Rattle.std.specs.Prelude.{OnOk, String, string_bytes}
+use Rattle.std.specs.Prelude.{OnOk, IfErr, String, string_bytes}
 use Rattle.sqlite.specs.Tree.{Trees}
 use Rattle.ft_store.specs.declared.fault.StoreFault.TheVariants as fault
 use Rattle.ft_store.specs.Rows.{value_of}
@@ -14,7 +14,7 @@ use Rattle.sqlite.specs.Held.{Held, state}
 use Rattle.sqlite.specs.State.{State, HasCleanDisk, Survives, ExecutesInside}
 use Rattle.sqlite.proofs.StateLemmas.{survives_then}
 use Rattle.ft_store.specs.declared.fault.StoreFault.{StoreFault}
-use Rattle.ft_store.specs.Calls.{IsStore, Steps, StaysInside, StaysUncommitted, IsChangeFault, IsPlainFault}
+use Rattle.ft_store.specs.Calls.{IsStore, Steps, StaysInside, StaysUncommitted, IsPlainFault}
 use Rattle.ft_store.specs.Blame.{IsBlamed, RefusesRun, BlamesOutside}
 use Rattle.ft_store.specs.Inside.{DoneInside, RunsOnOk}
 use Rattle.ft_store.proofs.GoneLemmas.{rest_then}
@@ -36,9 +36,18 @@ stays_then g IsFault a b c one two first second = record {
   fault = second.fault;
 }
 
--- what may be refused as damaged is refused so by no statement
-pub changed_only : {S X : Type 0} (g : Ghosts S) (a b : MutBor (Held S)) (result : Result X StoreFault) (CanBeMade : Type 0) → StaysUncommitted g a b result → StaysInside g a b result (IsChangeFault CanBeMade)
-changed_only g a b result CanBeMade it = record { same_reference = it.same_reference; kept = it.kept; survives = it.survives; fault = IfErr-weaker result _ _ (λ e plain. inl plain) it.fault }
+-- nothing is done
+pub stays_same : {S X : Type 0} (g : Ghosts S) (a : MutBor (Held S)) (result : Result X StoreFault) (IsFault : StoreFault → Type 0) → IfErr result IsFault → StaysInside g a a result IsFault
+stays_same g a result IsFault fault = record {
+  same_reference = refl;
+  kept = λ clean. keeps_same (state g a.now);
+  survives = record { clean = omega arith; shield = λ h. h; counts = omega arith; limit = refl; closes = λ clean h. inl h; crash = λ clean db h. inl h };
+  fault = fault;
+}
+
+-- a fault that says less
+pub stays_for : {S X : Type 0} (g : Ghosts S) (a b : MutBor (Held S)) (result : Result X StoreFault) (One Two : StoreFault → Type 0) → ((e : StoreFault) → One e → Two e) → StaysInside g a b result One → StaysInside g a b result Two
+stays_for g a b result One Two less it = record { same_reference = it.same_reference; kept = it.kept; survives = it.survives; fault = IfErr-weaker result One Two less it.fault }
 
 -- a function that gives up made nothing
 pub gives_up : {S : Type 0} (g : Ghosts S) (a b : MutBor (Held S)) (one two : Result (Unit {0}) StoreFault) (e : StoreFault) (f h : StoreValue → StoreValue) (n k : ℕ) (One Why : Trees → Type 0) → one ≡ Err e → two ≡ Err e → Changes g a b one f n One
@@ -94,12 +103,7 @@ pub nothing_done : {S : Type 0} (g : Ghosts S) (a : MutBor (Held S)) → Changes
 nothing_done g a = record {
   done = record {
     steps = λ clean inside is_open store. no_step (state g a.now) inside is_open store;
-    stays = record {
-      same_reference = refl;
-      kept = λ clean. keeps_same (state g a.now);
-      survives = record { clean = omega arith; shield = λ h. h; counts = omega arith; limit = refl; closes = λ clean h. inl h; crash = λ clean db h. inl h };
-      fault = tt;
-    };
+    stays = stays_same g a (Ok tt) IsPlainFault tt;
   };
   grown = λ clean inside is_open store. trees_same 0 (state g a.now).now.trees (state g a.now).now.trees refl;
   refused = λ clean inside is_open store is. absurd (let no = is in cc);

@@ -4,7 +4,6 @@ pub mod AdoptLemmas
 pub mod AnewLemmas
 pub mod AnswerLemmas
 pub mod ApartLemmas
-pub mod ApplyLemmas
 pub mod AskedLemmas
 pub mod BlameLemmas
 pub mod CallLemmas
@@ -28,13 +27,13 @@ pub mod InsideLemmas
 pub mod KeyedLemmas
 pub mod LastLemmas
 pub mod LookLemmas
+pub mod MadeLemmas
 pub mod MakeLemmas
 pub mod MarkLemmas
 pub mod MigrateLemmas
 pub mod NamedLemmas
 pub mod NoteLemmas
 pub mod OrderLemmas
-pub mod PartLemmas
 pub mod ProbeTexts
 pub mod PutLemmas
 pub mod RangeLemmas

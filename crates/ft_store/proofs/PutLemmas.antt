@@ -10,12 +10,10 @@ use Rattle.std.proofs.lemmas.Cmp.{int_cmp_total}
 use Rattle.std.proofs.lemmas.List.{take_more, map-append, length-map, length-take-le}
 use Rattle.sqlite.specs.State.{State}
 use Rattle.ft_values.specs.declared.rows.Spot.{Spot}
-use Rattle.ft_values.specs.declared.rows.RowChange.{RowChange}
 use Rattle.ft_rows.specs.Packed.{CanPack, packed_spots, packed_spot, stored_spot, spots_in}
-use Rattle.ft_rows.specs.Store.{ColumnKey, column_key_cmp, StoreValue, Change, with_columns, with_skipped, applied, all_applied}
+use Rattle.ft_rows.specs.Store.{ColumnKey, column_key_cmp, StoreValue, with_columns, with_skipped}
 use Rattle.ft_store.specs.Rows.{value_of}
-use Rattle.ft_rows.specs.Changes.{shown_change}
-use Rattle.ft_store.specs.Calls.{IsStore, Steps, Goes}
+use Rattle.ft_store.specs.Calls.{IsStore, Steps}
 use Rattle.ft_rows.proofs.PackedLemmas.{packed_is_read}
 use Rattle.ft_store.proofs.KeyedLemmas.{respects}
 use Rattle.ft_store.proofs.OrderLemmas.{tied_ints}
@@ -61,26 +59,6 @@ one_more_skip tab (y ∷ xs) x skipped = one_more_skip tab xs x _
 -- places that can be packed are read back
 pub packed_back : (spots : List Spot) → CanPack spots → unwrap_or (spots_in (packed_spots spots)) [] ≡ spots
 packed_back spots can = ap (λ o. unwrap_or (option_map (map stored_spot) o) []) (packed_is_read (map packed_spot spots) can.rise) ∙ sym can.plain
-
--- ---- the loop over the changes
-
-one_more_applied : (changes : List Change) (change : Change) (v : StoreValue) → all_applied (changes ++ change ∷ []) v ≡ applied change (all_applied changes v)
-one_more_applied [] change v = refl
-one_more_applied (first ∷ more) change v = one_more_applied more change (applied first v)
-
-pub goes_on : (old was now : State) (changes : List RowChange) (i : ℕ) (change : RowChange) (v : StoreValue) → i < length changes → change ≡ get_or changes i change
-    → Goes old was (all_applied (map shown_change (take i changes)) v) → Steps was now (applied (shown_change change) (value_of was.now.trees)) → Goes old now (all_applied (map shown_change (take (i + 1) changes)) v)
-goes_on old was now changes i change v inside is before step = record {
-  going = λ is_open. (
-    step.shown.is_open,
-    step.store,
-    step.is ∙ ap (applied (shown_change change)) (before.going is_open).2 ∙ sym (one_more_applied (map shown_change (take i changes)) (shown_change change) v)
-        ∙ ap (λ l. all_applied l v) (sym (map-append shown_change (take i changes) (change ∷ [])) ∙ ap (map shown_change) (ap (λ c. take i changes ++ c ∷ []) is ∙ sym (take_more changes i change inside))),
-  );
-  was_open = λ _. before.was_open step.shown.was_open;
-  committed = step.shown.committed_is ∙ before.committed;
-  inside = step.shown.mode;
-}
 
 -- ---- the loops over the columns of a table
 

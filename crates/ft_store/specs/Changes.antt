@@ -1,22 +1,24 @@
 -- Steps. What the statements that change rows make of a store, and what a function of a transaction
 -- makes of it that runs them.
-use Rattle.std.specs.Prelude.{◌≢◌, ◌⊎◌, ℕ, List, Result, Ok, Err, IsTrue}
+use Rattle.std.specs.Prelude.{◌≢◌, ◌⊎◌, ℕ, All, List, Result, Ok, Err, IfOk, IsTrue}
+use Rattle.std.specs.List.{sum_by}
 use Rattle.std.specs.Borrow.{MutBor}
 use Rattle.sqlite.specs.Order.{Row}
 use Rattle.sqlite.specs.Tree.{Trees}
-use Rattle.sqlite.specs.State.{ExecutesInside}
+use Rattle.sqlite.specs.State.{State, HasCleanDisk, ExecutesInside}
 use Rattle.sqlite.specs.Store.{Ghosts}
 use Rattle.sqlite.specs.Held.{Held, state}
 use Rattle.sqlite.specs.declared.error.Error.{Error}
 use Rattle.sqlite.specs.declared.error.Error.TheVariants.{SqliteFailure}
 use Rattle.sqlite.specs.declared.error.ErrorCode.TheVariants as code
-use Rattle.ft_rows.specs.Store.{StoreValue}
+use Rattle.ft_rows.specs.Store.{StoreValue, Change, all_applied}
 use Rattle.ft_store.specs.declared.fault.StoreFault.{StoreFault}
 use Rattle.ft_store.specs.Rows.{value_of}
-use Rattle.ft_store.specs.Calls.{IsStore, Steps}
+use Rattle.ft_store.specs.Calls.{IsStore, Steps, Goes, StaysInside, IsChangeFault}
 use Rattle.ft_store.specs.Blame.{IsBlamed}
 use Rattle.ft_store.specs.Inside.{StepsInside, StepsInsideIfOpen}
-use Rattle.ft_store.specs.Puts.{IsFull, IsTooBig, AreGrown, KeepsRest, GrowsOnOk, GrowsIfOpen, BlamesRows, BlamesIfOpen}
+use Rattle.ft_store.specs.Parts.{CanMake}
+use Rattle.ft_store.specs.Puts.{IsFull, IsTooBig, AreGrown, KeepsRest, rows_put, CantPutAll, GrowsOnOk, GrowsIfOpen, BlamesRows, BlamesIfOpen}
 
 -- the statement is refused, and not for want of memory
 abbrev pub FailsInside : {S : Type 0} → Ghosts S → Held S → Held S → List ℕ → Row → Type 0
@@ -65,3 +67,22 @@ pub record ChangesIfOpen {S : Type 0} (g : Ghosts S) (old new : MutBor (Held S))
 -- rows are taken out, and no table grows
 abbrev pub Drops : {S : Type 0} → Ghosts S → MutBor (Held S) → MutBor (Held S) → Result (Unit {0}) StoreFault → (StoreValue → StoreValue) → Type 0
 Drops g old new result f = Changes g old new result f 0 (λ _. ⊥)
+
+-- in a transaction row changes were made, in their order, and so many rows were put at most
+pub record HasMade (old now : State) (changes : List Change) : Type 0 where
+  pub goes : Goes old now (all_applied changes (value_of old.now.trees))
+  pub grown : AreGrown (sum_by rows_put changes) old.now.trees now.now.trees
+
+-- What a function of a transaction does with row changes: those are made that `made` gives of its
+-- answer. It is refused only as damaged, where not all can be made, by what lies outside the store,
+-- or since one of all can't be put.
+pub record Makes {S X : Type 0} (g : Ghosts S) (old new : MutBor (Held S)) (result : Result X StoreFault) (made : X → List Change) (all : List Change) : Type 0 where
+  pub packable : IfOk result (λ x. All CanMake (made x))
+  pub steps : HasCleanDisk (state g new.now) → IsTrue (state g old.now).in_transaction → (IsTrue (state g old.now).is_open → IsStore (state g old.now).now)
+      → IfOk result (λ x. HasMade (state g old.now) (state g new.now) (made x))
+  pub stays : StaysInside g old new result (IsChangeFault (All CanMake all))
+  pub refused : BlamesRows g old.now new.now result (λ db. CantPutAll db all)
+
+-- all are made
+abbrev pub MakesAll : {S : Type 0} → Ghosts S → MutBor (Held S) → MutBor (Held S) → Result (Unit {0}) StoreFault → List Change → Type 0
+MakesAll g old new result changes = Makes g old new result (λ _. changes) changes

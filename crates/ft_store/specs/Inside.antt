@@ -1,6 +1,6 @@
 -- Steps. What the functions of a transaction do, each as one relation: what it made, and the frame
 -- of all of them.
-use Rattle.std.specs.Prelude.{ℕ, ℤ, Bool, not, MatchBool, Result, Ok, All, List, map, IsTrue, IfOk, OnOk}
+use Rattle.std.specs.Prelude.{ℕ, ℤ, Bool, not, MatchBool, Result, Ok, List, IsTrue, IfOk, OnOk}
 use Rattle.std.specs.Borrow.{MutBor}
 use Rattle.std.specs.Ordering.{int_cmp, int_eq}
 use Rattle.std.specs.FinMap.Entries.{where_key}
@@ -9,12 +9,9 @@ use Rattle.sqlite.specs.Effect.{Database}
 use Rattle.sqlite.specs.State.{HasCleanDisk, ExecutesInside, IsUnchanged}
 use Rattle.sqlite.specs.Store.{Ghosts}
 use Rattle.sqlite.specs.Held.{Held, state}
-use Rattle.ft_values.specs.declared.rows.RowChange.{RowChange}
-use Rattle.ft_rows.specs.Store.{cell_key_cmp, list_key_cmp, column_key_cmp, StoreValue, all_applied}
-use Rattle.ft_rows.specs.Changes.{shown_change, CanApply}
+use Rattle.ft_rows.specs.Store.{cell_key_cmp, list_key_cmp, column_key_cmp, StoreValue}
 use Rattle.ft_store.specs.declared.fault.StoreFault.{StoreFault}
-use Rattle.ft_store.specs.Calls.{StepsOnOk, StepsIfOpen, StaysInside, StaysUncommitted, IsChangeFault}
-use Rattle.ft_store.specs.Groups.{GoesOnOk}
+use Rattle.ft_store.specs.Calls.{StepsOnOk, StepsIfOpen, StaysUncommitted}
 use Rattle.ft_store.specs.Made.{MakesOnOk}
 
 -- What a function of a transaction does: what it made where it is answered Ok, and what it leaves
@@ -48,18 +45,6 @@ RunsOrKeeps g old new result sql params =
     HasCleanDisk (state g new) → IsTrue (state g old).in_transaction
     → IfOk result (λ added. MatchBool added ((count : ℕ) × ExecutesInside 0 sql params (state g old) (state g new) (Ok count))
     (IsUnchanged (state g old) (state g new)))
-
--- What a function that makes row changes does in a transaction: the same, where they can be made,
--- and otherwise it may be refused as damaged.
-pub record ChangesInside {S X : Type 0} (g : Ghosts S) (old new : MutBor (Held S)) (result : Result X StoreFault) (CanBeMade Made : Type 0) : Type 0 where
-  pub packable : OnOk result CanBeMade
-  pub steps : Made
-  pub stays : StaysInside g old new result (IsChangeFault CanBeMade)
-
--- several changes are made in their order
-abbrev pub AppliesInside : {S : Type 0} → Ghosts S → MutBor (Held S) → MutBor (Held S) → Result (Unit {0}) StoreFault → List RowChange → Type 0
-AppliesInside g old new result changes =
-    ChangesInside g old new result (All CanApply changes) (GoesOnOk g old.now new.now result (λ _ v. all_applied (map shown_change changes) v))
 
 -- without the rows of a table, those of one kind
 abbrev pub without_name : ℤ → StoreValue → StoreValue

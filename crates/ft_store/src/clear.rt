@@ -12,7 +12,7 @@ ghost use Rattle.sqlite.specs.Order.{column};
 ghost use Rattle.ft_rows.specs.Store.{list_key_cmp, name_cmp, without_index};
 ghost use Rattle.ft_store.specs.Blame.{BlamesIn, BlamesOutside};
 ghost use Rattle.ft_store.specs.Calls.{StepsOnOk};
-ghost use Rattle.ft_store.specs.Inside.{DoneInside, MakesInside, StepsInside, StepsInsideIfOpen, without_contents, without_lists};
+ghost use Rattle.ft_store.specs.Inside.{DoneInside, MakesInside, without_contents, without_lists};
 ghost use Rattle.ft_store.specs.Puts.{IsFull, GrowsOnOk, KeepsRestOnOk, KeepsRestIfOpen};
 ghost use Rattle.ft_store.specs.Changes.{Changes, ChangesIfOpen, Drops};
 ghost use Rattle.ft_store.specs.Groups.{put_each};

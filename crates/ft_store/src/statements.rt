@@ -2,7 +2,7 @@
 ghost use Rattle.std.specs.Prelude.{◌≡◌, ◌≤◌, ◌⊎◌, ◌+◌, ℕ, Any, List, [], length, take, not, ◌&&◌, if◌then◌else◌, unwrap_or};
 ghost use Rattle.std.specs.List.{flat_map};
 ghost use Rattle.std.specs.Ordering.{int_eq, eq_by_cmp};
-ghost use Rattle.std.specs.FinMap.Entries.{put, where_key, find};
+ghost use Rattle.std.specs.FinMap.Entries.{put, where_key};
 ghost use Rattle.sqlite.specs.Values.{bound};
 ghost use Rattle.sqlite_value.specs.Value.{owned};
 ghost use Rattle.sqlite_value.specs.Order.{bytes};

@@ -1,23 +1,18 @@
 //! Row changes, all in one transaction.
-ghost use Rattle.std.specs.Prelude.{◌≡◌, ◌⊎◌, ◌+◌, Any, Err, false, ◌<◌, ◌≤◌, [], ◌++◌, length, map, if◌then◌else◌, unwrap_or, string_bytes, All, IsTrue, IfOk, IfSome, OnOk};
+ghost use Rattle.std.specs.Prelude.{◌≡◌, ◌⊎◌, ◌+◌, Any, ◌<◌, ◌≤◌, [], ◌∷◌, ◌++◌, length, map, if◌then◌else◌, string_bytes, All, IfOk, IfSome, OnOk};
 ghost use Rattle.std.specs.Vec.{vec_items};
-ghost use Rattle.std.specs.List.{enumerate_from, flat_map, sum_by};
+ghost use Rattle.std.specs.List.{enumerate_from, flat_map};
 ghost use Rattle.std.specs.FinMap.Entries.{put};
 ghost use Rattle.std.specs.Ordering.{int_cmp};
 ghost use Rattle.sqlite.specs.Held.{state};
 ghost use Rattle.sqlite.specs.Values.{bound};
-ghost use Rattle.sqlite_value.specs.Keys.{without_case};
-ghost use Rattle.ft_rows.specs.Packed.{CanPack, packed_spots, spots_in};
-ghost use Rattle.ft_rows.specs.Store.{cell_key_cmp, list_key_cmp, column_key_cmp, name_cmp, without_index, without_rows, with_columns, with_skipped, AddTable, applied, all_applied};
-ghost use Rattle.ft_values.specs.Cells.{shown_value};
+ghost use Rattle.ft_rows.specs.Store.{without_rows, with_columns, with_skipped, AddTable, PutEntries, applied};
 ghost use Rattle.ft_rows.specs.Changes.{shown_change, CanApply};
-ghost use Rattle.ft_store.specs.Calls.{StepsOnOk, ChangesAllOrNone, IsAtRest};
-ghost use Rattle.ft_store.specs.Inside.{StepsInside, StepsInsideIfOpen, DoneInside, ChangesInside, AppliesInside, without_columns, without_skips, without_contents};
-ghost use Rattle.ft_store.specs.Groups.{entry_values, entry_put, PutsList, ArePacked, GoesOnOk};
-ghost use Rattle.sqlite.specs.State.{HasCleanDisk};
-ghost use Rattle.ft_store.specs.Blame.{BlamesOutside};
-ghost use Rattle.ft_store.specs.Puts.{IsFull, IsTooBig, IsOthers, rows_put, CantPut, CantPutAll, GrowsOnOk, GrowsIfAdded, BlamesRows, BlamesPuts};
-ghost use Rattle.ft_store.specs.Changes.{Changes, ChangesIfOpen, Drops};
+ghost use Rattle.ft_store.specs.Calls.{ChangesAllOrNone, IsAtRest};
+ghost use Rattle.ft_store.specs.Inside.{without_columns, without_skips};
+ghost use Rattle.ft_store.specs.Groups.{entry_values, entry_put, PutsList, ArePacked};
+ghost use Rattle.ft_store.specs.Puts.{IsFull, IsTooBig, IsOthers, CantPut, BlamesPuts};
+ghost use Rattle.ft_store.specs.Changes.{Changes, ChangesIfOpen, Drops, Makes, MakesAll};
 ghost use Rattle.ft_store.specs.Rows.{value_of};
 ghost use Rattle.ft_store.specs.Parts.{changes_in, CanMake};
 
@@ -44,13 +39,8 @@ fn put_entries<S: Alter>(
     docid: i64,
     spots: &[Spot],
 ) -> Result<(), StoreFault>
-    ensures done { ChangesInside S.Store tx.old.conn tx.new.conn result (CanPack spots.now)
-        (StepsOnOk S.Store tx.old.conn.now tx.new.conn.now result
-        (λ v. record v { lists = put list_key_cmp (tab, term.now, docid) spots.now v.lists })) }
-    ensures grown { GrowsOnOk S.Store tx.old.conn.now tx.new.conn.now result 1 }
-    ensures refused { BlamesRows S.Store tx.old.conn.now tx.new.conn.now result
-        (λ db. IsFull 1 (db 7)
-        ⊎ IsTooBig 5 (length term.now + length (packed_spots spots.now))) }
+    ensures { MakesAll S.Store tx.old.conn tx.new.conn result
+        (PutEntries tab term.now docid spots.now ∷ []) }
 {
     if !can_pack(spots) {
         return Err(StoreFault::Damaged);
@@ -150,14 +140,7 @@ fn apply<S: Alter>(
     alloc: Global,
     change: &RowChange,
 ) -> Result<(), StoreFault>
-    ensures done { ChangesInside S.Store tx.old.conn tx.new.conn result (CanApply change.now)
-        (StepsOnOk S.Store tx.old.conn.now tx.new.conn.now result
-        (λ v. applied (shown_change change.now) v)) }
-    ensures grown { GrowsOnOk S.Store tx.old.conn.now tx.new.conn.now result
-        (rows_put (shown_change change.now)) }
-    ensures refused { let it = shown_change change.now in
-        BlamesRows S.Store tx.old.conn.now tx.new.conn.now result
-        (λ db. CantPut (rows_put it) db (value_of db) it) }
+    ensures { MakesAll S.Store tx.old.conn tx.new.conn result (shown_change change.now ∷ []) }
 {
     match change {
         RowChange::AddTable(tab, name, columns, skipped) => add_table(
@@ -187,11 +170,7 @@ fn apply_each<S: Alter>(
     alloc: Global,
     changes: &[RowChange],
 ) -> Result<(), StoreFault>
-    ensures done { AppliesInside S.Store tx.old.conn tx.new.conn result changes.now }
-    ensures grown { GrowsOnOk S.Store tx.old.conn.now tx.new.conn.now result
-        (sum_by rows_put (map shown_change changes.now)) }
-    ensures refused { BlamesRows S.Store tx.old.conn.now tx.new.conn.now result
-        (λ db. CantPutAll db (map shown_change changes.now)) }
+    ensures { MakesAll S.Store tx.old.conn tx.new.conn result (map shown_change changes.now) }
 {
     for change in changes {
         apply(tx, alloc, change)?;
@@ -283,14 +262,9 @@ fn add_group<S: Alter>(
     alloc: Global,
     changes: &[RowChange],
 ) -> Result<bool, StoreFault>
-    ensures packable { IfOk result (λ added. IsTrue added → All CanApply changes.now) }
-    ensures goes { DoneInside S.Store tx.old.conn tx.new.conn result
-        (GoesOnOk S.Store tx.old.conn.now tx.new.conn.now result
-        (λ added v. if added then all_applied (map shown_change changes.now) v else v)) }
-    ensures grown { GrowsIfAdded S.Store tx.old.conn.now tx.new.conn.now result
-        (sum_by rows_put (map shown_change changes.now)) }
-    ensures refused { BlamesRows S.Store tx.old.conn.now tx.new.conn.now result
-        (λ db. CantPutAll db (map shown_change changes.now)) }
+    ensures { Makes S.Store tx.old.conn tx.new.conn result
+        (λ added. if added then map shown_change changes.now else [])
+        (map shown_change changes.now) }
 {
     if changes.len() != GROUP {
         return Ok(false);
@@ -308,11 +282,7 @@ fn apply_group<S: Alter>(
     alloc: Global,
     changes: &[RowChange],
 ) -> Result<(), StoreFault>
-    ensures done { AppliesInside S.Store tx.old.conn tx.new.conn result changes.now }
-    ensures grown { GrowsOnOk S.Store tx.old.conn.now tx.new.conn.now result
-        (sum_by rows_put (map shown_change changes.now)) }
-    ensures refused { BlamesRows S.Store tx.old.conn.now tx.new.conn.now result
-        (λ db. CantPutAll db (map shown_change changes.now)) }
+    ensures { MakesAll S.Store tx.old.conn tx.new.conn result (map shown_change changes.now) }
 {
     let added = add_group(tx, alloc, changes)?;
     if added {
@@ -327,11 +297,7 @@ fn apply_all<S: Alter>(
     alloc: Global,
     changes: &[RowChange],
 ) -> Result<(), StoreFault>
-    ensures done { AppliesInside S.Store tx.old.conn tx.new.conn result changes.now }
-    ensures grown { GrowsOnOk S.Store tx.old.conn.now tx.new.conn.now result
-        (sum_by rows_put (map shown_change changes.now)) }
-    ensures refused { BlamesRows S.Store tx.old.conn.now tx.new.conn.now result
-        (λ db. CantPutAll db (map shown_change changes.now)) }
+    ensures { MakesAll S.Store tx.old.conn tx.new.conn result (map shown_change changes.now) }
 {
     let mut at = 0;
     while at < changes.len() {

@@ -1,1 +1,0 @@
--- A list of one change that can be made.
