@@ -2,7 +2,7 @@
 use Rattle.std.proofs.Common.{◌≡◌, false, Result, Ok, Err, refl, sym, ◌∙◌, subst, arith, IsTrue, inl}
 use Rattle.sqlite.specs.State.{State, HasCleanDisk, Survives}
 use Rattle.sqlite.proofs.StateLemmas.{survives_then}
-use Rattle.std.specs.Prelude.{IfErr, OnOk}
+use Rattle.std.specs.Prelude.{IfOk, IfErr, OnOk}
 use Rattle.sqlite.specs.Store.{Ghosts}
 use Rattle.sqlite.specs.Held.{Held}
 use Rattle.ft_store.specs.declared.fault.StoreFault.{StoreFault}
@@ -63,6 +63,10 @@ module _ (a b c : State) (one : Looking a b) (kept : HasCleanDisk c → Keeps b 
 pub ok_too : {A E K : Type 0} (r : Result A E) → K → OnOk r K
 ok_too (Ok a) k = k
 ok_too (Err e) k = tt
+
+pub both : {X E : Type 0} (r : Result X E) (P Q R : X → Type 0) → ((x : X) → P x → Q x → R x) → IfOk r P → IfOk r Q → IfOk r R
+both (Ok x) P Q R f p q = f x p q
+both (Err e) P Q R f p q = tt
 
 pub reads_on : {S X Y : Type 0} (g : Ghosts S) (old new : Held S) (x : X) (result : Result Y StoreFault) → ReadsOnly g old new (Ok x) IsPlainFault → IfErr result IsPlainFault → ReadsOnly g old new result IsPlainFault
 reads_on g old new x result it fault = record { kept = it.kept; live = λ clean. ok_too result (it.live clean); mode = it.mode; survives = it.survives; fault = fault }

@@ -1,6 +1,6 @@
 -- Row changes that are made in a transaction, one after the other.
 use Rattle.std.proofs.Common.{◌≡◌, ◌⊎◌, ◌+◌, ◌-◌, ◌<◌, ◌≤◌, ◌∷◌, ◌++◌, ℕ, Bool, true, false, List, [], map, length, take, drop, get_or, All, Result, Ok, Err, IsTrue, refl, sym, ap, subst, ◌∙◌, arith, inl, inr, append_assoc}
-use Rattle.std.specs.Prelude.{Any, IfOk, IfErr, Some, Vec, if◌then◌else◌}
+use Rattle.std.specs.Prelude.{Any, IfErr, Some, Vec, if◌then◌else◌}
 use Rattle.std.specs.declared.alloc.Global.{Global}
 use Rattle.std.specs.Borrow.{MutBor}
 use Rattle.std.specs.List.{AllByRecursion, sum_by, between}
@@ -23,9 +23,9 @@ use Rattle.ft_store.specs.Calls.{IsStore, Steps, Goes, StaysUncommitted, IsPlain
 use Rattle.ft_store.specs.Groups.{PutsList, entry_put, with_lists, GoesOnOk}
 use Rattle.ft_store.specs.Parts.{CanMake, changes_in, IsNext}
 use Rattle.ft_store.specs.Puts.{AreGrown, IsFull, IsBigEntry, GrowsIfAdded, BlamesRows, rows_put, CantPut}
-use Rattle.ft_store.specs.Changes.{Changes, HasMade, Makes, MakesAll}
+use Rattle.ft_store.specs.Changes.{Changes, HasMade, MakesSome, MakesAll}
 use Rattle.ft_store.proofs.CantLemmas.{part_why, cant_one, count_rows, group_why}
-use Rattle.ft_store.proofs.ChainLemmas.{ok_too}
+use Rattle.ft_store.proofs.ChainLemmas.{ok_too, both}
 use Rattle.ft_store.proofs.GroupLemmas.{applied-append, each_puts, goes_of, goes_then}
 use Rattle.ft_store.proofs.InsideLemmas.{stays_same, stays_for, stays_then}
 use Rattle.ft_store.proofs.RiseLemmas.{trees_same, trees_then}
@@ -84,7 +84,7 @@ made_then a b c xs ys one two = record {
 }
 
 -- nothing is made yet
-pub nothing_made : {S X : Type 0} (g : Ghosts S) (a : MutBor (Held S)) (x : X) (made : X → List Change) (all : List Change) → made x ≡ [] → Makes g a a (Ok x) made all
+pub nothing_made : {S X : Type 0} (g : Ghosts S) (a : MutBor (Held S)) (x : X) (made : X → List Change) (all : List Change) → made x ≡ [] → MakesSome g a a (Ok x) made all
 nothing_made g a x made all is = record {
   packable = subst (All CanMake) (sym is) (All-nil CanMake);
   steps = λ clean inside kept. subst (HasMade (state g a.now) (state g a.now)) (sym is) (none_made (state g a.now) inside kept);
@@ -93,10 +93,6 @@ nothing_made g a x made all is = record {
 }
 
 -- one change is made
-both : {X E : Type 0} (r : Result X E) (P Q R : X → Type 0) → ((x : X) → P x → Q x → R x) → IfOk r P → IfOk r Q → IfOk r R
-both (Ok x) P Q R f p q = f x p q
-both (Err e) P Q R f p q = tt
-
 made_one : (a b : State) (c : Change) → Steps a b (applied c (value_of a.now.trees)) → AreGrown (rows_put c) a.now.trees b.now.trees → HasMade a b (c ∷ [])
 made_one a b c step grown = record { goes = goes_of a b _ step; grown = subst (λ n. AreGrown n a.now.trees b.now.trees) (let e = sum_by-cons rows_put c [] in omega (arith, e)) grown }
 
@@ -109,8 +105,8 @@ one_made g a b result c d is can it = subst (λ x. MakesAll g a b result (x ∷ 
 })
 
 -- what is made is told in another way
-pub made_so : {S X Y : Type 0} (g : Ghosts S) (a b : MutBor (Held S)) (x : X) (y : Y) (made : X → List Change) (done all : List Change) → made x ≡ done → Makes g a b (Ok x) made all → Makes g a b (Ok y) (λ _. done) all
-made_so g a b x y made done all is it = subst (λ l. Makes g a b (Ok y) (λ _. l) all) is (record {
+pub made_so : {S X Y : Type 0} (g : Ghosts S) (a b : MutBor (Held S)) (x : X) (y : Y) (made : X → List Change) (done all : List Change) → made x ≡ done → MakesSome g a b (Ok x) made all → MakesSome g a b (Ok y) (λ _. done) all
+made_so g a b x y made done all is it = subst (λ l. MakesSome g a b (Ok y) (λ _. l) all) is (record {
   packable = it.packable;
   steps = it.steps;
   stays = record { same_reference = it.stays.same_reference; kept = it.stays.kept; survives = it.stays.survives; fault = tt };
@@ -118,8 +114,8 @@ made_so g a b x y made done all is it = subst (λ l. Makes g a b (Ok y) (λ _. l
 })
 
 -- one that is refused ends all
-pub ends_all : {S X Y : Type 0} (g : Ghosts S) (a b : MutBor (Held S)) (one : Result X StoreFault) (two : Result Y StoreFault) (e : StoreFault) (some : X → List Change) (made : Y → List Change) (all : List Change) → one ≡ Err e → two ≡ Err e → Makes g a b one some all → Makes g a b two made all
-ends_all g a b one two e some made all is same it = subst (λ r. Makes g a b r made all) (sym same) (record {
+pub ends_all : {S X Y : Type 0} (g : Ghosts S) (a b : MutBor (Held S)) (one : Result X StoreFault) (two : Result Y StoreFault) (e : StoreFault) (some : X → List Change) (made : Y → List Change) (all : List Change) → one ≡ Err e → two ≡ Err e → MakesSome g a b one some all → MakesSome g a b two made all
+ends_all g a b one two e some made all is same it = subst (λ r. MakesSome g a b r made all) (sym same) (record {
   packable = tt;
   steps = λ clean inside kept. tt;
   stays = record { same_reference = it.stays.same_reference; kept = it.stays.kept; survives = it.stays.survives; fault = subst (λ r. IfErr r (IsChangeFault (All CanMake all))) is it.stays.fault };
@@ -128,7 +124,7 @@ ends_all g a b one two e some made all is same it = subst (λ r. Makes g a b r m
 
 -- some were made, and then a step is done
 module _ {S X : Type 0} (g : Ghosts S) (a b c : MutBor (Held S)) (two : Result X StoreFault) (done : List Change) (made : X → List Change) (part rest all : List Change) (is : all ≡ (done ++ part) ++ rest)
-    (first : Makes {X = Unit {0}} g a b (Ok tt) (λ _. done) all) (second : Makes g b c two made part) where
+    (first : MakesSome {X = Unit {0}} g a b (Ok tt) (λ _. done) all) (second : MakesSome g b c two made part) where
   abbrev old : State
   old = state g a.now
 
@@ -144,7 +140,7 @@ module _ {S X : Type 0} (g : Ghosts S) (a b c : MutBor (Held S)) (two : Result X
   still_store : HasMade old mid done → IsTrue mid.is_open → IsStore mid.now
   still_store one is_open = (one.goes.going (one.goes.was_open is_open)).1
 
-  pub part_made : Makes g a c two (λ x. done ++ made x) all
+  pub part_made : MakesSome g a c two (λ x. done ++ made x) all
   part_made = record {
     packable = IfOk-weaker two (λ x. All CanMake (made x)) (λ x. All CanMake (done ++ made x)) (λ x can. All-append CanMake done (made x) first.packable can) second.packable;
     steps = λ clean inside kept.
@@ -161,7 +157,7 @@ module _ {S X : Type 0} (g : Ghosts S) (a b c : MutBor (Held S)) (two : Result X
 
 -- the first of a list of changes are made
 abbrev pub MakesFirst : {S : Type 0} → Ghosts S → MutBor (Held S) → MutBor (Held S) → Result (Unit {0}) StoreFault → List RowChange → ℕ → Type 0
-MakesFirst g old new result changes at = Makes g old new result (λ _. map shown_change (take at changes)) (map shown_change changes)
+MakesFirst g old new result changes at = MakesSome g old new result (λ _. map shown_change (take at changes)) (map shown_change changes)
 
 pub one_between : (changes : List RowChange) (at : ℕ) (change : RowChange) → at < length changes → change ≡ get_or changes at change → shown_change change ∷ [] ≡ map shown_change (between at (at + 1) changes)
 one_between changes at change inside is =
@@ -176,10 +172,10 @@ module _ {S : Type 0} (g : Ghosts S) (a b : MutBor (Held S)) (changes : List Row
       (let e : end ≡ at + (end - at) = omega (arith, le) in ap (λ n. map shown_change (take n changes)) e ∙ ap (map shown_change) (take-add at (end - at) changes) ∙ map-append shown_change (take at changes) (between at end changes)) in
       let split : map shown_change changes ≡ (done ++ part) ++ map shown_change (drop end changes) =
       ap (map shown_change) (sym (take-append-drop end changes)) ∙ map-append shown_change (take end changes) (drop end changes) ∙ ap (λ l. l ++ map shown_change (drop end changes)) more in
-      subst (λ l. Makes g a c two (λ _. l) (map shown_change changes)) (sym more) (part_made g a b c two done (λ _. part) part (map shown_change (drop end changes)) (map shown_change changes) split first second)
+      subst (λ l. MakesSome g a c two (λ _. l) (map shown_change changes)) (sym more) (part_made g a b c two done (λ _. part) part (map shown_change (drop end changes)) (map shown_change changes) split first second)
 
   pub all_made : (at : ℕ) → length changes ≤ at → MakesFirst g a b (Ok tt) changes at → MakesAll g a b (Ok tt) (map shown_change changes)
-  all_made at end it = subst (λ (l : List RowChange). Makes g a b (Ok tt) (λ _. map shown_change l) (map shown_change changes)) (take_all at changes end) it
+  all_made at end it = subst (λ (l : List RowChange). MakesSome g a b (Ok tt) (λ _. map shown_change l) (map shown_change changes)) (take_all at changes end) it
 
 -- one part more
 module _ {S : Type 0} (g : Ghosts S) (a b c : MutBor (Held S)) (two : Result (Unit {0}) StoreFault) (done : List Change) (left rest : List (List Change)) (part : Vec RowChange Global) (all : List Change) (is : all ≡ done ++ changes_in left)
@@ -187,7 +183,7 @@ module _ {S : Type 0} (g : Ghosts S) (a b c : MutBor (Held S)) (two : Result (Un
   pub next_is : all ≡ (done ++ map shown_change part.items) ++ changes_in rest
   next_is = is ∙ ap (λ l. done ++ changes_in l) next ∙ sym (append_assoc done (map shown_change part.items) (changes_in rest))
 
-  pub next_made : Makes {X = Unit {0}} g a b (Ok tt) (λ _. done) all → MakesAll g b c two (map shown_change part.items) → Makes g a c two (λ _. done ++ map shown_change part.items) all
+  pub next_made : MakesSome {X = Unit {0}} g a b (Ok tt) (λ _. done) all → MakesAll g b c two (map shown_change part.items) → MakesSome g a c two (λ _. done ++ map shown_change part.items) all
   next_made first second = part_made g a b c two done (λ _. map shown_change part.items) (map shown_change part.items) (changes_in rest) all next_is first second
 
 -- ---- eight lists
@@ -206,7 +202,7 @@ puts_can changes false puts = All-nil CanMake
 
 pub eight_made : {S : Type 0} (g : Ghosts S) (a b : MutBor (Held S)) (result : Result Bool StoreFault) (changes : List RowChange) → All PutsList changes → length changes ≡ 8
     → GoesOnOk g a.now b.now result (λ added v. if added then with_lists (map entry_put changes) v else v) → StaysUncommitted g a b result → GrowsIfAdded g a.now b.now result 8
-    → BlamesRows g a.now b.now result (λ db. IsFull 8 (db 7) ⊎ Any IsBigEntry (map entry_put changes)) → Makes g a b result (λ added. if added then map shown_change changes else []) (map shown_change changes)
+    → BlamesRows g a.now b.now result (λ db. IsFull 8 (db 7) ⊎ Any IsBigEntry (map entry_put changes)) → MakesSome g a b result (λ added. if added then map shown_change changes else []) (map shown_change changes)
 eight_made g a b result changes puts eight goes stays grown refused = record {
   packable = IfOk-weaker result (λ _. Unit {0}) (λ added. All CanMake (if added then map shown_change changes else [])) (λ added _. puts_can changes added puts) (ok_too result tt);
   steps = λ clean inside kept. both result _ _ _ (λ added. puts_made (state g a.now) (state g b.now) changes added puts eight) (goes clean inside kept) (grown clean inside kept);

@@ -76,7 +76,8 @@ pub record HasMade (old now : State) (changes : List Change) : Type 0 where
 -- What a function of a transaction does with row changes: those are made that `made` gives of its
 -- answer. It is refused only as damaged, where not all can be made, by what lies outside the store,
 -- or since one of all can't be put.
-pub record Makes {S X : Type 0} (g : Ghosts S) (old new : MutBor (Held S)) (result : Result X StoreFault) (made : X → List Change) (all : List Change) : Type 0 where
+pub record MakesSome {S X : Type 0} (g : Ghosts S) (old new : MutBor (Held S)) (result : Result X StoreFault)
+    (made : X → List Change) (all : List Change) : Type 0 where
   pub packable : IfOk result (λ x. All CanMake (made x))
   pub steps : HasCleanDisk (state g new.now) → IsTrue (state g old.now).in_transaction → (IsTrue (state g old.now).is_open → IsStore (state g old.now).now)
       → IfOk result (λ x. HasMade (state g old.now) (state g new.now) (made x))
@@ -85,4 +86,4 @@ pub record Makes {S X : Type 0} (g : Ghosts S) (old new : MutBor (Held S)) (resu
 
 -- all are made
 abbrev pub MakesAll : {S : Type 0} → Ghosts S → MutBor (Held S) → MutBor (Held S) → Result (Unit {0}) StoreFault → List Change → Type 0
-MakesAll g old new result changes = Makes g old new result (λ _. changes) changes
+MakesAll g old new result changes = MakesSome g old new result (λ _. changes) changes

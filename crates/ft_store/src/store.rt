@@ -5,7 +5,7 @@ ghost use Rattle.std.specs.Prelude.{◌≡◌, ◌≢◌, ◌↔◌, if◌then�
 ghost use Rattle.std.specs.Ordering.{int_eq, is_eq};
 ghost use Rattle.std.specs.List.{starts_with};
 ghost use Rattle.std.specs.FinMap.Entries.{where_key};
-ghost use Rattle.sqlite.specs.State.{HasCleanDisk, Survives};
+ghost use Rattle.sqlite.specs.State.{HasCleanDisk};
 ghost use Rattle.sqlite_wal.specs.Files.{image_at};
 ghost use Rattle.sqlite_trees.specs.Tree.{Trees};
 ghost use Rattle.ft_rows.specs.Store.{cell_key_cmp, list_key_cmp, name_cmp, nothing_held, all_applied, AreInOrder};
@@ -16,9 +16,9 @@ ghost use Rattle.ft_store.specs.Blame.{Blames, AreTableTexts, AreNotedTexts};
 ghost use Rattle.ft_store.specs.Puts.{BlamesPuts};
 ghost use Rattle.ft_store.specs.Docids.{docids_in, cut_to};
 ghost use Rattle.ft_store.specs.Expected.{posting_count};
-ghost use Rattle.ft_store.specs.Calls.{AreTold, IsPlainFault, IsReadFault, IsChangeFault, IsStored, Keeps, MakesAllOrNone};
+ghost use Rattle.ft_store.specs.Calls.{AreTold, IsPlainFault, IsReadFault, IsChangeFault, IsStored, MakesAllOrNone};
 ghost use Rattle.ft_store.specs.declared.examine.Rowids.TheVariants.{Apart};
-ghost use Rattle.ft_store.specs.Settled.{AreAsKnown};
+ghost use Rattle.ft_store.specs.Settled.{AreAsKnown, IsSettled, IsBare, IsEmptyStore};
 ghost use Rattle.ft_store.specs.Adopted.{IsTakenAsStore, IsNotTaken, IsNotTakenFor, LeavesMade};
 ghost use Rattle.ft_store.specs.Older.{IsOlder};
 ghost use Rattle.ft_store.specs.Parts.{changes_in, CanMake};
@@ -38,7 +38,9 @@ use crate::{expected, lists, tables, write};
 use ft_rows::TermLists;
 use ft_values::{CellRow, EntryRow, ListRow, RowChange, SizeRow, TabRow};
 use ram_disk::{Ram, open_ram};
-use sqlite::{Alter, Connection, File, FileFrom, FileStore, Start, Unknown, params};
+use sqlite::{
+    Alter, Connection, Error as SqlError, File, FileFrom, FileStore, Start, Unknown, params,
+};
 use std::alloc::Global;
 use std::marker::Model;
 
@@ -88,17 +90,7 @@ impl Store<FileStore<Ram>> {
         ensures unread { IfOk result (λ store. store.rows_read ≡ 0) }
         ensures causes { OnErr result (result ≡ Err StoreFault.Memory) }
     {
-        let Ok(mut conn) = open_ram(alloc) else {
-            return Err(StoreFault::Memory);
-        };
-        let Ok(()) = make(&mut conn) else {
-            return Err(StoreFault::Memory);
-        };
-        Ok(Store {
-            conn,
-            alloc,
-            rows_read: UNREAD,
-        })
+        Store::begun(alloc, open_ram(alloc))
     }
 }
 
@@ -174,6 +166,29 @@ impl<S: Alter + Drop> Store<S> {
     {
         let mut conn = conn;
         take(&mut conn, alloc, Rowids::Apart)?;
+        Ok(Store {
+            conn,
+            alloc,
+            rows_read: UNREAD,
+        })
+    }
+
+    // An empty store in a new database, if it was opened. Each refusal is want of memory.
+    fn begun(alloc: Global, found: Result<Connection<S>, SqlError>) -> Result<Store<S>, StoreFault>
+        requires { IfOk found (λ conn. IsSettled IsBare (state S.Store conn)) }
+        ensures empty { IfOk result (λ store. HasCleanDisk (state S.Store store.held)
+            → IsEmptyStore (state S.Store store.held).now) }
+        ensures up { IfOk result (λ store. HasCleanDisk (state S.Store store.held)
+            → IsTrue (state S.Store store.held).is_open) }
+        ensures unread { IfOk result (λ store. store.rows_read ≡ 0) }
+        ensures causes { OnErr result (result ≡ Err StoreFault.Memory) }
+    {
+        let Ok(mut conn) = found else {
+            return Err(StoreFault::Memory);
+        };
+        let Ok(()) = make(&mut conn) else {
+            return Err(StoreFault::Memory);
+        };
         Ok(Store {
             conn,
             alloc,

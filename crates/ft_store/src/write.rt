@@ -12,7 +12,7 @@ ghost use Rattle.ft_store.specs.Calls.{ChangesAllOrNone, IsAtRest};
 ghost use Rattle.ft_store.specs.Inside.{without_columns, without_skips};
 ghost use Rattle.ft_store.specs.Groups.{entry_values, entry_put, PutsList, ArePacked};
 ghost use Rattle.ft_store.specs.Puts.{IsFull, IsTooBig, IsOthers, CantPut, BlamesPuts};
-ghost use Rattle.ft_store.specs.Changes.{Changes, ChangesIfOpen, Drops, Makes, MakesAll};
+ghost use Rattle.ft_store.specs.Changes.{Changes, ChangesIfOpen, Drops, MakesSome, MakesAll};
 ghost use Rattle.ft_store.specs.Rows.{value_of};
 ghost use Rattle.ft_store.specs.Parts.{changes_in, CanMake};
 
@@ -262,7 +262,7 @@ fn add_group<S: Alter>(
     alloc: Global,
     changes: &[RowChange],
 ) -> Result<bool, StoreFault>
-    ensures { Makes S.Store tx.old.conn tx.new.conn result
+    ensures { MakesSome S.Store tx.old.conn tx.new.conn result
         (λ added. if added then map shown_change changes.now else [])
         (map shown_change changes.now) }
 {

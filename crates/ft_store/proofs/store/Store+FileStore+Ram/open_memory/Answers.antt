@@ -1,15 +1,13 @@
 use Rattle.std.proofs.Common.{refl}
+use Rattle.std.proofs.lemmas.Result.{IfOk-weaker}
 use Rattle.ram_disk.specs.Clean.{never_lies_is_clean}
 use Rattle.ft_store.proofs.store.Store+FileStore+Ram.open_memory.Goals as goal
 
-pub invariant_of-result : goal.invariant_of-result
-invariant_of-result c = record { settled = c.make.ensures.made.mode; store = λ clean _. (c.in-Ok-make.ensures.made.all clean).0 }
-
 pub returns-clause-empty : goal.returns-clause-empty
-returns-clause-empty c = (c.in-Ok-make.ensures.made.all (never_lies_is_clean (λ _. refl) c.make.new.conn)).1
+returns-clause-empty c = IfOk-weaker c.begun.result _ _ (λ store made. (made (never_lies_is_clean (λ _. refl) store.held)).1) c.begun.ensures.empty
 
 pub returns-clause-clean : goal.returns-clause-clean
-returns-clause-clean c = never_lies_is_clean (λ _. refl) c.make.new.conn
+returns-clause-clean c = IfOk-weaker c.begun.result _ _ (λ store made. never_lies_is_clean (λ _. refl) store.held) c.begun.ensures.empty
 
 pub returns-clause-up : goal.returns-clause-up
-returns-clause-up c = c.in-Ok-make.ensures.made.live (never_lies_is_clean (λ _. refl) c.make.new.conn)
+returns-clause-up c = IfOk-weaker c.begun.result _ _ (λ store up. up (never_lies_is_clean (λ _. refl) store.held)) c.begun.ensures.up
