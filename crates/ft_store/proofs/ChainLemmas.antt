@@ -1,12 +1,18 @@
 -- Reads one after another.
-use Rattle.std.proofs.Common.{◌≡◌, false, Result, Ok, Err, refl, sym, ◌∙◌, subst, arith, IsTrue, inl}
+use Rattle.std.proofs.Common.{◌≡◌, false, Result, Ok, Err, refl, sym, ap, ◌∙◌, subst, arith, IsTrue, inl}
 use Rattle.sqlite.specs.State.{State, HasCleanDisk, Survives}
 use Rattle.sqlite.proofs.StateLemmas.{survives_then}
 use Rattle.std.specs.Prelude.{IfOk, IfErr, OnOk}
 use Rattle.sqlite.specs.Store.{Ghosts}
 use Rattle.sqlite.specs.Held.{Held}
 use Rattle.ft_store.specs.declared.fault.StoreFault.{StoreFault}
-use Rattle.ft_store.specs.Calls.{IsStore, IsStoreIfOpen, IsPlainFault, Keeps, ReadsOnly}
+use Rattle.sqlite.specs.Effect.{Database}
+use Rattle.sqlite.specs.Tree.{Trees}
+use Rattle.sqlite_catalog.specs.Listing.{IsSound}
+use Rattle.ft_rows.specs.Store.{StoreValue}
+use Rattle.ft_store.specs.Tables.{store_schema}
+use Rattle.ft_store.specs.Rows.{value_of}
+use Rattle.ft_store.specs.Calls.{IsStore, IsStored, IsStoreIfOpen, IsMarked, IsPlainFault, HaveOwnRowids, Keeps, ReadsOnly}
 
 pub kept_store : (old new : State) (C : _) → (HasCleanDisk new → Keeps old new) → Survives old new C → IsStoreIfOpen old → IsStoreIfOpen new
 kept_store old new C kept s store clean is_open =
@@ -70,3 +76,15 @@ both (Err e) P Q R f p q = tt
 
 pub reads_on : {S X Y : Type 0} (g : Ghosts S) (old new : Held S) (x : X) (result : Result Y StoreFault) → ReadsOnly g old new (Ok x) IsPlainFault → IfErr result IsPlainFault → ReadsOnly g old new result IsPlainFault
 reads_on g old new x result it fault = record { kept = it.kept; live = λ clean. ok_too result (it.live clean); mode = it.mode; survives = it.survives; fault = fault }
+
+-- ---- what a crash leaves of an open store
+
+pub stored_trees : (s : State) (db : Trees) (v : StoreValue) → IsStore s.now → value_of s.now.trees ≡ v → s.now ≡ s.committed → db ≡ s.committed.trees → IsStored db v
+stored_trees s db v store is settled left =
+    let same : db ≡ s.now.trees = left ∙ ap (λ (d : Database). d.trees) (sym settled) in
+    record {
+      sound = subst (IsSound store_schema) (sym same) (subst (λ h. IsSound h s.now.trees) store.schema store.sound);
+      numbered = subst (HaveOwnRowids store_schema.tables) (sym same) store.numbered;
+      marked = subst IsMarked (sym same) store.marked;
+      is = ap value_of same ∙ is;
+    }
