@@ -1,16 +1,15 @@
 //! Whether a database with the tables of a store is one.
-ghost use Rattle.std.specs.Prelude.{◌≡◌, ◌≢◌, ◌↔◌, ◌⊎◌, false, ℤ, ◌<◌, [], ◌∷◌, map, length, MatchOption, IfSome, ◌<ℤ◌, Err, Some, None, IsTrue, IfErr, OnOk};
+ghost use Rattle.std.specs.Prelude.{◌≡◌, ◌≢◌, ◌↔◌, ◌⊎◌, ℤ, ◌<◌, length, MatchOption, Err, Some, None, IsTrue, IfErr, OnOk};
 ghost use Rattle.sqlite.specs.State.{HasCleanDisk};
 ghost use Rattle.sqlite.specs.Held.{state};
 ghost use Rattle.sqlite.specs.Order.{column};
-ghost use Rattle.sqlite.specs.declared.types.Value.TheVariants.{Int};
 ghost use Rattle.ft_store.specs.declared.same.Layout.{Layout};
 ghost use Rattle.ft_store.specs.Scan.{Scans, tree_at};
 ghost use Rattle.ft_store.specs.Older.{schema_of, tables_of, version_of, IsStoreBy};
 ghost use Rattle.ft_store.specs.Adopted.{HasVersion, other_version, IsAdoptFault, IsOddStore, IsOtherVersion};
 ghost use Rattle.ft_store.specs.Blame.{IsBlamed, Blames};
 ghost use Rattle.ft_store.specs.Calls.{HasOwnRowids, HaveOwnRowids, ReadsOnly};
-ghost use Rattle.ft_store.specs.Settled.{AreAsKnown, IsSettled, IsLaidOut, IsJudged, FindsOrRefuses, ReadsFor};
+ghost use Rattle.ft_store.specs.Settled.{AreAsKnown, IsSettled, IsLaidOut, IsJudged, ReadsFor};
 
 use crate::fault::StoreFault;
 use crate::same::Layout;

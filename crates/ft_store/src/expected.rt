@@ -1,13 +1,10 @@
 //! Whether the lists of a table are exactly those that are expected.
-ghost use Rattle.std.specs.Prelude.{◌≡◌, ◌↔◌, ℤ, ◌-◌, ◌^◌, min, map, drop, [], Some, Err, IsTrue, MatchBool};
+ghost use Rattle.std.specs.Prelude.{◌≡◌, ◌↔◌, ℤ, ◌-◌, ◌^◌, min, map, drop, [], Err, IsTrue, MatchBool};
 ghost use Rattle.std.specs.Ordering.{int_eq};
 ghost use Rattle.std.specs.FinMap.Entries.{where_key};
 ghost use Rattle.sqlite.specs.Held.{state};
-ghost use Rattle.sqlite.specs.Order.{column};
-ghost use Rattle.sqlite_value.specs.Order.{bytes};
-ghost use Rattle.ft_rows.specs.Packed.{spots_in};
 ghost use Rattle.ft_rows.specs.Store.{list_key_cmp};
-ghost use Rattle.ft_rows.specs.Terms.{spot_of, lists_by_terms};
+ghost use Rattle.ft_rows.specs.Terms.{lists_by_terms};
 ghost use Rattle.ft_store.specs.Rows.{value_of};
 ghost use Rattle.ft_store.specs.Expected.{left_of, HasMore, IsList, posting_count};
 ghost use Rattle.ft_store.specs.Blame.{Blames, IsTermRow};

@@ -1,9 +1,6 @@
 //! Queries on the lists of terms.
-ghost use Rattle.std.specs.Prelude.{◌≡◌, ◌≢◌, false, IsUtf8, ℤ, ◌<◌, ◌-◌, ◌^◌, [], ◌++◌, map, min, Err, IfOk, OnOk, MatchOption};
-ghost use Rattle.std.specs.Ordering.{int_eq};
+ghost use Rattle.std.specs.Prelude.{◌≡◌, ◌≢◌, IsUtf8, ℤ, ◌<◌, ◌-◌, ◌^◌, [], ◌++◌, map, min, Err, IfOk, OnOk, MatchOption};
 ghost use Rattle.std.specs.List.{AllByRecursion, flat_map};
-ghost use Rattle.std.specs.FinMap.Entries.{where_key};
-ghost use Rattle.sqlite.specs.State.{Shown};
 ghost use Rattle.sqlite.specs.Order as order;
 ghost use Rattle.sqlite.specs.Order.{column};
 ghost use Rattle.sqlite_value.specs.Order.{bytes};
@@ -11,7 +8,6 @@ ghost use Rattle.sqlite.specs.Values.{bound};
 ghost use Rattle.sqlite.specs.Held.{state};
 ghost use Rattle.sqlite_value.specs.Value.{owned};
 ghost use Rattle.sqlite.specs.declared.types.Value.TheVariants.{Int, Text};
-ghost use Rattle.ft_rows.specs.Store.{list_key_cmp};
 ghost use Rattle.ft_store.specs.Rows.{value_of};
 ghost use Rattle.ft_store.specs.Range.{after_last, limit_of};
 ghost use Rattle.ft_store.specs.Found.{found_spots, found_places};

@@ -5,7 +5,7 @@ ghost use Rattle.ft_store.specs.Tables.{no_schema};
 ghost use Rattle.ft_rows.specs.Store.{nothing_held};
 ghost use Rattle.ft_store.specs.Rows.{value_of};
 ghost use Rattle.ft_store.specs.Calls.{IsPlainFault, IsStore, IsStored};
-ghost use Rattle.ft_store.specs.Settled.{IsSettled, IsBare, IsEmptyStore, FindsOrRefuses, MakesWhole};
+ghost use Rattle.ft_store.specs.Settled.{IsSettled, IsBare, IsEmptyStore, MakesWhole};
 ghost use Rattle.ft_store.specs.Made.{first_tables, IsEmptyOf, IsUnmarked, MakesNext};
 ghost use Rattle.ft_store.specs.Inside.{MakesInside};
 ghost use Rattle.ft_store.specs.Blame.{Blames, BlamesIn};

@@ -1,23 +1,15 @@
 //! What stands in the rows of queries.
-ghost use Rattle.std.specs.Prelude.{◌≡◌, ◌<◌, Err, length, ℤ, ◌&&◌, map, slice_get, is_some, option_map, string_bytes, IsTrue, IfOk};
-ghost use Rattle.std.specs.Ordering.{int_eq};
-ghost use Rattle.std.specs.FinMap.Entries.{where_key};
+ghost use Rattle.std.specs.Prelude.{◌≡◌, ◌<◌, Err, length, ℤ, string_bytes, IfOk};
 ghost use Rattle.sqlite.specs.State.{Shown};
-ghost use Rattle.sqlite.specs.Values.{bound};
 ghost use Rattle.sqlite.specs.declared.types.Value.TheVariants.{Int};
 ghost use Rattle.sqlite.specs.Query.{as_count};
-ghost use Rattle.sqlite.specs.Held.{state};
 ghost use Rattle.sqlite.specs.Order as order;
 ghost use Rattle.sqlite.specs.Order.{column};
-ghost use Rattle.sqlite_rules.specs.Edit.{id_in};
-ghost use Rattle.ft_rows.specs.Store.{cell_key_cmp, column_key_cmp};
 ghost use Rattle.ft_values.specs.Cells.{shown_value};
-ghost use Rattle.ft_store.specs.Rows.{text_in, cell_in, value_of};
+ghost use Rattle.ft_store.specs.Rows.{text_in, cell_in};
 ghost use Rattle.ft_store.specs.Found.{id_and_name};
-ghost use Rattle.ft_rows.specs.Shown.{shown_cell, shown_size, shown_column, shown_skip, shown_note, last_docid_of};
-ghost use Rattle.ft_store.specs.Docids.{docids_in, cut_to};
-ghost use Rattle.ft_store.specs.Calls.{IsAtRest};
-ghost use Rattle.ft_store.specs.Settled.{IsSettled, IsPlainIn, FindsOrRefuses, ReadsFor, GivesRows};
+ghost use Rattle.ft_rows.specs.Shown.{shown_cell, shown_size, shown_column, shown_note};
+ghost use Rattle.ft_store.specs.Settled.{FindsOrRefuses};
 
 use crate::fault::StoreFault;
 use crate::stream::{InRow, select};

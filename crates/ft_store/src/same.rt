@@ -1,5 +1,5 @@
 //! Whether a schema is that of a store.
-ghost use Rattle.std.specs.Prelude.{◌≡◌, ◌↔◌, ◌<◌, ℕ, suc, [], ◌∷◌, ◌++◌, map, drop, length, if◌then◌else◌, IsTrue, MatchOption};
+ghost use Rattle.std.specs.Prelude.{◌≡◌, ◌↔◌, ◌<◌, ℕ, suc, [], map, drop, length, if◌then◌else◌, IsTrue, MatchOption};
 ghost use Rattle.std.specs.List.{list_any};
 ghost use Rattle.sqlite_schema.specs.Code.{term_to};
 ghost use Rattle.sqlite_schema.specs.Names.{same_name};
