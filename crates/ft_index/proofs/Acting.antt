@@ -8,16 +8,14 @@ use Rattle.ft_store.specs.Rows.{value_of as value_in_trees}
 use Rattle.ft_rows.specs.Store.{StoreValue, Change, all_applied}
 use Rattle.ft_store.specs.Kept.{StoreState, shows, value_in}
 use Rattle.ft_values.specs.declared.fault.Fault.{Fault}
-use Rattle.ft_values.specs.declared.fault.Fault.TheVariants as faults
 use Rattle.ft_content.specs.Content.{Content, Documents, same_name}
 use Rattle.ft_content.specs.Command.{Command, Reply}
 use Rattle.ft_content.specs.Views.{TableInfo}
 use Rattle.ft_content.specs.Deserved.{TableState, Sound, Stale, Loose, Table, Contents, deserved}
 use Rattle.ft_content.specs.Step.{after, with_documents, on_table}
 use Rattle.ft_index.specs.DocumentsRead.{Looks}
-use Rattle.ft_index.specs.Kept.{IsUp, AreHeld, KeepsOthers, Executes, Answers, is_outside, table_info}
+use Rattle.ft_index.specs.Kept.{IsUp, IsOutside, AreHeld, KeepsOthers, Executes, Answers, is_outside, table_info}
 use Rattle.ft_index.specs.Changed.{Changed, with_tables}
-use Rattle.ft_index.specs.Written.{PlansTo}
 use Rattle.ft_index.proofs.CreateLemmas.{refused_answers}
 use Rattle.ft_index.proofs.Executing.{executes_refused}
 use Rattle.ft_index.proofs.OtherRows.{keeps_same}
@@ -40,6 +38,11 @@ told_written name change (t ∷ ts) = λ i. here i ∷ told_written name change 
 pub told_kept : (store : StoreValue) (tables : List TableInfo) (command : Command) (name : List ℕ) (change : Content → Documents) → ((contents : Contents) → after contents command ≡ on_table contents name (with_documents change)) →
     (contents : Contents) → AreHeld store tables contents → deserved contents command ≡ None → tables ≡ map table_info (after contents command)
 told_kept store tables command name change leaves contents held fine = held.told ∙ sym (told_written name change contents) ∙ ap (map table_info) (sym (leaves contents))
+
+-- the answer of a plan that is refused
+pub fault_answers : (first : Contents) (command : Command) (fault : Fault) → IsTrue (is_outside (Err fault)) ⊎ (deserved first command ≡ Some fault) → Answers first command (Err fault) first
+fault_answers first command fault (inl outside) = inl (outside, refl)
+fault_answers first command fault (inr is) = inr (refused_answers first command fault is)
 
 module _ {S : Type 0} (g : Ghosts S) where
   pub looks_up : (old new : StoreState S) (tables others : List TableInfo) → Looks g old new → IsUp g (with_tables new tables) → IsUp g (with_tables old others)
@@ -67,15 +70,7 @@ module _ {S : Type 0} (g : Ghosts S) where
     unchanged = λ no up. (looks_same old new tables looks up, refl);
   }
 
-  -- a plan that is refused
-  pub executes_failed : (old new : StoreState S) (tables : List TableInfo) (command : Command) (fault : Fault) → Looks g old new → PlansTo g tables old new command (Err fault) → Executes g (with_tables old tables) command (Err fault) (with_tables new tables)
-  executes_failed old new tables command fault looks plans = executes_read old new tables command (Err fault) looks (λ up first held. due first (plans up first held))
-    where
-      due : (first : Contents) → IsTrue (is_outside (Err fault)) ⊎ (deserved first command ≡ Some fault) → Answers first command (Err fault) first
-      due first (inl outside) = inl (outside, refl)
-      due first (inr is) = inr (refused_answers first command fault is)
-
   -- a plan that the store refuses to carry out
-  pub executes_undone : (old mid new : StoreState S) (tables : List TableInfo) (changes : List Change) (command : Command) (fault : Fault) → (fault ≡ faults.Store) ⊎ (fault ≡ faults.Memory) → Looks g old mid → Changed g mid new changes false →
+  pub executes_undone : (old mid new : StoreState S) (tables : List TableInfo) (changes : List Change) (command : Command) (fault : Fault) → IsOutside fault → Looks g old mid → Changed g mid new changes false →
       Executes g (with_tables old tables) command (Err fault) (with_tables new tables)
   executes_undone old mid new tables changes command fault outside looks changed = executes_refused g old new tables changes command fault outside (then_changed old mid new changes false looks changed)

@@ -52,36 +52,28 @@ module _ {S : Type 0} (g : Ghosts S) where
   abbrev pub IsCleanAt : FullText S → Type 0
   IsCleanAt known = HasCleanDisk (shows g known.store)
 
-  call_clean : (old new : FullText S) (call : Call) → DoesCall g old call new → IsCleanAt new → IsCleanAt old
-  call_clean old new (Executed command answer) does clean = omega (arith, does.1.survives.clean, clean)
-  call_clean old new (Noted name is_done) does clean = omega (arith, does.1.survives.clean, clean)
-  call_clean old new (Looked is_done) does clean = omega (arith, does.1.survives.clean, clean)
+  -- what any call leaves
+  record CallLeaves (old new : FullText S) (call : Call) : Type 0 where
+    clean : IsCleanAt new → IsCleanAt old
+    up : IsUp g new → IsUp g old
+    -- an answer says that the store is open
+    live : is_answered call ≡ true → IsCleanAt new → IsUp g new
+    settled : SurvivesCrash g new
+
+  call_leaves : (old new : FullText S) (call : Call) → DoesCall g old call new → CallLeaves old new call
+  call_leaves old new (Executed command answer) does = record { clean = λ c. omega (arith, does.1.survives.clean, c); up = λ u. does.0.was_up u; live = λ done c. record { clean = c; is_open = does.1.live c done }; settled = does.1.settled }
+  call_leaves old new (Noted name is_done) does = record { clean = λ c. omega (arith, does.1.survives.clean, c); up = λ u. does.0.was_up u; live = λ done c. record { clean = c; is_open = does.1.live c done }; settled = does.1.settled }
+  call_leaves old new (Looked is_done) does = record { clean = λ c. omega (arith, does.1.survives.clean, c); up = λ u. does.0.was_up u; live = λ done c. record { clean = c; is_open = does.1.live c done }; settled = does.1.settled }
 
   -- the disk did what it was told at each call
   pub clean_before : (start end : FullText S) (calls : List Call) → Runs g start calls end → IsCleanAt end → IsCleanAt start
   clean_before start end [] same clean = subst IsCleanAt same clean
-  clean_before start end (call ∷ calls) runs clean = call_clean start runs.0 call runs.1 (clean_before runs.0 end calls runs.2 clean)
-
-  call_up : (old new : FullText S) (call : Call) → DoesCall g old call new → IsUp g new → IsUp g old
-  call_up old new (Executed command answer) does up = does.0.was_up up
-  call_up old new (Noted name is_done) does up = does.0.was_up up
-  call_up old new (Looked is_done) does up = does.0.was_up up
+  clean_before start end (call ∷ calls) runs clean = (call_leaves start runs.0 call runs.1).clean (clean_before runs.0 end calls runs.2 clean)
 
   -- what is up in the end was so at each call
   up_before : (start end : FullText S) (calls : List Call) → IsUp g end → Runs g start calls end → IsUp g start
   up_before start end [] up runs = subst (IsUp g) runs up
-  up_before start end (call ∷ calls) up runs = call_up start runs.0 call runs.1 (up_before runs.0 end calls up runs.2)
-
-  -- an answer says that the store is open
-  call_live : (old new : FullText S) (call : Call) → DoesCall g old call new → is_answered call ≡ true → IsCleanAt new → IsUp g new
-  call_live old new (Executed command answer) does done clean = record { clean = clean; is_open = does.1.live clean done }
-  call_live old new (Noted name is_done) does done clean = record { clean = clean; is_open = does.1.live clean done }
-  call_live old new (Looked is_done) does done clean = record { clean = clean; is_open = does.1.live clean done }
-
-  call_settled : (old new : FullText S) (call : Call) → DoesCall g old call new → SurvivesCrash g new
-  call_settled old new (Executed command answer) does = does.1.settled
-  call_settled old new (Noted name is_done) does = does.1.settled
-  call_settled old new (Looked is_done) does = does.1.settled
+  up_before start end (call ∷ calls) up runs = (call_leaves start runs.0 call runs.1).up (up_before runs.0 end calls up runs.2)
 
   pub runs_split : (start end : FullText S) (xs ys : List Call) → Runs g start (xs ++ ys) end → (mid : FullText S) × Runs g start xs mid × Runs g mid ys end
   runs_split start end [] ys runs = (start, refl, runs)
@@ -165,7 +157,7 @@ module _ {S : Type 0} (g : Ghosts S) where
       let cut = runs_split start end (before ++ call ∷ []) more (subst (λ cs. Runs g start cs end) (is ∙ sym (append_assoc before (call ∷ []) more)) runs) in
       let last = runs_split start cut.0 before (call ∷ []) cut.1 in
       let mid_clean = clean_before cut.0 end more cut.2 clean in
-      let up : IsUp g cut.0 = subst (IsUp g) (sym last.2.2) (call_live last.0 last.2.0 call last.2.1 done (subst IsCleanAt last.2.2 mid_clean)) in
+      let up : IsUp g cut.0 = subst (IsUp g) (sym last.2.2) ((call_leaves last.0 last.2.0 call last.2.1).live done (subst IsCleanAt last.2.2 mid_clean)) in
       (cut.0, cut.1, cut.2, stands_up start cut.0 (before ++ call ∷ []) first up holds cut.1)
 
   refused_behind : (start end : FullText S) (calls before more : List Call) (command : Command) (fault : Fault) → Runs g start calls end → calls ≡ before ++ Executed command (Err fault) ∷ more →
@@ -177,29 +169,21 @@ module _ {S : Type 0} (g : Ghosts S) where
   -- ---- a crash
 
   -- what a call leaves that found the store shut
+  kept_only : {B C : Type 0} (old : FullText S) → (IsUp g old → ⊥) → B ⊎ (IsUp g old × C) → B
+  kept_only old shut (inl kept) = kept
+  kept_only old shut (inr more) = absurd (shut more.0)
+
   shut_call : (old new : FullText S) (call : Call) → DoesCall g old call new → (IsUp g old → ⊥) → IsCleanAt new → (db : Trees) → (shows g new.store).may_leave db → (shows g old.store).may_leave db
-  shut_call old new (Executed command answer) does shut clean db may = only (does.1.survives.crash clean db may)
-    where
-      only : {B C : Type 0} → B ⊎ (IsUp g old × C) → B
-      only (inl kept) = kept
-      only (inr more) = absurd (shut more.0)
-  shut_call old new (Noted name is_done) does shut clean db may = only (does.1.survives.crash clean db may)
-    where
-      only : {B C : Type 0} → B ⊎ (IsUp g old × C) → B
-      only (inl kept) = kept
-      only (inr more) = absurd (shut more.0)
-  shut_call old new (Looked is_done) does shut clean db may = only (does.1.survives.crash clean db may)
-    where
-      only : {B C : Type 0} → B ⊎ (IsUp g old × C) → B
-      only (inl kept) = kept
-      only (inr more) = absurd (shut more.0)
+  shut_call old new (Executed command answer) does shut clean db may = kept_only old shut (does.1.survives.crash clean db may)
+  shut_call old new (Noted name is_done) does shut clean db may = kept_only old shut (does.1.survives.crash clean db may)
+  shut_call old new (Looked is_done) does shut clean db may = kept_only old shut (does.1.survives.crash clean db may)
 
   -- what calls leave that found it so, and that none of them was answered
   shut_calls : (start end : FullText S) (calls : List Call) → Runs g start calls end → (IsUp g start → ⊥) → IsCleanAt end → (db : Trees) → (shows g end.store).may_leave db → (shows g start.store).may_leave db
   shut_calls start end [] same shut clean db may = subst (λ (k : FullText S). (shows g k.store).may_leave db) same may
   shut_calls start end (call ∷ calls) runs shut clean db may =
       shut_call start runs.0 call runs.1 shut (clean_before runs.0 end calls runs.2 clean) db
-      (shut_calls runs.0 end calls runs.2 (λ up. shut (call_up start runs.0 call runs.1 up)) clean db may)
+      (shut_calls runs.0 end calls runs.2 (λ up. shut ((call_leaves start runs.0 call runs.1).up up)) clean db may)
 
   unanswered : (call : Call) → (is_answered call ≡ true → ⊥) → is_answered call ≡ false
   unanswered call refused = go (is_answered call) refl
@@ -212,8 +196,8 @@ module _ {S : Type 0} (g : Ghosts S) where
   none_answered start end [] same shut clean = refl
   none_answered start end (call ∷ calls) runs shut clean =
       let mid_clean = clean_before runs.0 end calls runs.2 clean in
-      let one = unanswered call (λ done. shut (call_up start runs.0 call runs.1 (call_live start runs.0 call runs.1 done mid_clean))) in
-      let rest = none_answered runs.0 end calls runs.2 (λ up. shut (call_up start runs.0 call runs.1 up)) clean in
+      let one = unanswered call (λ done. shut ((call_leaves start runs.0 call runs.1).up ((call_leaves start runs.0 call runs.1).live done mid_clean))) in
+      let rest = none_answered runs.0 end calls runs.2 (λ up. shut ((call_leaves start runs.0 call runs.1).up up)) clean in
       ap₂ (λ a b. a || b) one rest
 
   -- calls that were not answered leave contents and names
@@ -228,23 +212,20 @@ module _ {S : Type 0} (g : Ghosts S) where
   refused_left first names (Looked false ∷ calls) none = refused_left first names calls none
 
   -- what a call commits
+  left_here : (old : FullText S) (first : Contents) → Holds g old first → SurvivesCrash g old → IsUp g old → (db : Trees) → (shows g old.store).may_leave db → HoldsLeft first (store_value g old).noted db
+  left_here old first holds settled up db kept = record { left = store_value g old; stored = settled up db kept; held = holds.held; noted = refl }
+
   call_commits : (old new : FullText S) (call : Call) (first : Contents) → DoesCall g old call new → Holds g old first → SurvivesCrash g old → IsUp g old → IsCleanAt new → (db : Trees) → (shows g new.store).may_leave db →
       HoldsLeft first (store_value g old).noted db ⊎ HoldsLeft (contents_with call first) (names_with call (store_value g old).noted) db
-  call_commits old new (Executed command answer) first does holds settled up clean db may = go (does.1.survives.crash clean db may)
-    where
-      go : (shows g old.store).may_leave db ⊎ (IsUp g old × CommitsCommand g old command db) → HoldsLeft first (store_value g old).noted db ⊎ HoldsLeft (step first command).1 (store_value g old).noted db
-      go (inl kept) = inl (record { left = store_value g old; stored = settled up db kept; held = holds.held; noted = refl })
-      go (inr commits) = inr (commits.1 commits.0 first holds)
-  call_commits old new (Noted name is_done) first does holds settled up clean db may = go (does.1.survives.crash clean db may)
-    where
-      go : (shows g old.store).may_leave db ⊎ (IsUp g old × CommitsNote g old name db) → HoldsLeft first (store_value g old).noted db ⊎ HoldsLeft first (with_name name (store_value g old).noted) db
-      go (inl kept) = inl (record { left = store_value g old; stored = settled up db kept; held = holds.held; noted = refl })
-      go (inr commits) = inr (record { left = applied (Note name) (store_value g old); stored = commits.1 commits.0; held = holds.held; noted = refl })
-  call_commits old new (Looked is_done) first does holds settled up clean db may = go (does.1.survives.crash clean db may)
-    where
-      go : (shows g old.store).may_leave db ⊎ (IsUp g old × ⊥) → HoldsLeft first (store_value g old).noted db ⊎ HoldsLeft first (store_value g old).noted db
-      go (inl kept) = inl (record { left = store_value g old; stored = settled up db kept; held = holds.held; noted = refl })
-      go (inr nothing) = absurd nothing.1
+  call_commits old new (Executed command answer) first does holds settled up clean db may = elim (does.1.survives.crash clean db may) [
+    | inl kept ↦ inl (left_here old first holds settled up db kept)
+    | inr commits ↦ inr (commits.1 commits.0 first holds)
+  ]
+  call_commits old new (Noted name is_done) first does holds settled up clean db may = elim (does.1.survives.crash clean db may) [
+    | inl kept ↦ inl (left_here old first holds settled up db kept)
+    | inr commits ↦ inr (record { left = applied (Note name) (store_value g old); stored = commits.1 commits.0; held = holds.held; noted = refl })
+  ]
+  call_commits old new (Looked is_done) first does holds settled up clean db may = elim (does.1.survives.crash clean db may) [ inl kept ↦ inl (left_here old first holds settled up db kept) | inr nothing ↦ absurd nothing.1 ]
 
   -- one call more in front
   left_more : (first : Contents) (names : List Name) (call : Call) (calls : List Call) (db : Trees) → LeftAfter (contents_next first call) (names_next names call) calls db → LeftAfter first names (call ∷ calls) db
@@ -256,8 +237,8 @@ module _ {S : Type 0} (g : Ghosts S) where
   crash_after : (start end : FullText S) (calls : List Call) (first : Contents) → Runs g start calls end → IsCleanAt end → IsUp g start → Holds g start first → SurvivesCrash g start → (db : Trees) → (shows g end.store).may_leave db → LeftAfter first (store_value g start).noted calls db
   unfolding left_by
   crash_after start end [] first same clean up holds settled db may =
-      at_rest (record { left = store_value g start; stored = settled up db (subst (λ (k : FullText S). (shows g k.store).may_leave db) same may); held = holds.held; noted = refl })
-  crash_after start end (call ∷ calls) first runs clean up holds settled db may = go (λ up_now held. crash_after runs.0 end calls (contents_next first call) runs.2 clean up_now held (call_settled start runs.0 call runs.1) db may) (shows g runs.0.store).is_open refl
+      at_rest (left_here start first holds settled up db (subst (λ (k : FullText S). (shows g k.store).may_leave db) same may))
+  crash_after start end (call ∷ calls) first runs clean up holds settled db may = go (λ up_now held. crash_after runs.0 end calls (contents_next first call) runs.2 clean up_now held (call_leaves start runs.0 call runs.1).settled db may) (shows g runs.0.store).is_open refl
     where
       mid_clean : IsCleanAt runs.0
       mid_clean = clean_before runs.0 end calls runs.2 clean
@@ -274,7 +255,7 @@ module _ {S : Type 0} (g : Ghosts S) where
           is_shut now = let wrong = now.is_open in cc
 
           none : list_any is_answered (call ∷ calls) ≡ false
-          none = ap₂ (λ a b. a || b) (unanswered call (λ done. is_shut (call_live start runs.0 call runs.1 done mid_clean))) (none_answered runs.0 end calls runs.2 is_shut clean)
+          none = ap₂ (λ a b. a || b) (unanswered call (λ done. is_shut ((call_leaves start runs.0 call runs.1).live done mid_clean))) (none_answered runs.0 end calls runs.2 is_shut clean)
 
           shut : HoldsLeft first (store_value g start).noted db ⊎ HoldsLeft (contents_with call first) (names_with call (store_value g start).noted) db → LeftAfter first (store_value g start).noted (call ∷ calls) db
           shut (inl it) =

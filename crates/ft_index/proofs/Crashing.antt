@@ -1,11 +1,11 @@
 -- What a crash leaves of commands.
-use Rattle.std.proofs.Common.{◌≡◌, inl, List, None, refl, sym, ap, subst, arith}
+use Rattle.std.proofs.Common.{◌≡◌, List, None, sym, ap, subst, arith}
 use Rattle.std.specs.Prelude.{IsTrue}
 use Rattle.sqlite_trees.specs.View.{doubt}
 use Rattle.sqlite.specs.Tree.{Trees}
-use Rattle.sqlite.specs.State.{State, HasCleanDisk, Survives}
+use Rattle.sqlite.specs.State.{HasCleanDisk, Survives}
 use Rattle.sqlite.specs.Store.{Ghosts}
-use Rattle.sqlite.proofs.StateLemmas.{survives_then}
+use Rattle.sqlite.proofs.StateLemmas.{survives_then, survives_weaker}
 use Rattle.ft_store.specs.Calls.{IsStored}
 use Rattle.ft_rows.specs.Store.{Change, StoreValue, all_applied}
 use Rattle.ft_store.specs.Kept.{StoreState, shows, value_in}
@@ -18,18 +18,6 @@ use Rattle.ft_index.specs.Kept.{ReachesStep, IsUp, AreHeld, StoreHolds}
 use Rattle.ft_index.specs.Changed.{with_tables}
 use Rattle.ft_index.specs.Crashes.{CommandSurvives}
 use Rattle.ft_index.proofs.Acting.{looks_same}
-use Rattle.ft_index.proofs.ReadsLemmas.{nothing_done}
-
--- what may be committed may be said otherwise
-pub survives_as : (a b : State) (P Q : Trees → Type 0) → (HasCleanDisk b → (db : Trees) → P db → Q db) → Survives a b P → Survives a b Q
-survives_as a b P Q f one = survives_then a b b P (λ _. ⊥) Q f (λ clean db none. absurd none) one (record {
-  clean = omega arith;
-  shield = λ h. h;
-  counts = omega arith;
-  limit = refl;
-  closes = λ clean is_open. inl is_open;
-  crash = λ clean db h. inl h;
-})
 
 -- what a command leaves that deserves no fault
 left_is : (first : Contents) (command : Command) → deserved first command ≡ None → after first command ≡ (step first command).1
@@ -43,18 +31,7 @@ module _ {S : Type 0} (g : Ghosts S) where
 
   -- a command that only reads
   pub crash_read : (old new : StoreState S) (tables others : List TableInfo) (command : Command) → Looks g old new → CommandSurvives g (with_tables old tables) command (with_tables new others)
-  crash_read old new tables others command looks = survives_as (shows g old) (shows g new) _ _ (λ clean db none up first holds. absurd (none up.is_open)) looks.survives
-
-  -- one that does nothing
-  pub crash_same : (store : StoreState S) (tables others : List TableInfo) (command : Command) → CommandSurvives g (with_tables store tables) command (with_tables store others)
-  crash_same store tables others command = survives_as (shows g store) (shows g store) _ _ (λ clean db none up first holds. absurd (none up.is_open)) (nothing_done (shows g store))
-
-  -- row changes that lead to what the command leaves
-  pub crash_changed : (old new : StoreState S) (tables others : List TableInfo) (command : Command) (changes : List Change) →
-      (IsUp g (with_tables old tables) → (first : Contents) → AreHeld (value_in g old) tables first → ReachesStep first command (value_in g old) changes) →
-      Survives (shows g old) (shows g new) (CommitsRows old changes) → CommandSurvives g (with_tables old tables) command (with_tables new others)
-  crash_changed old new tables others command changes leads survives = survives_as (shows g old) (shows g new) _ _ (λ clean db commits up first holds.
-      record { left = all_applied changes (value_in g old); stored = commits up.is_open; held = subst (StoreHolds (all_applied changes (value_in g old))) (left_is first command (leads up first holds).0) (leads up first holds).1; noted = (leads up first holds).2.noted }) survives
+  crash_read old new tables others command looks = survives_weaker (shows g old) (shows g new) _ _ (λ clean db none up first holds. absurd (none up.is_open)) looks.survives
 
   -- row changes after reads that lead to it
   pub crash_reached : (old mid new : StoreState S) (tables others : List TableInfo) (command : Command) (changes : List Change) → Looks g old mid → (HasCleanDisk (shows g mid) → IsTrue (shows g old).is_open → IsTrue (shows g mid).is_open) →

@@ -72,10 +72,9 @@ made_is_held contents creation made store tables makes order held =
       told = ap (with_info (shown_info made)) held.told ∙ ap (λ k. with_info k (map table_info contents)) (sym told) ∙ sym (told_put id new contents free) ∙ ap (map table_info) (sym joined);
     }
 
-pub create_answers : (contents : Contents) (creation : Creation) → deserved contents (creation_of creation) ≡ None →
-    step contents (creation_of creation) ≡ (Ok Done, after contents (creation_of creation))
-unfolding step reply_to
-create_answers contents creation fine = ap (λ due. step_by due contents (creation_of creation)) fine
+pub create_reply : (contents : Contents) (creation : Creation) → reply_to contents (creation_of creation) ≡ Done
+unfolding reply_to
+create_reply contents creation = refl
 
 pub refused_answers : (contents : Contents) (command : Command) (fault : Fault) → deserved contents command ≡ Some fault → step contents command ≡ (Err fault, contents)
 unfolding step
@@ -87,3 +86,8 @@ unfolding after
 nothing_made contents creation there =
     let new = new_table (string_bytes creation.table) (map option_of creation.options.items) (made_columns (names_in creation.columns)) in
     ap (λ b. cond b contents (put int_cmp (pos (free_id_from 1 contents)) new contents)) there
+
+-- so it is answered that it is done
+pub create_kept : (contents : Contents) (creation : Creation) → PlansTable contents creation (Ok None) → step contents (creation_of creation) ≡ (Ok Done, contents)
+unfolding step reply_to
+create_kept contents creation makes = ap (λ due. step_by due contents (creation_of creation)) makes.0 ∙ ap (λ cs. (Ok Done, cs)) (nothing_made contents creation makes.1)

@@ -1,5 +1,5 @@
 -- What a Delete writes.
-use Rattle.std.proofs.Common.{◌≡◌, ◌⊎◌, inl, inr, ℕ, Bool, true, false, cond, not, List, [], ◌∷◌, ◌++◌, map, filter, Option, Some, None, ℤ, refl, ap, ◌∙◌}
+use Rattle.std.proofs.Common.{◌≡◌, ◌⊎◌, inl, inr, ℕ, Bool, true, false, cond, not, List, [], ◌∷◌, ◌++◌, map, filter, Option, Some, None, ℤ, refl, sym, ap, ◌∙◌}
 use Rattle.std.specs.Prelude.{◌≢◌}
 use Rattle.ft_values.specs.Cells.{Cell}
 use Rattle.ft_values.specs.declared.fault.Fault.{Fault}
@@ -14,7 +14,7 @@ use Rattle.ft_content.specs.Step.{deleted, docids_of, with_documents, on_table, 
 use Rattle.ft_content.proofs.ContentLemmas.{delete_keeps_content}
 use Rattle.ft_documents.specs.Rewrite.{removal}
 use Rattle.ft_index.specs.Written.{LeadsTo, WritesTable}
-use Rattle.ft_documents.proofs.BareLemmas.{unknown_bare, fault_bare}
+use Rattle.ft_index.proofs.SelectAnswers.{unnamed_bare, query_bare}
 use Rattle.ft_documents.proofs.FaultLemmas.{memory_or}
 use Rattle.ft_index.proofs.ChosenWrites.{each_rewritten, chosen_lead, own_docids}
 use Rattle.ft_index.proofs.Writing.{IsWrite}
@@ -64,7 +64,7 @@ module _ (f : Filter) where
 
   module _ (content : Content) (cols : List source.Column) (columns_are : content.columns ≡ map column_of cols) (table : List ℕ) where
     tests_are : delete_tests table content f ≡ delete_tests table (bare_content cols) f
-    tests_are = ap (λ b. first_of ((b, faults.NoSuchColumn) ∷ [])) (unknown_bare content cols columns_are f table)
+    tests_are = ap (λ b. first_of ((b, faults.NoSuchColumn) ∷ [])) (sym (unnamed_bare table (map column_of cols) content f columns_are))
 
     -- a test that refuses it, and a text that does
     pub tested_due : (fault : Fault) → delete_tests table (bare_content cols) f ≡ Some fault → due table content ≡ Some fault
@@ -75,7 +75,7 @@ module _ (f : Filter) where
       where
         go : (fault ≡ faults.Memory) ⊎ (fault ≢ faults.Memory) → ((fault ≡ faults.Store) ⊎ (fault ≡ faults.Memory)) ⊎ (due table content ≡ Some fault)
         go (inl memory) = inl (inr memory)
-        go (inr other) = inr (ap (λ o. or_else o (query_fault content f)) (tests_are ∙ tested) ∙ fault_bare content cols columns_are f ∙ refused other)
+        go (inr other) = inr (ap (λ o. or_else o (query_fault content f)) (tests_are ∙ tested) ∙ sym (query_bare (map column_of cols) content f columns_are) ∙ refused other)
 
     pub none_due : delete_tests table (bare_content cols) f ≡ None → query_fault (bare_content cols) f ≡ None → due table content ≡ None
-    none_due tested fine = ap (λ o. or_else o (query_fault content f)) (tests_are ∙ tested) ∙ fault_bare content cols columns_are f ∙ fine
+    none_due tested fine = ap (λ o. or_else o (query_fault content f)) (tests_are ∙ tested) ∙ sym (query_bare (map column_of cols) content f columns_are) ∙ fine

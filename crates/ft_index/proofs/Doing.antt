@@ -1,6 +1,6 @@
 -- What commands do that read, and then change rows.
 use Rattle.std.proofs.Common.{◌≡◌, inl, inr, true, List, map, None, Ok, Err, Result, Vec, Global, sym, ap, subst, arith}
-use Rattle.std.specs.Prelude.{IsTrue}
+use Rattle.std.specs.Prelude.{IsTrue, OnOk}
 use Rattle.sqlite_trees.specs.View.{doubt}
 use Rattle.sqlite.specs.State.{HasCleanDisk}
 use Rattle.sqlite.specs.Store.{Ghosts}
@@ -14,29 +14,28 @@ use Rattle.ft_content.specs.declared.command.Reply.TheVariants as replies
 use Rattle.ft_content.specs.Command.{Command, Done}
 use Rattle.ft_content.specs.Deserved.{Contents, deserved}
 use Rattle.ft_content.specs.Step.{after, reply_to}
-use Rattle.ft_content.specs.Views.{TableInfo}
+use Rattle.ft_content.specs.Views.{TableInfo, answer_of}
 use Rattle.ft_index.specs.Changed.{Does, MakesRows, with_tables}
 use Rattle.ft_index.specs.DocumentsRead.{Looks}
 use Rattle.ft_index.specs.declared.written.Written.{Written}
-use Rattle.ft_index.specs.Kept.{ReachesStep, IsUp, AreHeld, is_outside, table_info}
+use Rattle.ft_index.specs.Kept.{ReachesStep, IsUp, AreHeld, Answers, is_outside, table_info, puts_rows}
 use Rattle.ft_index.specs.Written.{PlansIn, PlansTo, PlansWritten, WritesIn}
 use Rattle.sqlite.specs.Effect.{Database}
 use Rattle.ft_values.specs.declared.fault.Fault.TheVariants as faults
-use Rattle.ft_index.specs.Kept.{puts_rows}
 use Rattle.ft_index.specs.Refused.{AreOwn, BlamesDone, BlamesMade, CantMake}
 use Rattle.ft_index.proofs.Blaming.{then_either}
-use Rattle.ft_index.proofs.Acting.{executes_failed, executes_undone, then_changed}
+use Rattle.ft_index.proofs.Acting.{executes_read, executes_undone, fault_answers, then_changed}
 use Rattle.ft_index.proofs.Crashing.{crash_read, crash_reached}
 use Rattle.ft_index.proofs.Executing.{executes_planned}
 
 module _ {S : Type 0} (g : Ghosts S) (old mid : StoreState S) (tables : List TableInfo) (command : Command) (looks : Looks g old mid) where
-  -- reads that show its fault
+  -- reads that show its answer
+  pub does_read : (answer : Result Reply Fault) → (HasCleanDisk (shows g mid) → OnOk answer (IsTrue (shows g old).is_open → IsTrue (shows g mid).is_open)) → (IsUp g (with_tables mid tables) → (first : Contents) → AreHeld (value_in g old) tables first → Answers first command (answer_of answer) first) →
+      Does g (with_tables old tables) command answer (with_tables mid tables)
+  does_read answer live answers = record { executes = executes_read g old mid tables command (answer_of answer) looks answers; crash = crash_read g old mid tables tables command looks; live = live }
+
   pub does_failed : (fault : Fault) (answer : Result Reply Fault) → answer ≡ Err fault → PlansTo g tables old mid command (Err fault) → Does g (with_tables old tables) command answer (with_tables mid tables)
-  does_failed fault answer is plans = subst (λ a. Does g (with_tables old tables) command a (with_tables mid tables)) (sym is) (record {
-    executes = executes_failed g old mid tables command fault looks plans;
-    crash = crash_read g old mid tables tables command looks;
-    live = λ clean. tt;
-  })
+  does_failed fault answer is plans = subst (λ a. Does g (with_tables old tables) command a (with_tables mid tables)) (sym is) (does_read (Err fault) (λ clean. tt) (λ up first held. fault_answers first command fault (plans up first held)))
 
   module _ (live : HasCleanDisk (shows g mid) → IsTrue (shows g old).is_open → IsTrue (shows g mid).is_open) (new : StoreState S) (changes : List Change) (result : Result (Unit {0}) Fault) (makes : MakesRows g mid new changes result)
       (reaches : IsUp g (with_tables mid tables) → (first : Contents) → AreHeld (value_in g old) tables first → ReachesStep first command (value_in g old) changes) where

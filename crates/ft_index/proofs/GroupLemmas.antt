@@ -26,7 +26,6 @@ use Rattle.ft_index.specs.Refused.{AreRewrites, alone, behind}
 use Rattle.ft_index.specs.Written.{first_parts, AreOfWritten, IsOfContent, MakesWritten, MakesAnew}
 use Rattle.ft_index.proofs.Blaming.{no_rewrites}
 use Rattle.ft_index.proofs.ReadsLemmas.{nothing_done}
-use Rattle.ft_index.proofs.Crashing.{survives_as}
 
 abbrev Groups : Type 0
 Groups = List (Vec source.Rewrite Global)
@@ -83,7 +82,7 @@ module _ (written : Written) where
     refused = λ clean told. absurd (let no = told in cc);
     makes = record {
       changed = record { was_up = λ tables others up. record { clean = up.clean; is_open = up.is_open }; value = λ tables up. refl };
-      crash = survives_as (shows g store) (shows g store) _ _ (λ clean db none is_open. absurd (none is_open)) (nothing_done (shows g store));
+      crash = nothing_done (shows g store);
       live = λ clean. tt;
       cause = inr refl;
       unread = refl;
@@ -103,7 +102,7 @@ made_already g store = record {
   refused = λ clean told. absurd (let no = told in cc);
   makes = record {
     changed = record { was_up = λ tables others up. record { clean = up.clean; is_open = up.is_open }; value = λ tables up. refl };
-    crash = survives_as (shows g store) (shows g store) _ _ (λ clean db none is_open. absurd (none is_open)) (nothing_done (shows g store));
+    crash = nothing_done (shows g store);
     live = λ clean is_open. is_open;
     cause = tt;
     unread = refl;

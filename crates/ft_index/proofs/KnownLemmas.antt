@@ -1,5 +1,6 @@
 -- The tables that are told of contents, by their names.
 use Rattle.std.proofs.Common.{Ok, inl, inr, ◌≡◌, ℕ, Bool, true, false, cond, List, [], ◌∷◌, map, Option, Some, None, ℤ, refl, sym, ap, subst, ◌∙◌}
+use Rattle.sqlite_keyed.proofs.ListLemmas.{map-map}
 use Rattle.std.specs.Prelude.{option_map, IsTrue, is_some}
 use Rattle.ft_values.specs.declared.fault.Fault.{Fault}
 use Rattle.ft_values.specs.declared.fault.Fault.TheVariants as faults
@@ -17,90 +18,10 @@ told_named [] name = refl
 told_named (t ∷ ts) name = elim (same_name t.1.name name) as (λ b. cond b (Some (table_info t)) (info_named (map table_info ts) name) ≡ option_map table_info (cond b (Some t) (table_named ts name))) [ true ↦ refl | false ↦ told_named ts name ]
 
 pub same_names : (tables : List RustTableInfo) (contents : Contents) → map shown_info tables ≡ map table_info contents → table_names contents ≡ info_names tables
-same_names tables contents told = sym (names_back contents) ∙ ap (map (λ (k : TableInfo). k.name)) (sym told) ∙ info_back tables
-  where
-    names_back : (cs : Contents) → map (λ (k : TableInfo). k.name) (map table_info cs) ≡ table_names cs
-    names_back [] = refl
-    names_back (c ∷ cs) = ap (λ l. c.1.name ∷ l) (names_back cs)
-
-    info_back : (ts : List RustTableInfo) → map (λ (k : TableInfo). k.name) (map shown_info ts) ≡ info_names ts
-    info_back [] = refl
-    info_back (t ∷ ts) = ap (λ l. (shown_info t).name ∷ l) (info_back ts)
+same_names tables contents told = sym (map-map (λ (k : TableInfo). k.name) table_info contents) ∙ ap (map (λ (k : TableInfo). k.name)) (sym told) ∙ map-map (λ (k : TableInfo). k.name) shown_info tables
 
 pub same_ids : (tables : List RustTableInfo) (contents : Contents) → map shown_info tables ≡ map table_info contents → table_ids contents ≡ info_ids tables
-same_ids tables contents told = sym (ids_back contents) ∙ ap (map (λ (k : TableInfo). k.id)) (sym told) ∙ info_back tables
-  where
-    ids_back : (cs : Contents) → map (λ (k : TableInfo). k.id) (map table_info cs) ≡ table_ids cs
-    ids_back [] = refl
-    ids_back (c ∷ cs) = ap (λ l. c.0 ∷ l) (ids_back cs)
-
-    info_back : (ts : List RustTableInfo) → map (λ (k : TableInfo). k.id) (map shown_info ts) ≡ info_ids ts
-    info_back [] = refl
-    info_back (t ∷ ts) = ap (λ l. t.id ∷ l) (info_back ts)
-
--- a sound table is a content
-pub record IsSoundTable (contents : Contents) (name : List ℕ) (known : TableInfo) : Type 0 where
-  pub table : ℤ × Table
-  pub found : table_named contents name ≡ Some table
-  pub content : Content
-  pub held : table.1.held ≡ Sound content
-  pub told : table_info table ≡ known
-
-pub sound_held : (held : TableState) → is_sound held ≡ true → (content : Content) × (held ≡ Sound content)
-sound_held (Sound content) h = (content, refl)
-sound_held (Stale content) h = absurd (let no = h in cc)
-sound_held (Loose rows) h = absurd (let no = h in cc)
-
-pub sound_table : (contents : Contents) (name : List ℕ) (known : TableInfo) → info_named (map table_info contents) name ≡ Some known → IsTrue known.sound → IsSoundTable contents name known
-sound_table contents name known named sound = go (table_named contents name) refl (sym (told_named contents name) ∙ named)
-  where
-    go : (found : Option (ℤ × Table)) → table_named contents name ≡ found → option_map table_info found ≡ Some known → IsSoundTable contents name known
-    go None is h = absurd (let no = h in cc)
-    go (Some t) is h =
-        let told : table_info t ≡ known = ap (λ o. cond_known o) h in
-        let held = sound_held t.1.held (ap (λ (k : TableInfo). k.sound) told ∙ sound) in
-        record { table = t; found = is; content = held.0; held = held.1; told = told }
-      where
-        cond_known : Option TableInfo → TableInfo
-        cond_known None = known
-        cond_known (Some k) = k
-
--- a table that can't be used, as the definitions test it
-abbrev on_it : Option (ℤ × Table) → (List ℕ → Content → Option Fault) → Option Fault
-on_it found test = on_found found (λ table held. on_held held (test table))
-
-unsound_is : (t : ℤ × Table) (test : List ℕ → Content → Option Fault) (held : TableState) → t.1.held ≡ held → is_sound held ≡ false → on_held held (test t.1.name) ≡ Some faults.Unsound
-unsound_is t test (Sound content) e h = absurd (let no = h in cc)
-unsound_is t test (Stale content) e h = refl
-unsound_is t test (Loose rows) e h = refl
-
-pub unfit_is : (contents : Contents) (name : List ℕ) (fault : Fault) (test : List ℕ → Content → Option Fault) → IsUnfit (map table_info contents) name fault → on_sound contents name test ≡ Some fault
-unfit_is contents name fault test (inl missing) = go (table_named contents name) (sym (told_named contents name) ∙ missing.1) ∙ ap Some (sym missing.0)
-  where
-    go : (found : Option (ℤ × Table)) → option_map table_info found ≡ None → on_it found test ≡ Some faults.NoSuchTable
-    go None h = refl
-    go (Some t) h = absurd (let no = h in cc)
-unfit_is contents name fault test (inr unsound) = go (table_named contents name) (sym (told_named contents name) ∙ unsound.1.1) ∙ ap Some (sym unsound.0)
-  where
-    go : (found : Option (ℤ × Table)) → option_map table_info found ≡ Some unsound.1.0 → on_it found test ≡ Some faults.Unsound
-    go None h = absurd (let no = h in cc)
-    go (Some t) h = unsound_is t test t.1.held refl (ap (λ o. is_some_sound o) h ∙ unsound.1.2)
-      where
-        is_some_sound : Option TableInfo → Bool
-        is_some_sound None = false
-        is_some_sound (Some k) = k.sound
-
--- the tests of a table that can be used are those of its content
-pub sound_is : (contents : Contents) (name : List ℕ) (known : TableInfo) (h : IsSoundTable contents name known) (test : List ℕ → Content → Option Fault) → on_sound contents name test ≡ test h.table.1.name h.content
-sound_is contents name known h test = ap (λ found. on_it found test) h.found ∙ ap (λ held. on_held held (test h.table.1.name)) h.held
-
--- ---- Create
-
--- the fault of a Create as its tests tell it
-pub create_due : (contents : Contents) (table module_name : List ℕ) (options : List (List ℕ × List ℕ)) (columns names : List (List ℕ)) (if_new : Bool) (due : Option Fault) →
-    names ≡ made_columns columns → due ≡ create_fault contents table module_name options names if_new → deserved contents (Create table module_name options columns if_new) ≡ due
-unfolding deserved
-create_due contents table module_name options columns names if_new due made is = sym (is ∙ ap (λ ns. create_fault contents table module_name options ns if_new) made)
+same_ids tables contents told = sym (map-map (λ (k : TableInfo). k.id) table_info contents) ∙ ap (map (λ (k : TableInfo). k.id)) (sym told) ∙ map-map (λ (k : TableInfo). k.id) shown_info tables
 
 pub is_named : (contents : Contents) (name : List ℕ) (known : Option TableInfo) → info_named (map table_info contents) name ≡ known → is_some (table_named contents name) ≡ is_some known
 is_named contents name known h = sym (some_told (table_named contents name)) ∙ ap is_some (sym (told_named contents name) ∙ h)
@@ -120,13 +41,55 @@ none_named contents name h = go (table_named contents name) (is_named contents n
 pub some_named : (contents : Contents) (name : List ℕ) (known : TableInfo) → info_named (map table_info contents) name ≡ Some known → (t : ℤ × Table) × (table_named contents name ≡ Some t) × (table_info t ≡ known)
 some_named contents name known named = go (table_named contents name) refl (sym (told_named contents name) ∙ named)
   where
-    known_of : Option TableInfo → TableInfo
-    known_of None = known
-    known_of (Some k) = k
-
     go : (found : Option (ℤ × Table)) → table_named contents name ≡ found → option_map table_info found ≡ Some known → (t : ℤ × Table) × (table_named contents name ≡ Some t) × (table_info t ≡ known)
     go None is h = absurd (let no = h in cc)
-    go (Some t) is h = (t, is, ap known_of h)
+    go (Some t) is h = let told : table_info t ≡ known = cc in (t, is, told)
+
+-- a sound table is a content
+pub record IsSoundTable (contents : Contents) (name : List ℕ) (known : TableInfo) : Type 0 where
+  pub table : ℤ × Table
+  pub found : table_named contents name ≡ Some table
+  pub content : Content
+  pub held : table.1.held ≡ Sound content
+  pub told : table_info table ≡ known
+
+pub sound_held : (held : TableState) → is_sound held ≡ true → (content : Content) × (held ≡ Sound content)
+sound_held (Sound content) h = (content, refl)
+sound_held (Stale content) h = absurd (let no = h in cc)
+sound_held (Loose rows) h = absurd (let no = h in cc)
+
+pub sound_table : (contents : Contents) (name : List ℕ) (known : TableInfo) → info_named (map table_info contents) name ≡ Some known → IsTrue known.sound → IsSoundTable contents name known
+sound_table contents name known named sound =
+    let it = some_named contents name known named in
+    let held = sound_held it.0.1.held (ap (λ (k : TableInfo). k.sound) it.2 ∙ sound) in
+    record { table = it.0; found = it.1; content = held.0; held = held.1; told = it.2 }
+
+-- a table that can't be used, as the definitions test it
+abbrev on_it : Option (ℤ × Table) → (List ℕ → Content → Option Fault) → Option Fault
+on_it found test = on_found found (λ table held. on_held held (test table))
+
+unsound_is : (t : ℤ × Table) (test : List ℕ → Content → Option Fault) (held : TableState) → t.1.held ≡ held → is_sound held ≡ false → on_held held (test t.1.name) ≡ Some faults.Unsound
+unsound_is t test (Sound content) e h = absurd (let no = h in cc)
+unsound_is t test (Stale content) e h = refl
+unsound_is t test (Loose rows) e h = refl
+
+pub unfit_is : (contents : Contents) (name : List ℕ) (fault : Fault) (test : List ℕ → Content → Option Fault) → IsUnfit (map table_info contents) name fault → on_sound contents name test ≡ Some fault
+unfit_is contents name fault test (inl missing) = ap (λ found. on_it found test) (none_named contents name missing.1) ∙ ap Some (sym missing.0)
+unfit_is contents name fault test (inr unsound) =
+    let it = some_named contents name unsound.1.0 unsound.1.1 in
+    ap (λ found. on_it found test) it.1 ∙ unsound_is it.0 test it.0.1.held refl (ap (λ (k : TableInfo). k.sound) it.2 ∙ unsound.1.2) ∙ ap Some (sym unsound.0)
+
+-- the tests of a table that can be used are those of its content
+pub sound_is : (contents : Contents) (name : List ℕ) (known : TableInfo) (h : IsSoundTable contents name known) (test : List ℕ → Content → Option Fault) → on_sound contents name test ≡ test h.table.1.name h.content
+sound_is contents name known h test = ap (λ found. on_it found test) h.found ∙ ap (λ held. on_held held (test h.table.1.name)) h.held
+
+-- ---- Create
+
+-- the fault of a Create as its tests tell it
+pub create_due : (contents : Contents) (table module_name : List ℕ) (options : List (List ℕ × List ℕ)) (columns names : List (List ℕ)) (if_new : Bool) (due : Option Fault) →
+    names ≡ made_columns columns → due ≡ create_fault contents table module_name options names if_new → deserved contents (Create table module_name options columns if_new) ≡ due
+unfolding deserved
+create_due contents table module_name options columns names if_new due made is = sym (is ∙ ap (λ ns. create_fault contents table module_name options ns if_new) made)
 
 -- ---- Optimize
 

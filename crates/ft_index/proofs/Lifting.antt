@@ -10,10 +10,9 @@ use Rattle.ft_content.specs.Index.{index_rows}
 use Rattle.ft_content.specs.Views.{TableInfo}
 use Rattle.ft_content.specs.Deserved.{Contents}
 use Rattle.ft_content.specs.Step.{with_documents, on_table}
-use Rattle.ft_documents.specs.Tables.{table_rows, table_index}
+use Rattle.ft_documents.specs.Tables.{table_rows, table_index, IsOfDocids}
 use Rattle.ft_documents.specs.RowLaws.{changed_table}
 use Rattle.ft_index.specs.Kept.{AreHeld, StoreHolds, Stands}
-use Rattle.ft_documents.specs.Tables.{IsOfDocids}
 use Rattle.ft_documents.proofs.ChangeLemmas.{spares_others}
 use Rattle.ft_index.proofs.OneTable.{SparesAllBut, one_named, ids_sorted, changes_one, AreHeldIn}
 use Rattle.ft_index.proofs.KnownLemmas.{IsSoundTable}
@@ -24,49 +23,37 @@ pub record LeavesRest (id : ℤ) (old new : StoreValue) : Type 0 where
   pub tables : new.tables ≡ old.tables
   pub noted : new.noted ≡ old.noted
 
-of_table : (id : ℤ) (docids : List ℤ) (change : Change) → IsOfDocids id docids change → changed_table change ≡ Some id
-of_table id docids (AddTable tab name columns skipped) h = absurd h
-of_table id docids (DropTable tab) h = absurd h
-of_table id docids (PutCell tab docid column value) h = ap Some h.0
-of_table id docids (DropCells tab docid) h = ap Some h.0
-of_table id docids (PutEntries tab term docid spots) h = ap Some h.0
-of_table id docids (DropEntries tab term docid) h = ap Some h.0
-of_table id docids (PutSize tab docid column n) h = ap Some h.0
-of_table id docids (DropSize tab docid column) h = ap Some h.0
-of_table id docids (ClearIndex tab) h = absurd h
-of_table id docids (Note name) h = absurd h
-
 one_spares : (id : ℤ) (change : Change) (store : StoreValue) → changed_table change ≡ Some id → SparesAllBut id store (applied change store)
 one_spares id change store is = record { rows = λ other apart. (others other apart).0; index = λ other apart. (others other apart).1 }
   where
     others : (other : ℤ) → int_eq id other ≡ false → (table_rows other (applied change store) ≡ table_rows other store) × (table_index other (applied change store) ≡ table_index other store)
     others other apart = spares_others change other store (λ tab here. ap (λ o. int_eq other (unwrap_or o tab)) (sym here ∙ is) ∙ (eq_by_cmp_equiv int_cmp_total).symm other id ∙ apart)
 
-one_leaves : (id : ℤ) (docids : List ℤ) (change : Change) (store : StoreValue) → IsOfDocids id docids change → ((applied change store).tables ≡ store.tables) × ((applied change store).noted ≡ store.noted)
+one_leaves : (id : ℤ) (docids : List ℤ) (change : Change) (store : StoreValue) → IsOfDocids id docids change → (changed_table change ≡ Some id) × ((applied change store).tables ≡ store.tables) × ((applied change store).noted ≡ store.noted)
 one_leaves id docids (AddTable tab name columns skipped) store h = absurd h
 one_leaves id docids (DropTable tab) store h = absurd h
-one_leaves id docids (PutCell tab docid column value) store h = (refl, refl)
-one_leaves id docids (DropCells tab docid) store h = (refl, refl)
-one_leaves id docids (PutEntries tab term docid spots) store h = (refl, refl)
-one_leaves id docids (DropEntries tab term docid) store h = (refl, refl)
-one_leaves id docids (PutSize tab docid column n) store h = (refl, refl)
-one_leaves id docids (DropSize tab docid column) store h = (refl, refl)
+one_leaves id docids (PutCell tab docid column value) store h = (ap Some h.0, refl, refl)
+one_leaves id docids (DropCells tab docid) store h = (ap Some h.0, refl, refl)
+one_leaves id docids (PutEntries tab term docid spots) store h = (ap Some h.0, refl, refl)
+one_leaves id docids (DropEntries tab term docid) store h = (ap Some h.0, refl, refl)
+one_leaves id docids (PutSize tab docid column n) store h = (ap Some h.0, refl, refl)
+one_leaves id docids (DropSize tab docid column) store h = (ap Some h.0, refl, refl)
 one_leaves id docids (ClearIndex tab) store h = absurd h
 one_leaves id docids (Note name) store h = absurd h
 
 pub leaves_rest : (id : ℤ) (docids : List ℤ) (changes : List Change) (store : StoreValue) → AllByRecursion (IsOfDocids id docids) changes → LeavesRest id store (all_applied changes store)
 leaves_rest id docids [] store near = record { others = record { rows = λ other apart. refl; index = λ other apart. refl }; tables = refl; noted = refl }
 leaves_rest id docids (change ∷ changes) store near =
-    let one = one_spares id change store (of_table id docids change near.0) in
     let kept = one_leaves id docids change store near.0 in
+    let one = one_spares id change store kept.0 in
     let rest = leaves_rest id docids changes (applied change store) near.1 in
     record {
       others = record {
         rows = λ other apart. rest.others.rows other apart ∙ one.rows other apart;
         index = λ other apart. rest.others.index other apart ∙ one.index other apart;
       };
-      tables = rest.tables ∙ kept.0;
-      noted = rest.noted ∙ kept.1;
+      tables = rest.tables ∙ kept.1;
+      noted = rest.noted ∙ kept.2;
     }
 
 -- So where the rows of a sound table become those of other documents, the store holds the contents

@@ -1,5 +1,5 @@
 -- Reads one after another, and what was held before each.
-use Rattle.std.proofs.Common.{◌≡◌, ℤ, refl, ap, ◌∙◌, arith, IsTrue}
+use Rattle.std.proofs.Common.{◌≡◌, ℤ, refl, sym, ap, subst, ◌∙◌, arith, IsTrue}
 use Rattle.sqlite.specs.State.{HasCleanDisk}
 use Rattle.sqlite.specs.Effect.{Database}
 use Rattle.sqlite.specs.Store.{Ghosts}
@@ -10,6 +10,7 @@ use Rattle.ft_store.proofs.ChainLemmas.{kept_then}
 use Rattle.ft_content.specs.Content.{Content}
 use Rattle.ft_documents.specs.Tables.{table_rows}
 use Rattle.ft_index.specs.DocumentsRead.{HasRows, Looks}
+use Rattle.ft_index.specs.Selected.{IsOf}
 use Rattle.ft_index.specs.Walked.{IsIndexed}
 use Rattle.ft_index.proofs.ReadsLemmas.{nothing_done}
 
@@ -39,3 +40,10 @@ module _ {S : Type 0} (g : Ghosts S) (a b c : StoreState S) (one : Looks g a b) 
 
     pub index_first : IsIndexed g tab a c content → IsIndexed g tab a b content
     index_first h = record { clean = omega (arith, two.survives.clean, h.clean); is_open = (two.kept h.clean h.is_open).2; name = h.name; is_content = h.is_content; index = h.index }
+
+    -- where the table is as it was passed
+    pub held_first : {id : ℤ} → tab ≡ id → IsOf g id a c content → IsOf g tab a b content
+    held_first same h = record { rows = rows_first (subst (λ k. HasRows g k a c content) (sym same) h.rows); index = index_first (subst (λ k. IsIndexed g k a c content) (sym same) h.index) }
+
+    pub held_then : {id : ℤ} → tab ≡ id → IsOf g id a c content → HasRows g tab b c content
+    held_then same h = rows_then (subst (λ k. HasRows g k a c content) (sym same) h.rows)

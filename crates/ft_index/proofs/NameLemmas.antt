@@ -1,5 +1,6 @@
 -- No two tables get one name.
 use Rattle.std.proofs.Common.{◌≡◌, ℕ, Bool, true, false, cond, not, ◌||◌, List, [], ◌∷◌, Some, ℤ, pos, refl, sym, ap, ◌∙◌}
+use Rattle.std.proofs.lemmas.Bool.{or_parts}
 use Rattle.std.specs.Prelude.{filter, is_some}
 use Rattle.std.specs.List.{list_any}
 use Rattle.std.specs.Str.{str_to_ascii_lowercase}
@@ -14,17 +15,9 @@ use Rattle.ft_content.specs.Step.{free_id_from, new_table, inserted, updated, de
 use Rattle.ft_content.specs.Views.{table_names}
 use Rattle.ft_index.specs.Called.{left_by, NamesStayApart}
 
-neither : (a b : Bool) → (a || b) ≡ false → (a ≡ false) × (b ≡ false)
-neither true b h = absurd (let no = h in cc)
-neither false b h = (refl, h)
-
 no_or : (a b : Bool) → a ≡ false → b ≡ false → (a || b) ≡ false
 no_or true b h g = absurd (let no = h in cc)
 no_or false b h g = g
-
-not_true : (b : Bool) → not b ≡ true → b ≡ false
-not_true true h = absurd (let no = h in cc)
-not_true false h = refl
 
 name_symm : (a b : List ℕ) → same_name a b ≡ same_name b a
 name_symm a b = nat_list_eq_equiv.symm (str_to_ascii_lowercase a) (str_to_ascii_lowercase b)
@@ -36,7 +29,7 @@ is_new name ts = list_any (λ (t : ℤ × Table). same_name t.1.name name) ts �
 new_either_way : (name : List ℕ) (ts : Contents) → is_new name ts → list_any (same_name name) (table_names ts) ≡ false
 new_either_way name [] h = refl
 new_either_way name (t ∷ ts) h =
-    let parts = neither (same_name t.1.name name) (list_any (λ (t : ℤ × Table). same_name t.1.name name) ts) h in
+    let parts = or_parts (same_name t.1.name name) (list_any (λ (t : ℤ × Table). same_name t.1.name name) ts) h in
     no_or (same_name name t.1.name) (list_any (same_name name) (table_names ts)) (name_symm name t.1.name ∙ parts.0) (new_either_way name ts parts.1)
 
 new_if_none : (name : List ℕ) (ts : Contents) → is_some (table_named ts name) ≡ list_any (λ (t : ℤ × Table). same_name t.1.name name) ts
@@ -46,7 +39,7 @@ new_if_none name (t ∷ ts) = elim (same_name t.1.name name) as (λ b. is_some (
 none_put : (q : List ℕ → Bool) (k : ℤ) (new : Table) (ts : Contents) → q new.name ≡ false → list_any q (table_names ts) ≡ false → list_any q (table_names (put int_cmp k new ts)) ≡ false
 none_put q k new [] h g = no_or (q new.name) false h refl
 none_put q k new (t ∷ ts) h g =
-    let parts = neither (q t.1.name) (list_any q (table_names ts)) g in
+    let parts = or_parts (q t.1.name) (list_any q (table_names ts)) g in
     elim (int_cmp k t.0) as (λ o. list_any q (table_names (by_order o ((k, new) ∷ t ∷ ts) ((t.0, new) ∷ ts) (t ∷ put int_cmp k new ts))) ≡ false) [
       | Less ↦ no_or (q new.name) (q t.1.name || list_any q (table_names ts)) h g
       | Equal ↦ no_or (q new.name) (list_any q (table_names ts)) h parts.1
@@ -56,8 +49,8 @@ none_put q k new (t ∷ ts) h g =
 apart_put : (k : ℤ) (new : Table) (ts : Contents) → is_new new.name ts → repeats_name (table_names ts) ≡ false → repeats_name (table_names (put int_cmp k new ts)) ≡ false
 apart_put k new [] h g = refl
 apart_put k new (t ∷ ts) h g =
-    let fresh = neither (same_name t.1.name new.name) (list_any (λ (t : ℤ × Table). same_name t.1.name new.name) ts) h in
-    let parts = neither (list_any (same_name t.1.name) (table_names ts)) (repeats_name (table_names ts)) g in
+    let fresh = or_parts (same_name t.1.name new.name) (list_any (λ (t : ℤ × Table). same_name t.1.name new.name) ts) h in
+    let parts = or_parts (list_any (same_name t.1.name) (table_names ts)) (repeats_name (table_names ts)) g in
     elim (int_cmp k t.0) as (λ o. repeats_name (table_names (by_order o ((k, new) ∷ t ∷ ts) ((t.0, new) ∷ ts) (t ∷ put int_cmp k new ts))) ≡ false) [
       | Less ↦ no_or (list_any (same_name new.name) (table_names (t ∷ ts))) (repeats_name (table_names (t ∷ ts))) (new_either_way new.name (t ∷ ts) h) g
       | Equal ↦ no_or (list_any (same_name new.name) (table_names ts)) (repeats_name (table_names ts)) (new_either_way new.name ts fresh.1) parts.1
@@ -67,7 +60,7 @@ apart_put k new (t ∷ ts) h g =
 none_kept : (q : List ℕ → Bool) (p : ℤ × Table → Bool) (ts : Contents) → list_any q (table_names ts) ≡ false → list_any q (table_names (filter p ts)) ≡ false
 none_kept q p [] h = refl
 none_kept q p (t ∷ ts) h =
-    let parts = neither (q t.1.name) (list_any q (table_names ts)) h in
+    let parts = or_parts (q t.1.name) (list_any q (table_names ts)) h in
     elim (p t) as (λ b. list_any q (table_names (cond b (t ∷ filter p ts) (filter p ts))) ≡ false) [
       | true ↦ no_or (q t.1.name) (list_any q (table_names (filter p ts))) parts.0 (none_kept q p ts parts.1)
       | false ↦ none_kept q p ts parts.1
@@ -76,7 +69,7 @@ none_kept q p (t ∷ ts) h =
 apart_kept : (p : ℤ × Table → Bool) (ts : Contents) → repeats_name (table_names ts) ≡ false → repeats_name (table_names (filter p ts)) ≡ false
 apart_kept p [] h = refl
 apart_kept p (t ∷ ts) h =
-    let parts = neither (list_any (same_name t.1.name) (table_names ts)) (repeats_name (table_names ts)) h in
+    let parts = or_parts (list_any (same_name t.1.name) (table_names ts)) (repeats_name (table_names ts)) h in
     elim (p t) as (λ b. repeats_name (table_names (cond b (t ∷ filter p ts) (filter p ts))) ≡ false) [
       | true ↦ no_or (list_any (same_name t.1.name) (table_names (filter p ts))) (repeats_name (table_names (filter p ts))) (none_kept (same_name t.1.name) p ts parts.0) (apart_kept p ts parts.1)
       | false ↦ apart_kept p ts parts.1

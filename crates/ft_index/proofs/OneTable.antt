@@ -1,5 +1,5 @@
 -- The one table of a name, and what a change of its rows leaves.
-use Rattle.std.proofs.Common.{◌≡◌, ℕ, Bool, true, false, cond, ◌&&◌, ◌||◌, List, [], ◌∷◌, map, Some, ℤ, refl, sym, ap, subst, ◌∙◌}
+use Rattle.std.proofs.Common.{◌≡◌, ℕ, Bool, true, false, cond, ◌&&◌, List, [], ◌∷◌, map, Some, ℤ, refl, sym, ap, subst, ◌∙◌}
 use Rattle.std.specs.Prelude.{unwrap_or}
 use Rattle.std.specs.List.{AllZip, AllByRecursion, list_any}
 use Rattle.std.specs.Ordering.{int_cmp, int_eq, is_lt, is_eq}
@@ -7,7 +7,7 @@ use Rattle.std.specs.Str.{str_to_ascii_lowercase}
 use Rattle.std.specs.Cmp.{int_cmp_total, eq_by_cmp_equiv, tied_itself}
 use Rattle.std.specs.Cmp.Lexicographic.{nat_list_eq_equiv}
 use Rattle.std.specs.FinMap.Entries.{below_all, is_sorted}
-use Rattle.std.proofs.lemmas.Bool.{and_parts}
+use Rattle.std.proofs.lemmas.Bool.{or_parts, and_parts}
 use Rattle.ft_rows.specs.Store.{StoreValue}
 use Rattle.ft_content.specs.Content.{same_name, repeats_name}
 use Rattle.ft_content.specs.Deserved.{TableState, Table, Contents, table_named}
@@ -15,10 +15,6 @@ use Rattle.ft_content.specs.Step.{on_table}
 use Rattle.ft_documents.specs.Tables.{table_rows, table_index}
 use Rattle.ft_index.specs.Kept.{Stands, HoldsTable}
 use Rattle.ft_documents.proofs.KeyedRows.{below_apart}
-
-neither : (a b : Bool) → (a || b) ≡ false → (a ≡ false) × (b ≡ false)
-neither true b h = absurd (let no = h in cc)
-neither false b h = (refl, h)
 
 -- among tables, the one with this name is this one, and no other has its id
 pub record IsOne (name : List ℕ) (t x : ℤ × Table) : Type 0 where
@@ -33,7 +29,7 @@ others_from : (name : List ℕ) (t : ℤ × Table) (xs : Contents) → same_name
 others_from name t [] is below apart = tt
 others_from name t (x ∷ xs) is below apart =
     let b = and_parts (is_lt (int_cmp t.0 x.0)) (below_all int_cmp t.0 xs) below in
-    let a = neither (same_name t.1.name x.1.name) (list_any (same_name t.1.name) (names_in xs)) apart in
+    let a = or_parts (same_name t.1.name x.1.name) (list_any (same_name t.1.name) (names_in xs)) apart in
     let other : int_eq t.0 x.0 ≡ false = below_apart (int_cmp t.0 x.0) b.0 in (
       record {
         agrees = no_name (same_name x.1.name name) refl a.0 ∙ sym other;
@@ -58,7 +54,7 @@ pub one_named : (name : List ℕ) (t : ℤ × Table) (xs : Contents) → is_sort
 one_named name t [] sorted apart found = absurd (let no = found in cc)
 one_named name t (x ∷ xs) sorted apart found =
     let s = and_parts (below_all int_cmp x.0 xs) (is_sorted int_cmp xs) sorted in
-    let a = neither (list_any (same_name x.1.name) (names_in xs)) (repeats_name (names_in xs)) apart in
+    let a = or_parts (list_any (same_name x.1.name) (names_in xs)) (repeats_name (names_in xs)) apart in
     go (same_name x.1.name name) refl s.0 a.0 (one_named name t xs s.1 a.1) found
   where
     go : (b : Bool) → same_name x.1.name name ≡ b → below_all int_cmp x.0 xs ≡ true → list_any (same_name x.1.name) (names_in xs) ≡ false → (table_named xs name ≡ Some t → AllByRecursion (IsOne name t) xs) → cond b (Some x) (table_named xs name) ≡ Some t → AllByRecursion (IsOne name t) (x ∷ xs)

@@ -1,12 +1,11 @@
 -- Calls that ask first whether the store is open.
-use Rattle.std.proofs.Common.{◌≡◌, ◌⊎◌, ℕ, Bool, true, false, List, [], ◌∷◌, map, Option, Some, None, Result, Ok, Err, ℤ, refl, sym, ap, subst, ◌∙◌, inl, inr, arith}
+use Rattle.std.proofs.Common.{◌≡◌, ◌⊎◌, ℕ, Bool, true, false, List, [], ◌∷◌, map, Option, Some, None, Result, Ok, Err, ℤ, refl, sym, ap, subst, ◌∙◌, inl, inr, arith, All as AllOf}
 use Rattle.std.specs.Prelude.{IsTrue, OnOk, is_ok}
 use Rattle.sqlite_trees.specs.View.{doubt}
 use Rattle.sqlite.specs.State.{State, HasCleanDisk, Survives}
 use Rattle.sqlite.specs.Store.{Ghosts}
 use Rattle.sqlite.specs.Tree.{Trees}
-use Rattle.sqlite.proofs.StateLemmas.{survives_then}
-use Rattle.std.proofs.Common.{All as AllOf}
+use Rattle.sqlite.proofs.StateLemmas.{survives_then, survives_weaker}
 use Rattle.std.specs.List.{AllByRecursion}
 use Rattle.std.proofs.lemmas.List.Elements.{All-weaker, All-from_recursion}
 use Rattle.ft_values.specs.declared.rows.RowChange.{RowChange}
@@ -26,12 +25,13 @@ use Rattle.ft_content.specs.Command.{Command, Create, Drop, Insert, Update, Dele
 use Rattle.ft_content.specs.Deserved.{TableState, Sound, Stale, Loose, Table, Contents, table_named}
 use Rattle.ft_content.specs.Views.{TableInfo, answer_of}
 use Rattle.ft_index.specs.DocumentsRead.{Looks}
-use Rattle.ft_index.specs.Kept.{FullText, IsUp, IsOutside, AreHeld, Executes, KeepsOthers, OnlyLooks, is_outside, store_value}
+use Rattle.ft_index.specs.Kept.{FullText, IsUp, IsOutside, AreHeld, Executes, KeepsOthers, OnlyLooks, store_value}
 use Rattle.ft_index.specs.Crashes.{HoldsAfter, SurvivesCrash, LeavesRead}
 use Rattle.ft_index.specs.Changed.{with_tables, Does, DoesAsked, LooksAsked, MakesAsked, MakesRows}
 use Rattle.ft_index.specs.RowsRead.{CountsFound, CountsHeld, CountsIfRows, CountsRows}
 use Rattle.ft_index.proofs.Acting.{executes_read, looks_same, looks_up, then_changed}
-use Rattle.ft_index.proofs.Crashing.{survives_as}
+use Rattle.ft_index.proofs.Executing.{is_outside_of}
+use Rattle.ft_index.proofs.ReadsLemmas.{nothing_done}
 
 -- what a Select reads is told by the count before it alone
 module _ {S : Type 0} (one other new : FullText S) (same : one.store.rows_read ≡ other.store.rows_read) where
@@ -74,29 +74,21 @@ outside_of causes.NotAStore = inl refl
 outside_of (causes.Version n) = inl refl
 outside_of causes.Damaged = inl refl
 
-is_outside_of : (f : Fault) → IsOutside f → IsTrue (is_outside (Err f))
-is_outside_of f (inl is) = subst (λ (e : Fault). IsTrue (is_outside (Err e))) (sym is) refl
-is_outside_of f (inr is) = subst (λ (e : Fault). IsTrue (is_outside (Err e))) (sym is) refl
-
--- nothing is done, so nothing is committed
-pub same_survives : (s : State) (P : Trees → Type 0) → Survives s s P
-same_survives s P = record { clean = omega arith; shield = λ h. h; counts = omega arith; limit = refl; closes = λ clean is_open. inl is_open; crash = λ clean db h. inl h }
-
 -- where memory lacks before the store is asked
 pub unasked : {S X : Type 0} (g : Ghosts S) (old : StoreState S) (changes : List Change) (result : Result X Fault) (f : Fault) → result ≡ Err f → IsOutside f → MakesAsked g old old changes result
 unasked {S} {X} g old changes result f is outside = subst (λ (r : Result X Fault). MakesAsked g old old changes r) (sym is) (record {
   changed = record { was_up = λ tables others up. record { clean = up.clean; is_open = up.is_open }; value = λ tables up. refl };
-  crash = same_survives (shows g old) _;
+  crash = nothing_done (shows g old);
   live = λ clean. tt;
   cause = outside;
 })
 
 module _ {S : Type 0} (g : Ghosts S) (old mid : StoreState S) (result : Result (Unit {0}) StoreFault) (it : Pings g old mid result) where
   pub pinged : Looks g old mid
-  pinged = record { kept = it.kept; survives = survives_as (shows g old) (shows g mid) _ _ (λ clean db none is_open. none) it.survives }
+  pinged = record { kept = it.kept; survives = survives_weaker (shows g old) (shows g mid) _ _ (λ clean db none is_open. none) it.survives }
 
   nothing_left : (P : Trees → Type 0) → Survives (shows g old) (shows g mid) P
-  nothing_left P = survives_as (shows g old) (shows g mid) _ _ (λ clean db none. absurd none) it.survives
+  nothing_left P = survives_weaker (shows g old) (shows g mid) _ _ (λ clean db none. absurd none) it.survives
 
   -- where the answer is that it isn't open
   pub makes_nothing : {X : Type 0} (changes : List Change) (made : Result X Fault) (f : Fault) → made ≡ Err f → IsOutside f → MakesAsked g old mid changes made
@@ -183,11 +175,11 @@ pub read_leaves : {S X : Type 0} (g : Ghosts S) (old new : StoreState S) (tables
 read_leaves {S} g old new tables read it settled = record {
   live = λ clean done. ok_then read (it.live clean) done;
   settled = λ up db may. subst (IsStored db) (sym (same up)) (settled (was_up up) db (only (it.survives.crash up.clean db may)));
-  survives = survives_as (shows g old) (shows g new) _ _ (λ clean db none. absurd none) it.survives;
+  survives = survives_weaker (shows g old) (shows g new) _ _ (λ clean db none. absurd none) it.survives;
 }
   where
     looks : Looks g old new
-    looks = record { kept = it.kept; survives = survives_as (shows g old) (shows g new) _ _ (λ clean db none is_open. none) it.survives }
+    looks = record { kept = it.kept; survives = survives_weaker (shows g old) (shows g new) _ _ (λ clean db none is_open. none) it.survives }
 
     same : IsUp g (with_tables new tables) → value_in g new ≡ value_in g old
     same up = looks_same g old new tables looks up
@@ -209,7 +201,7 @@ read_looks g old new tables read it = record {
 }
   where
     looks : Looks g old new
-    looks = record { kept = it.kept; survives = survives_as (shows g old) (shows g new) _ _ (λ clean db none is_open. none) it.survives }
+    looks = record { kept = it.kept; survives = survives_weaker (shows g old) (shows g new) _ _ (λ clean db none is_open. none) it.survives }
 
 -- a question that is told as `Store` was refused
 pub is_refused : {X : Type 0} (fault : StoreFault) (result : Result X Fault) → result ≡ Err (fault_of_read fault) → IsPlainFault fault → result ≡ Err faults.Store → fault ≡ causes.Refused

@@ -3,6 +3,7 @@ use Rattle.std.proofs.Common.{◌≡◌, ◌⊎◌, inl, inr, ℕ, ◌+◌, ◌-
 use Rattle.std.specs.Prelude.{is_ok, OnOk}
 use Rattle.sqlite.specs.State.{State, HasCleanDisk, Survives}
 use Rattle.sqlite.specs.Store.{Ghosts}
+use Rattle.sqlite.specs.Tree.{Trees}
 use Rattle.ft_query.specs.Lists.{Reaches, Stays, Goes, Ends}
 use Rattle.ft_store.specs.Calls.{Keeps}
 use Rattle.ft_store.specs.Kept.{StoreState, shows}
@@ -19,7 +20,7 @@ grows_then r g r' g' r'' g'' n rows given (inl same) = inr (n, same.0 ∙ rows, 
 grows_then r g r' g' r'' g'' n rows given (inr more) = inr (n + more.0, (let h = more.1 in omega arith), (let h = more.2 in omega arith))
 
 -- where nothing is done, nothing is committed
-pub nothing_done : (s : State) → Survives s s (λ _. IsTrue s.is_open → ⊥)
+pub nothing_done : (s : State) {P : Trees → Type 0} → Survives s s P
 nothing_done s = record { clean = omega arith; shield = λ h. h; counts = omega arith; limit = refl; closes = λ clean is_open. inl is_open; crash = λ clean db h. inl h }
 
 -- what reads do, perhaps none

@@ -1,5 +1,5 @@
 -- Rows of a table as they are read, and how they stand.
-use Rattle.std.proofs.Common.{◌≡◌, ◌≢◌, ℕ, ◌<◌, true, false, cond, List, [], ◌∷◌, ◌++◌, map, length, ℤ, string_bytes, refl, sym, ap, subst, ◌∙◌, arith}
+use Rattle.std.proofs.Common.{◌≡◌, ◌≢◌, ℕ, true, false, cond, List, [], ◌∷◌, ◌++◌, map, ℤ, string_bytes, refl, sym, ap, subst, ◌∙◌, arith}
 use Rattle.std.specs.Prelude.{IsTrue}
 use Rattle.std.specs.Ordering.{int_eq}
 use Rattle.std.specs.FinMap.Entries.{where_key}
@@ -12,7 +12,6 @@ use Rattle.sqlite.specs.Effect.{Database}
 use Rattle.sqlite.specs.Store.{Ghosts}
 use Rattle.ft_store.specs.Kept.{StoreState, shows, value_in}
 use Rattle.ft_store.specs.Rows.{value_of}
-use Rattle.ft_store.proofs.ChainLemmas.{kept_then, reads_then}
 use Rattle.ft_index.specs.DocumentsRead.{Looks}
 use Rattle.ft_values.specs.declared.rows.CellRow as stored_cell
 use Rattle.ft_values.specs.declared.rows.SizeRow as stored_size
@@ -105,15 +104,8 @@ sizes_others tab store content ss read others same = others (sizes_read tab stor
 
 -- ---- reads one after another
 
-module _ {S : Type 0} (g : Ghosts S) (a b : StoreState S) (first : Looks g a b) (live : HasCleanDisk (shows g b) → IsTrue (shows g b).is_open) where
-  pub looked : HasCleanDisk (shows g b) → value_in g b ≡ value_in g a
-  looked clean = ap (λ (d : Database). value_of d.trees) (first.kept clean (live clean)).0
-
-  pub looks_then : (c : StoreState S) → Looks g b c → Looks g a c
-  looks_then c next = record {
-    kept = λ clean. kept_then (shows g a) (shows g b) (shows g c) (first.kept (omega (arith, next.survives.clean, clean))) (next.kept clean);
-    survives = reads_then (shows g a) (shows g b) (shows g c) live first.survives next.survives;
-  }
+pub looked : {S : Type 0} (g : Ghosts S) (a b : StoreState S) → Looks g a b → (HasCleanDisk (shows g b) → IsTrue (shows g b).is_open) → HasCleanDisk (shows g b) → value_in g b ≡ value_in g a
+looked g a b first live clean = ap (λ (d : Database). value_of d.trees) (first.kept clean (live clean)).0
 
 -- a read is refused for what lies outside the store also since the first one
 pub blamed_after : {S : Type 0} (g : Ghosts S) (a b c : StoreState S) {C D : _} → Survives (shows g a) (shows g b) C → Survives (shows g b) (shows g c) D → HasCleanDisk (shows g c) → IsBlamed (shows g b) (shows g c) → IsBlamed (shows g a) (shows g c)

@@ -1,16 +1,14 @@
 -- What a Select deserves and is answered, out of what was read.
-use Rattle.std.proofs.Common.{◌≡◌, ◌⊎◌, inl, inr, ℕ, Bool, true, false, cond, not, ◌&&◌, ◌||◌, List, [], ◌∷◌, ◌++◌, Option, Some, None, Result, Ok, Err, ℤ, refl, sym, ap, subst, ◌∙◌, arith, IsTrue}
+use Rattle.std.proofs.Common.{◌≡◌, ◌⊎◌, inl, inr, ℕ, Bool, true, false, cond, not, ◌&&◌, ◌||◌, List, [], ◌∷◌, ◌++◌, Option, Some, None, Ok, Err, ℤ, refl, sym, ap, subst, ◌∙◌}
 use Rattle.std.specs.List.{list_any, flat_map}
-use Rattle.sqlite.specs.Effect.{Database}
 use Rattle.sqlite.specs.Store.{Ghosts}
 use Rattle.ft_query.specs.Trees.{Tree}
-use Rattle.ft_rows.specs.Store.{AreInOrder}
-use Rattle.ft_store.specs.Rows.{value_of as value_of_trees}
+use Rattle.ft_rows.specs.Store.{StoreValue, AreInOrder}
 use Rattle.ft_store.specs.Kept.{StoreState, value_in, more_rows}
 use Rattle.ft_values.specs.declared.fault.Fault.{Fault}
 use Rattle.ft_values.specs.declared.fault.Fault.TheVariants as faults
 use Rattle.ft_content.specs.Content.{Column, Content, content_rows, names_of, same_name}
-use Rattle.ft_content.specs.Command.{Filter, All, Docid, Match, Item, AllColumns, Named, OffsetsOf, Items, Counted, Listed, Command, Select, Reply, Rows, Grid}
+use Rattle.ft_content.specs.Command.{Filter, All, Docid, Match, Item, AllColumns, Named, OffsetsOf, Items, Counted, Listed, Command, Select, Rows, Grid}
 use Rattle.ft_content.specs.Answer.{reading, column_place, item_headers, answer_names, answer}
 use Rattle.ft_content.specs.Deserved.{TableState, Sound, Table, Contents, table_named, first_of, or_else, has_column, item_unknown, names_unknown, items_in, is_offsets, is_match, reading_fault, query_fault, select_fault, deserved}
 use Rattle.ft_content.specs.Step.{answer_of_held, answer_of_found, after, reply_to, step, step_by}
@@ -18,16 +16,16 @@ use Rattle.ft_content.specs.Views.{TableInfo}
 use Rattle.ft_query.specs.Reads.{query_of}
 use Rattle.ft_content.specs.Index.{index_rows}
 use Rattle.ft_documents.specs.Tables.{table_rows, table_index}
-use Rattle.ft_documents.specs.Found.{info_named, IsUnfit}
-use Rattle.ft_index.specs.Kept.{FullText, IsUp, AreHeld, Executes, KeepsOthers, OnlyLooks, Answers, is_outside, held_columns}
+use Rattle.ft_documents.specs.Found.{info_named, IsUnfit, IsSoundNamed}
+use Rattle.ft_index.specs.Kept.{FullText, IsUp, AreHeld, Executes, PlansFrom, is_outside, held_columns}
 use Rattle.ft_index.specs.Changed.{with_tables}
 use Rattle.ft_index.specs.DocumentsRead.{Looks}
 use Rattle.ft_documents.specs.Chosen.{ReadsFilterAs}
 use Rattle.ft_index.specs.Selected.{IsAsked}
 use Rattle.ft_index.specs.RowsRead.{rows_asked, CountsHeld, CountsFound, CountsRows, CountsCommand}
-use Rattle.ft_index.proofs.OtherRows.{keeps_same}
+use Rattle.ft_index.proofs.Acting.{executes_read}
+use Rattle.ft_index.proofs.PlanAnswers.{plans_nothing}
 use Rattle.ft_index.proofs.KnownLemmas.{IsSoundTable, sound_table, sound_is, unfit_is}
-use Rattle.ft_index.proofs.CreateLemmas.{refused_answers}
 use Rattle.ft_index.proofs.InsertHolds.{sound_rows}
 use Rattle.ft_documents.proofs.AddLemmas.{bare}
 
@@ -49,7 +47,7 @@ unknown_bare table columns content (AllColumns ∷ items) same = unknown_bare ta
 unknown_bare table columns content (Named name ∷ items) same = λ i. not (has_column (bare (sym same i)) name) || unknown_bare table columns content items same i
 unknown_bare table columns content (OffsetsOf name ∷ items) same = ap (λ b. not (same_name table name) || b) (unknown_bare table columns content items same)
 
-unnamed_bare : (table : List ℕ) (columns : List Column) (content : Content) (f : Filter) → content.columns ≡ columns → names_unknown table (bare columns) f ≡ names_unknown table content f
+pub unnamed_bare : (table : List ℕ) (columns : List Column) (content : Content) (f : Filter) → content.columns ≡ columns → names_unknown table (bare columns) f ≡ names_unknown table content f
 unnamed_bare table columns content All same = refl
 unnamed_bare table columns content (Docid docid) same = refl
 unnamed_bare table columns content (Match name text) same = λ i. not (same_name table name || list_any (same_name name) (names_of (sym same i)))
@@ -58,12 +56,12 @@ reading_bare : (columns : List Column) (content : Content) (name text : List ℕ
 unfolding reading
 reading_bare columns content name text same = λ i. query_of (names_of (sym same i)) (column_place (bare (sym same i)) name) text
 
-reads_bare : (columns : List Column) (content : Content) (f : Filter) (query : Option Tree) → content.columns ≡ columns → ReadsFilterAs (bare columns) f query → ReadsFilterAs content f query
+pub reads_bare : (columns : List Column) (content : Content) (f : Filter) (query : Option Tree) → content.columns ≡ columns → ReadsFilterAs (bare columns) f query → ReadsFilterAs content f query
 reads_bare columns content All query same h = tt
 reads_bare columns content (Docid docid) query same h = tt
 reads_bare columns content (Match name text) query same h = sym (reading_bare columns content name text same) ∙ h
 
-query_bare : (columns : List Column) (content : Content) (f : Filter) → content.columns ≡ columns → query_fault (bare columns) f ≡ query_fault content f
+pub query_bare : (columns : List Column) (content : Content) (f : Filter) → content.columns ≡ columns → query_fault (bare columns) f ≡ query_fault content f
 query_bare columns content All same = refl
 query_bare columns content (Docid docid) same = refl
 query_bare columns content (Match name text) same = ap reading_fault (reading_bare columns content name text same)
@@ -95,66 +93,51 @@ counted {S} old new tables name items f limit offset first t content found held 
     subst (λ (o : Option (ℤ × Table)). CountsFound offset before later items f limit o) (sym found)
     (subst (λ (h : TableState). CountsHeld offset before later items f limit h) (sym held) counts)
 
-module _ {S : Type 0} (g : Ghosts S) (old new : StoreState S) (tables : List TableInfo) (name : List ℕ) (items : Items) (f : Filter) (limit : Option ℕ) (offset : ℕ) (looks : Looks g old new) where
+-- ---- what it deserves, and its plan
+
+module _ (contents : Contents) (name : List ℕ) (items : Items) (f : Filter) (limit : Option ℕ) (offset : ℕ) (store : StoreValue) (tables : List TableInfo) (held : AreHeld store tables contents) where
   abbrev command : Command
   command = Select name items f limit offset
 
-  was_up : IsUp g (with_tables new tables) → IsUp g (with_tables old tables)
-  was_up up = record { clean = omega (arith, looks.survives.clean, up.clean); is_open = (looks.kept up.clean up.is_open).2 }
-
-  same_value : IsUp g (with_tables new tables) → value_in g new ≡ value_in g old
-  same_value up = ap (λ (d : Database). value_of_trees d.trees) (looks.kept up.clean up.is_open).0
-
-  pub only_looks : OnlyLooks g (with_tables old tables) (with_tables new tables)
-  only_looks = record { was_up = was_up; value = same_value; survives = looks.survives; tables = refl }
-
-  abbrev Does : Result Reply Fault → Type 0
-  Does result = Executes g (with_tables old tables) command result (with_tables new tables)
-
-  does : (result : Result Reply Fault) → (IsUp g (with_tables new tables) → (first : Contents) → AreHeld (value_in g old) tables first → Answers first command result first) → Does result
-  does result answers = record {
-    was_up = was_up;
-    steps = λ up first holds. (first, subst (λ v. AreHeld v tables first) (sym (same_value up)) holds, answers up first holds);
-    others = λ up first holds. subst (KeepsOthers (value_in g old)) (sym (same_value up)) (keeps_same (value_in g old));
-    unchanged = λ no up. (same_value up, refl);
-  }
-
-  pub select_unfit : (fault : Fault) → IsUnfit tables name fault → Does (Err fault)
+  pub select_unplanned : (fault : Fault) → IsUnfit tables name fault → PlansFrom contents command store (Err fault)
   unfolding deserved
-  select_unfit fault unfit = does (Err fault) (λ up first holds.
-      inr (refused_answers first command fault (unfit_is first name fault (λ table content. select_fault table content items f) (subst (λ ts. IsUnfit ts name fault) holds.told unfit))))
+  select_unplanned fault unfit = inr (unfit_is contents name fault (λ table content. select_fault table content items f) (subst (λ ts. IsUnfit ts name fault) held.told unfit))
 
-  pub select_refused : (fault : Fault) → (fault ≡ faults.Store) ⊎ (fault ≡ faults.Memory) → Does (Err fault)
-  select_refused fault outside = does (Err fault) (λ up first holds. inl (is_out outside, refl))
-    where
-      is_out : (fault ≡ faults.Store) ⊎ (fault ≡ faults.Memory) → IsTrue (is_outside (Err fault))
-      is_out (inl e) = ap (λ f. is_outside (Err f)) e
-      is_out (inr e) = ap (λ f. is_outside (Err f)) e
-
-  module _ (known : TableInfo) (named : info_named tables name ≡ Some known) (sound : IsTrue known.sound) where
-    table_of : (first : Contents) → AreHeld (value_in g old) tables first → IsSoundTable first name known
-    table_of first holds = sound_table first name known (ap (λ ts. info_named ts name) (sym holds.told) ∙ named) sound
-
-    due : (first : Contents) (holds : AreHeld (value_in g old) tables first) → deserved first command ≡ select_fault known.name (bare known.columns) items f
+  module _ (known : TableInfo) (named : IsSoundNamed tables name known) where
+    due : deserved contents command ≡ select_fault known.name (bare known.columns) items f
     unfolding deserved
-    due first holds =
-        let t = table_of first holds in
-        sound_is first name known t (λ table content. select_fault table content items f)
+    due =
+        let t = sound_table contents name known (ap (λ ts. info_named ts name) (sym held.told) ∙ named.0) named.1 in
+        sound_is contents name known t (λ table content. select_fault table content items f)
         ∙ ap (λ (k : TableInfo). select_fault k.name t.content items f) t.told
-        ∙ sym (fault_bare known.name known.columns t.content items f (told_columns first name known t))
+        ∙ sym (fault_bare known.name known.columns t.content items f (told_columns contents name known t))
 
-    stepped : (grid : Grid) (first : Contents) (t : IsSoundTable first name known) → deserved first command ≡ None → grid ≡ answer known.name t.content items f limit offset → step first command ≡ (Ok (Rows grid), first)
+    pub select_fails : (fault : Fault) → (fault ≡ faults.Memory) ⊎ (select_fault known.name (bare known.columns) items f ≡ Some fault) → PlansFrom contents command store (Err fault)
+    select_fails fault (inl memory) = inl (ap (λ f. is_outside (Err f)) memory)
+    select_fails fault (inr is) = inr (due ∙ is)
+
+    pub select_plans : select_fault known.name (bare known.columns) items f ≡ None → PlansFrom contents command store (Ok [])
+    unfolding after
+    select_plans fine = plans_nothing contents command store tables held refl refl (due ∙ fine)
+
+-- ---- what it is answered
+
+module _ {S : Type 0} (g : Ghosts S) (old new : StoreState S) (tables : List TableInfo) (name : List ℕ) (items : Items) (f : Filter) (limit : Option ℕ) (offset : ℕ) (looks : Looks g old new) where
+  abbrev asked_so : Command
+  asked_so = Select name items f limit offset
+
+  module _ (known : TableInfo) (named : IsSoundNamed tables name known) where
+    table_of : (first : Contents) → AreHeld (value_in g old) tables first → IsSoundTable first name known
+    table_of first holds = sound_table first name known (ap (λ ts. info_named ts name) (sym holds.told) ∙ named.0) named.1
+
+    stepped : (grid : Grid) (first : Contents) (t : IsSoundTable first name known) → deserved first asked_so ≡ None → grid ≡ answer known.name t.content items f limit offset → step first asked_so ≡ (Ok (Rows grid), first)
     unfolding step reply_to after
     stepped grid first t none is =
-        ap (λ due. step_by due first command) none
+        ap (λ due. step_by due first asked_so) none
         ∙ ap (λ (found : Option (ℤ × Table)). (Ok (answer_of_found found items f limit offset), first)) t.found
         ∙ ap (λ (held : TableState). (Ok (answer_of_held t.table.1.name held items f limit offset), first)) t.held
         ∙ ap (λ (k : TableInfo). (Ok (Rows (answer k.name t.content items f limit offset)), first)) t.told
         ∙ ap (λ grid. (Ok (Rows grid), first)) (sym is)
-
-    pub select_undone : (fault : Fault) → (fault ≡ faults.Memory) ⊎ (select_fault known.name (bare known.columns) items f ≡ Some fault) → Does (Err fault)
-    select_undone fault (inl memory) = select_refused fault (inr memory)
-    select_undone fault (inr is) = does (Err fault) (λ up first holds. inr (refused_answers first command fault (due first holds ∙ is)))
 
     module _ (order : AreInOrder (value_in g old)) (query : Option Tree) (grid : Grid) (fine : select_fault known.name (bare known.columns) items f ≡ None) (reads : ReadsFilterAs (bare known.columns) f query) where
       asked : (up : IsUp g (with_tables new tables)) (first : Contents) (holds : AreHeld (value_in g old) tables first) → IsAsked g known.id known.columns items f query old new (table_of first holds).content
@@ -172,10 +155,10 @@ module _ {S : Type 0} (g : Ghosts S) (old new : StoreState S) (tables : List Tab
             offsets = fine_offsets known.name (bare known.columns) items f fine;
           }
 
-      pub select_done : ((content : Content) → IsAsked g known.id known.columns items f query old new content → grid ≡ answer known.name content items f limit offset) → Does (Ok (Rows grid))
-      select_done answers = does (Ok (Rows grid)) (λ up first holds. inr (stepped grid first (table_of first holds) (due first holds ∙ fine) (answers (table_of first holds).content (asked up first holds))))
+      pub select_done : ((content : Content) → IsAsked g known.id known.columns items f query old new content → grid ≡ answer known.name content items f limit offset) → Executes g (with_tables old tables) asked_so (Ok (Rows grid)) (with_tables new tables)
+      select_done answers = executes_read g old new tables asked_so (Ok (Rows grid)) looks (λ up first holds. inr (stepped grid first (table_of first holds) (due first name items f limit offset (value_in g old) tables holds known named ∙ fine) (answers (table_of first holds).content (asked up first holds))))
 
-      pub select_counts : ((content : Content) → IsAsked g known.id known.columns items f query old new content → new.rows_read ≡ more_rows (rows_asked content items f limit offset) old) → CountsRows g (with_tables old tables) command (Ok (Rows grid)) (with_tables new tables)
+      pub select_counts : ((content : Content) → IsAsked g known.id known.columns items f query old new content → new.rows_read ≡ more_rows (rows_asked content items f limit offset) old) → CountsRows g (with_tables old tables) asked_so (Ok (Rows grid)) (with_tables new tables)
       select_counts counts = λ up first holds.
           let t = table_of first holds in
           counted old new tables name items f limit offset first t.table t.content t.found t.held (counts t.content (asked up first holds))

@@ -16,8 +16,7 @@ use Rattle.ft_content.specs.Deserved.{Sound, Table, Contents}
 use Rattle.ft_content.specs.Step.{dropped, free_id_from}
 use Rattle.ft_documents.specs.Tables.{table_rows, table_index}
 use Rattle.ft_index.specs.Kept.{HoldsTable, StoreHolds}
-use Rattle.ft_documents.proofs.AddLemmas.{added_rows, added_index}
-use Rattle.ft_documents.proofs.AddLemmas.{bare}
+use Rattle.ft_documents.proofs.AddLemmas.{added_rows, added_index, bare}
 use Rattle.ft_index.proofs.OneTable.{IsOne, AreHeldIn, SparesAllBut, spared}
 use Rattle.ft_documents.proofs.ChangeLemmas.{spares_others}
 use Rattle.ft_documents.proofs.KeyedRows.{less}

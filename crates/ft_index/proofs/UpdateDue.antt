@@ -1,5 +1,5 @@
 -- What an Update deserves, by its tests one after another.
-use Rattle.std.proofs.Common.{◌≡◌, ◌≢◌, ◌⊎◌, inl, inr, ℕ, Bool, true, false, not, ◌&&◌, ◌||◌, List, [], ◌∷◌, map, length, Option, Some, None, ℤ, refl, ap, ◌∙◌}
+use Rattle.std.proofs.Common.{◌≡◌, ◌≢◌, ◌⊎◌, inl, inr, ℕ, Bool, true, false, not, ◌&&◌, ◌||◌, List, [], ◌∷◌, map, length, Option, Some, None, ℤ, refl, sym, ap, ◌∙◌}
 use Rattle.std.specs.Prelude.{nat_lt}
 use Rattle.std.specs.List.{list_all, list_any}
 use Rattle.ft_values.specs.Cells.{Cell}
@@ -14,7 +14,7 @@ use Rattle.ft_content.specs.Deserved.{Contents, first_of, or_else, on_sound, has
 use Rattle.ft_content.specs.Step.{updated, with_documents, on_table, after, touched, reply_to}
 use Rattle.ft_content.proofs.ContentLemmas.{update_keeps_content}
 use Rattle.ft_documents.specs.Updated.{update_touches}
-use Rattle.ft_documents.proofs.BareLemmas.{unknown_bare, fault_bare}
+use Rattle.ft_index.proofs.SelectAnswers.{unnamed_bare, query_bare}
 use Rattle.ft_documents.proofs.FaultLemmas.{memory_or}
 use Rattle.ft_index.specs.Written.{WritesTable}
 use Rattle.ft_index.proofs.Writing.{IsWrite}
@@ -71,7 +71,7 @@ module _ (sets : List (List ℕ × Cell)) (f : Filter) where
         ∷ []
 
     tests_are : update_tests table content sets f ≡ update_tests table (bare_content cols) sets f
-    tests_are = λ i. first_of ((not (list_all (λ (s : List ℕ × Cell). has_column (record { columns = columns_are i; documents = [] }) s.0) sets) || unknown_bare content cols columns_are f table i, faults.NoSuchColumn) ∷ later)
+    tests_are = λ i. first_of ((not (list_all (λ (s : List ℕ × Cell). has_column (record { columns = columns_are i; documents = [] }) s.0) sets) || sym (unnamed_bare table (map column_of cols) content f columns_are) i, faults.NoSuchColumn) ∷ later)
 
     abbrev moves : Option Fault
     moves = moves_fault content.documents (chosen content f) (docids_named sets)
@@ -86,8 +86,8 @@ module _ (sets : List (List ℕ × Cell)) (f : Filter) where
       where
         go : (fault ≡ faults.Memory) ⊎ (fault ≢ faults.Memory) → ((fault ≡ faults.Store) ⊎ (fault ≡ faults.Memory)) ⊎ (due table content ≡ Some fault)
         go (inl memory) = inl (inr memory)
-        go (inr other) = inr (ap (λ o. or_else o (or_else (query_fault content f) moves)) (tests_are ∙ tested) ∙ ap (λ o. or_else o moves) (fault_bare content cols columns_are f ∙ refused other))
+        go (inr other) = inr (ap (λ o. or_else o (or_else (query_fault content f) moves)) (tests_are ∙ tested) ∙ ap (λ o. or_else o moves) (sym (query_bare (map column_of cols) content f columns_are) ∙ refused other))
 
     -- then it is what the docids deserve
     pub moves_due : update_tests table (bare_content cols) sets f ≡ None → query_fault (bare_content cols) f ≡ None → due table content ≡ moves
-    moves_due tested fine = ap (λ o. or_else o (or_else (query_fault content f) moves)) (tests_are ∙ tested) ∙ ap (λ o. or_else o moves) (fault_bare content cols columns_are f ∙ fine)
+    moves_due tested fine = ap (λ o. or_else o (or_else (query_fault content f) moves)) (tests_are ∙ tested) ∙ ap (λ o. or_else o moves) (sym (query_bare (map column_of cols) content f columns_are) ∙ fine)

@@ -18,8 +18,6 @@ use Rattle.ft_content.specs.Command.{Filter}
 use Rattle.ft_content.specs.Answer.{is_chosen, chosen}
 use Rattle.ft_content.specs.Deserved.{docids_named, with_values, has_docid, moves_fault}
 use Rattle.ft_content.specs.Step.{docids_of, docid_if_any, without_docid, moved, updated}
-use Rattle.ft_documents.specs.declared.documents.Document.{Document}
-use Rattle.ft_documents.specs.Gathered.{shown_document}
 use Rattle.ft_documents.specs.Rewrite.{Rewrite, under_docids, rewritten}
 use Rattle.ft_documents.specs.Updated.{changing, leaving, coming, moved_from, MayMove}
 use Rattle.ft_index.specs.Written.{LeadsTo}
@@ -29,11 +27,6 @@ use Rattle.ft_documents.proofs.FoundLemmas.{not_some}
 use Rattle.ft_documents.proofs.ChosenLemmas.{all_found}
 use Rattle.ft_index.proofs.ChosenWrites.{each_rewritten, befores, all_rewritten, chosen_lead, own_docids}
 use Rattle.ft_documents.proofs.InsertOf.{are_of}
-
--- the docids of documents as they are read
-pub docids_shown : (documents : List Document) → docids_of (map shown_document documents) ≡ map (λ (d : Document). d.docid) documents
-docids_shown [] = refl
-docids_shown (d ∷ ds) = ap (λ l. d.docid ∷ l) (docids_shown ds)
 
 -- ---- documents that are put and taken out
 

@@ -25,22 +25,14 @@ pub record LooksOn {S X F : Type 0} (g : Ghosts S) (old new : StoreState S) (res
   pub only : Looks g old new
   pub live : HasCleanDisk (shows g new) → OnOk result (IsTrue (shows g old).is_open → IsTrue (shows g new).is_open)
 
--- the same with what is answered
-pub record LooksTo {S X F : Type 0} (g : Ghosts S) (old new : StoreState S) (result : Result X F) (Told : Type 0) : Type 0 where
-  pub told : Told
-  pub only : Looks g old new
-  pub live : HasCleanDisk (shows g new) → OnOk result (IsTrue (shows g old).is_open → IsTrue (shows g new).is_open)
-
 -- the same of a call that is refused for these causes alone
-pub record LooksFor {S X F : Type 0} (g : Ghosts S) (old new : StoreState S) (result : Result X F) (Cause : F → Type 0) (Told : Type 0) : Type 0 where
-  pub told : Told
+pub record LooksFor {S X F : Type 0} (g : Ghosts S) (old new : StoreState S) (result : Result X F) (Cause : F → Type 0) : Type 0 where
   pub only : Looks g old new
   pub live : HasCleanDisk (shows g new) → OnOk result (IsTrue (shows g old).is_open → IsTrue (shows g new).is_open)
   pub cause : IfErr result Cause
 
 -- the same of a call that asks the store in any case: its answer says that the store is open
-pub record AsksStore {S X F : Type 0} (g : Ghosts S) (old new : StoreState S) (result : Result X F) (Cause : F → Type 0) (Told : Type 0) : Type 0 where
-  pub told : Told
+pub record AsksStore {S X F : Type 0} (g : Ghosts S) (old new : StoreState S) (result : Result X F) (Cause : F → Type 0) : Type 0 where
   pub only : Looks g old new
   pub live : HasCleanDisk (shows g new) → OnOk result (IsTrue (shows g new).is_open)
   pub cause : IfErr result Cause

@@ -25,7 +25,7 @@ use Rattle.ft_content.specs.declared.command.Reply.{Reply}
 use Rattle.ft_content.specs.Command.{Done}
 use Rattle.ft_content.specs.Step.{after, on_table, reply_to, with_documents}
 use Rattle.ft_index.specs.Changed.{with_tables, Does, MakesRows}
-use Rattle.ft_index.specs.DocumentsRead.{LooksTo}
+use Rattle.ft_index.specs.DocumentsRead.{LooksOn}
 
 -- The rows and index rows of a table were those of a content with these columns, and the store is
 -- up as the call ends.
@@ -129,13 +129,13 @@ pub record WritesTable (command : Command) : Type 0 where
 -- does what any such command does that they were found for.
 abbrev pub AnswersWritten : {S : Type 0} → Ghosts S → Result Written Fault → StoreState S → StoreState S → Result Reply Fault → Type 0
 AnswersWritten {S} g found mid new answer = (old : StoreState S) (tables : List TableInfo) (command : Command) → WritesTable command
-    → LooksTo g old mid found (WritesIn g tables old mid command found) → Does g (with_tables old tables) command answer (with_tables new tables)
+    → WritesIn g tables old mid command found → LooksOn g old mid found → Does g (with_tables old tables) command answer (with_tables new tables)
 
 -- Where the command puts rows, it is refused by the store only for what lies outside it, or since
 -- the row changes that it comes to can't be put.
 abbrev pub BlamesWritten : {S : Type 0} → Ghosts S → Result Written Fault → StoreState S → StoreState S → Result Reply Fault → Type 0
 BlamesWritten {S} g found mid new answer = (old : StoreState S) (tables : List TableInfo) (command : Command) → IsTrue (puts_rows command)
-    → LooksTo g old mid found (WritesIn g tables old mid command found) → BlamesOver g tables old mid found → BlamesDone g tables old command new answer
+    → WritesIn g tables old mid command found → LooksOn g old mid found → BlamesOver g tables old mid found → BlamesDone g tables old command new answer
 
 -- the row changes of such documents, or the fault
 abbrev pub PlansWritten : Result Written Fault → Result (Vec RowChange Global) Fault → Type 0

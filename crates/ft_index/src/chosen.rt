@@ -35,12 +35,12 @@ pub(crate) fn chosen_documents<S: Alter>(
     filter: &Filter,
     query: Option<&Query>,
 ) -> Result<Vec<Document>, Fault>
-    ensures looks { LooksFor S.Store store.old store.new result IsOutside
-        (IfOk result (λ found. (content : Content)
-        → HasRows S.Store tab store.old store.new content
-        → IsIndexed S.Store tab store.old store.new content
-        → ReadsFilterAs content (filter_of filter.now) (option_map (λ q. tree_of q.now) query.entry)
-        → map shown_document found.items ≡ chosen content (filter_of filter.now))) }
+    ensures told { IfOk result (λ found. (content : Content)
+        → HasRows S.Store tab store.old store.new content → IsIndexed S.Store tab store.old
+        store.new content → ReadsFilterAs content (filter_of filter.now)
+        (option_map (λ q. tree_of q.now) query.entry) → map shown_document found.items
+        ≡ chosen content (filter_of filter.now)) }
+    ensures looks { LooksFor S.Store store.old store.new result IsOutside }
     ensures counted { OnOk result ((content : Content)
         → HasRows S.Store tab store.old store.new content
         → is_match (filter_of filter.now) ≡ false
@@ -74,10 +74,10 @@ fn documents_under<S: Alter>(
     tab: i64,
     docids: &[i64],
 ) -> Result<Vec<Document>, Fault>
-    ensures looks { LooksFor S.Store store.old store.new result IsOutside
-        (IfOk result (λ found. (content : Content)
+    ensures told { IfOk result (λ found. (content : Content)
         → HasRows S.Store tab store.old store.new content → map shown_document found.items
-        ≡ map (document_at content) docids.now)) }
+        ≡ map (document_at content) docids.now) }
+    ensures looks { LooksFor S.Store store.old store.new result IsOutside }
     ensures refused { BlamesContent S.Store tab store.old store.new result
         (λ content. AreThere content docids.now) }
 {
@@ -96,10 +96,10 @@ pub(crate) fn found_cells<S: Alter>(
     tab: i64,
     docid: i64,
 ) -> Result<Vec<Value>, Fault>
-    ensures looks { AsksStore S.Store store.old store.new result IsOutside
-        (IfOk result (λ cells. (content : Content)
+    ensures told { IfOk result (λ cells. (content : Content)
         → HasRows S.Store tab store.old store.new content → find int_cmp docid content.documents
-        ≡ Some (cells_of cells))) }
+        ≡ Some (cells_of cells)) }
+    ensures looks { AsksStore S.Store store.old store.new result IsOutside }
     ensures counted { IfOk result (λ cells. store.new.rows_read
         ≡ more_rows (vec_len cells) store.old) }
     ensures refused { BlamesContent S.Store tab store.old store.new result

@@ -30,10 +30,10 @@ pub(crate) fn document<S: Alter>(
     tab: i64,
     docid: i64,
 ) -> Result<Option<Vec<Value>>, Fault>
-    ensures looks { AsksStore S.Store store.old store.new result IsOutside
-        (IfOk result (λ found. (content : Content)
+    ensures told { IfOk result (λ found. (content : Content)
         → HasRows S.Store tab store.old store.new content → option_map views.cells_of found
-        ≡ find int_cmp docid content.documents)) }
+        ≡ find int_cmp docid content.documents) }
+    ensures looks { AsksStore S.Store store.old store.new result IsOutside }
     ensures counted { IfOk result (λ found. store.new.rows_read
         ≡ more_rows (option_map_or vec_len found 0) store.old) }
     ensures refused { BlamesStore (shows S.Store store.old) (shows S.Store store.new) result }
@@ -51,10 +51,10 @@ pub(crate) fn all_documents<S: Alter>(
     store: &mut Store<S>,
     tab: i64,
 ) -> Result<Vec<Document>, Fault>
-    ensures looks { AsksStore S.Store store.old store.new result IsOutside
-        (IfOk result (λ found. (content : Content)
+    ensures told { IfOk result (λ found. (content : Content)
         → HasRows S.Store tab store.old store.new content → map shown_document found.items
-        ≡ content.documents)) }
+        ≡ content.documents) }
+    ensures looks { AsksStore S.Store store.old store.new result IsOutside }
     ensures counted { OnOk result ((content : Content)
         → HasRows S.Store tab store.old store.new content → store.new.rows_read
         ≡ more_rows (length content.columns * length content.documents) store.old) }
@@ -73,10 +73,10 @@ pub(crate) fn docids<S: Alter>(
     limit: Option<u64>,
     offset: u64,
 ) -> Result<Vec<i64>, Fault>
-    ensures looks { AsksStore S.Store store.old store.new result IsOutside
-        (IfOk result (λ found. (content : Content)
-        → HasRows S.Store tab store.old store.new content
-        → found.items ≡ cut limit offset (map (λ d. d.0) content.documents))) }
+    ensures told { IfOk result (λ found. (content : Content)
+        → HasRows S.Store tab store.old store.new content → found.items ≡ cut limit offset
+        (map (λ d. d.0) content.documents)) }
+    ensures looks { AsksStore S.Store store.old store.new result IsOutside }
     ensures counted { OnOk result ((content : Content)
         → HasRows S.Store tab store.old store.new content → store.new.rows_read
         ≡ more_rows (docids_asked content limit offset) store.old) }

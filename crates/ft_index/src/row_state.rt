@@ -45,10 +45,10 @@ pub(crate) fn known_state<S: Alter>(
     store: &mut Store<S>,
     table: &TableInfo,
 ) -> Result<RowState, StoreFault>
-    ensures asks { AsksStore S.Store store.old store.new result IsPlainFault
-        ((held : TableState) → HasCleanDisk (shows S.Store store.new)
+    ensures told { (held : TableState) → HasCleanDisk (shows S.Store store.new)
         → HasState (value_in S.Store store.old) (shown_info table.now) held
-        → IfOk result (λ s. s ≡ state_of held)) }
+        → IfOk result (λ s. s ≡ state_of held) }
+    ensures asks { AsksStore S.Store store.old store.new result IsPlainFault }
     ensures refused { Blames (shows S.Store store.old) (shows S.Store store.new) result }
 {
     let listed = store.table(table.id, table.name.as_str())?;
@@ -61,11 +61,11 @@ fn read_state<S: Alter>(
     store: &mut Store<S>,
     table: &TabRow,
 ) -> Result<RowState, StoreFault>
-    ensures asks { AsksStore S.Store store.old store.new result IsPlainFault
-        ((named : ℤ × List ℕ) → HasCleanDisk (shows S.Store store.new)
+    ensures told { (named : ℤ × List ℕ) → HasCleanDisk (shows S.Store store.new)
         → IsListed (value_in S.Store store.old) named table.now
         → IfOk result (λ s. StandsSo named.1 (table_rows named.0 (value_in S.Store store.old))
-        (table_index named.0 (value_in S.Store store.old)) s)) }
+        (table_index named.0 (value_in S.Store store.old)) s) }
+    ensures asks { AsksStore S.Store store.old store.new result IsPlainFault }
     ensures refused { Blames (shows S.Store store.old) (shows S.Store store.new) result }
 {
     let columns = listed_columns(alloc, table)?;
@@ -89,11 +89,11 @@ fn has_right_index<S: Alter>(
     columns: &[Column],
     cells: Vec<CellRow>,
 ) -> Result<bool, StoreFault>
-    ensures asks { AsksStore S.Store store.old store.new result IsPlainFault
-        ((content : Content) → HasCleanDisk (shows S.Store store.new)
-        → standing.HaveContent (map column_of columns.now)
-        (map standing.shown_row cells.items) content → IfOk result (λ b. IsTrue b ↔ (table_index tab
-        (value_in S.Store store.old) ≡ index_rows content))) }
+    ensures told { (content : Content) → HasCleanDisk (shows S.Store store.new)
+        → standing.HaveContent (map column_of columns.now) (map standing.shown_row cells.items)
+        content → IfOk result (λ b. IsTrue b ↔ (table_index tab (value_in S.Store store.old)
+        ≡ index_rows content)) }
+    ensures asks { AsksStore S.Store store.old store.new result IsPlainFault }
     ensures refused { Blames (shows S.Store store.old) (shows S.Store store.new) result }
 {
     let sizes = store.sizes(tab)?;
@@ -109,10 +109,10 @@ pub(crate) fn opened_tables<S: Alter>(
     alloc: Global,
     store: &mut Store<S>,
 ) -> Result<Vec<TableInfo>, StoreFault>
-    ensures asks { AsksStore S.Store store.old store.new result IsPlainFault
-        (HasCleanDisk (shows S.Store store.new) → IfOk result (λ tables. AreMarked
-        (value_in S.Store store.old) (value_in S.Store store.old).tables
-        (map shown_info tables.items))) }
+    ensures told { HasCleanDisk (shows S.Store store.new)
+        → IfOk result (λ tables. AreMarked (value_in S.Store store.old)
+        (value_in S.Store store.old).tables (map shown_info tables.items)) }
+    ensures asks { AsksStore S.Store store.old store.new result IsPlainFault }
     ensures refused { AreTableTexts (value_in S.Store store.old)
         → Blames (shows S.Store store.old) (shows S.Store store.new) result }
 {

@@ -108,12 +108,12 @@ fn selected_rows<S: Alter>(
     select: &Selection,
     query: Option<&Query>,
 ) -> Result<Vec<Vec<Value>>, Fault>
-    ensures looks { LooksFor S.Store store.old store.new result IsOutside
-        (IfOk result (λ found. (content : Content) → IsAsked S.Store tab
-        (map column_of columns.now) (items_of select.now.items) (filter_of select.now.filter)
-        (option_map (λ q. tree_of q.now) query.entry) store.old store.new content
-        → rows_of found ≡ answer.cut select.now.limit select.now.offset (answer.answer_rows content
-        (items_of select.now.items) (filter_of select.now.filter)))) }
+    ensures told { IfOk result (λ found. (content : Content)
+        → IsAsked S.Store tab (map column_of columns.now) (items_of select.now.items)
+        (filter_of select.now.filter) (option_map (λ q. tree_of q.now) query.entry) store.old
+        store.new content → rows_of found ≡ answer.cut select.now.limit select.now.offset
+        (answer.answer_rows content (items_of select.now.items) (filter_of select.now.filter))) }
+    ensures looks { LooksFor S.Store store.old store.new result IsOutside }
     ensures counted { OnOk result ((content : Content)
         → IsAsked S.Store tab (map column_of columns.now) (items_of select.now.items)
         (filter_of select.now.filter) (option_map (λ q. tree_of q.now) query.entry) store.old
@@ -157,10 +157,11 @@ fn chosen_count<S: Alter>(
     filter: &Filter,
     query: Option<&Query>,
 ) -> Result<i64, Fault>
-    ensures looks { LooksFor S.Store store.old store.new result IsOutside
-        (IfOk result (λ count. (content : Content) → IsOf S.Store tab store.old store.new content
-        → ReadsFilterAs content (filter_of filter.now) (option_map (λ q. tree_of q.now) query.entry)
-        → count ≡ pos (length (chosen content (filter_of filter.now))))) }
+    ensures told { IfOk result (λ count. (content : Content)
+        → IsOf S.Store tab store.old store.new content → ReadsFilterAs content
+        (filter_of filter.now) (option_map (λ q. tree_of q.now) query.entry)
+        → count ≡ pos (length (chosen content (filter_of filter.now)))) }
+    ensures looks { LooksFor S.Store store.old store.new result IsOutside }
     ensures counted { OnOk result ((content : Content)
         → IsOf S.Store tab store.old store.new content
         → ReadsFilterAs content (filter_of filter.now) (option_map (λ q. tree_of q.now) query.entry)
@@ -239,11 +240,11 @@ fn hit_rows<S: Alter>(
     items: &[Item],
     hits: &[Hit],
 ) -> Result<Vec<Vec<Value>>, Fault>
-    ensures looks { LooksFor S.Store store.old store.new result IsOutside
-        (IfOk result (λ found. (content : Content)
+    ensures told { IfOk result (λ found. (content : Content)
         → HasRows S.Store tab store.old store.new content → rows_of found
-        ≡ map (hit_cells (map column_of columns.now) (map item_of items.now)
-        (cells_at content)) hits.now)) }
+        ≡ map (hit_cells (map column_of columns.now) (map item_of items.now) (cells_at content))
+        hits.now) }
+    ensures looks { LooksFor S.Store store.old store.new result IsOutside }
     ensures counted { OnOk result ((content : Content)
         → HasRows S.Store tab store.old store.new content
         → store.new.rows_read ≡ more_rows ((if list_any rows.reads_document (map item_of items.now)

@@ -2,7 +2,7 @@
 ghost use Rattle.std.specs.Prelude.{map, ◌≡◌, ℕ, List, Some};
 ghost use Rattle.ft_content.specs.Views.{shown_info, answer_of};
 ghost use Rattle.ft_index.specs.Changed.{with_tables, Does};
-ghost use Rattle.ft_index.specs.DocumentsRead.{LooksTo};
+ghost use Rattle.ft_index.specs.DocumentsRead.{LooksOn};
 ghost use Rattle.ft_index.specs.Kept.{Executes, Answers, BlamesStore, table_info};
 ghost use Rattle.ft_store.specs.Kept.{shows};
 ghost use Rattle.ft_documents.specs.Found.{info_named};
@@ -28,10 +28,10 @@ pub(crate) fn check_table<S: Alter>(
     tables: &[TableInfo],
     table: &str,
 ) -> Result<Reply, Fault>
-    ensures looks { LooksTo S.Store store.old store.new result
-        (Executes S.Store (with_tables store.old (map shown_info tables.now))
+    ensures told { Executes S.Store (with_tables store.old (map shown_info tables.now))
         (plain.Check table.now) (answer_of result) (with_tables store.new
-        (map shown_info tables.now))) }
+        (map shown_info tables.now)) }
+    ensures looks { LooksOn S.Store store.old store.new result }
     ensures refused { BlamesStore (shows S.Store store.old) (shows S.Store store.new) result }
 {
     store.is_in_order();
@@ -73,9 +73,9 @@ pub(crate) fn rebuild_changes<S: Alter>(
     tables: &[TableInfo],
     table: &str,
 ) -> Result<Vec<RowChange>, Fault>
-    ensures looks { LooksTo S.Store store.old store.new result
-        (PlansIn S.Store (map shown_info tables.now) store.old store.new (plain.Rebuild table.now)
-        result) }
+    ensures told { PlansIn S.Store (map shown_info tables.now) store.old store.new
+        (plain.Rebuild table.now) result }
+    ensures looks { LooksOn S.Store store.old store.new result }
     ensures refused { BlamesStore (shows S.Store store.old) (shows S.Store store.new) result }
 {
     let known = named_table(tables, table)?;
@@ -90,10 +90,10 @@ fn rebuilt<'t, S: Alter>(
     store: &mut Store<S>,
     table: &'t TableInfo,
 ) -> Result<Option<Written<'t>>, Fault>
-    ensures looks { LooksTo S.Store store.old store.new result
-        ((tables : List views.TableInfo) (name : List ℕ)
+    ensures told { (tables : List views.TableInfo) (name : List ℕ)
         → info_named tables name ≡ Some (shown_info table.now)
-        → RebuildsIn S.Store tables store.old store.new (plain.Rebuild name) result) }
+        → RebuildsIn S.Store tables store.old store.new (plain.Rebuild name) result }
+    ensures looks { LooksOn S.Store store.old store.new result }
     ensures refused { BlamesStore (shows S.Store store.old) (shows S.Store store.new) result }
 {
     store.is_in_order();

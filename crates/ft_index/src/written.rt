@@ -10,7 +10,7 @@ ghost use Rattle.sqlite.specs.State.{HasCleanDisk};
 ghost use Rattle.ft_store.specs.Kept.{shows};
 ghost use Rattle.ft_content.specs.Content.{Content};
 ghost use Rattle.ft_content.specs.Deserved.{docids_named};
-ghost use Rattle.ft_index.specs.DocumentsRead.{HasRows, Looks, LooksTo};
+ghost use Rattle.ft_index.specs.DocumentsRead.{HasRows, Looks, LooksOn};
 ghost use Rattle.ft_documents.specs.Gathered.{has_given};
 ghost use Rattle.ft_content.specs.Answer.{chosen};
 ghost use Rattle.ft_index.specs.Changed.{with_tables, Does};
@@ -172,9 +172,9 @@ pub(crate) fn insert_written<'t, S: Alter>(
     tables: &'t [TableInfo],
     insertion: &Insertion,
 ) -> Result<Written<'t>, Fault>
-    ensures looks { LooksTo S.Store store.old store.new result
-        (WritesIn S.Store (map shown_info tables.now) store.old store.new
-        (insertion_of insertion.now) result) }
+    ensures told { WritesIn S.Store (map shown_info tables.now) store.old store.new
+        (insertion_of insertion.now) result }
+    ensures looks { LooksOn S.Store store.old store.new result }
     ensures refused { BlamesOver S.Store (map shown_info tables.now) store.old store.new result }
 {
     store.is_in_order();
@@ -236,9 +236,9 @@ pub(crate) fn update_written<'t, S: Alter>(
     tables: &'t [TableInfo],
     modification: &Modification,
 ) -> Result<Written<'t>, Fault>
-    ensures looks { LooksTo S.Store store.old store.new result
-        (WritesIn S.Store (map shown_info tables.now) store.old store.new
-        (modification_of modification.now) result) }
+    ensures told { WritesIn S.Store (map shown_info tables.now) store.old store.new
+        (modification_of modification.now) result }
+    ensures looks { LooksOn S.Store store.old store.new result }
     ensures refused { BlamesOver S.Store (map shown_info tables.now) store.old store.new result }
 {
     store.is_in_order();
@@ -293,9 +293,9 @@ pub(crate) fn delete_written<'t, S: Alter>(
     tables: &'t [TableInfo],
     deletion: &Deletion,
 ) -> Result<Written<'t>, Fault>
-    ensures looks { LooksTo S.Store store.old store.new result
-        (WritesIn S.Store (map shown_info tables.now) store.old store.new
-        (deletion_of deletion.now) result) }
+    ensures told { WritesIn S.Store (map shown_info tables.now) store.old store.new
+        (deletion_of deletion.now) result }
+    ensures looks { LooksOn S.Store store.old store.new result }
     ensures refused { BlamesOver S.Store (map shown_info tables.now) store.old store.new result }
 {
     store.is_in_order();

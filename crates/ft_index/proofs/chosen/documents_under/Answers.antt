@@ -1,6 +1,6 @@
 -- a document more
 use Rattle.std.proofs.Common.{◌≡◌, ℤ, List, [], ◌∷◌, ◌++◌, pos, get_or, Some, map, take, sym, ap, subst, ◌∙◌, to_z, of_z, w64, to_z-of_z, FitsSigned, rules}
-use Rattle.std.specs.Prelude.{unwrap_or}
+use Rattle.std.specs.Prelude.{unwrap_or, IsSome}
 use Rattle.std.specs.Ordering.{int_cmp}
 use Rattle.std.specs.FinMap.Entries.{find}
 use Rattle.std.proofs.lemmas.List.{take_more, take_all, map-append}
@@ -10,7 +10,6 @@ use Rattle.ft_index.specs.DocumentsRead.{HasRows}
 use Rattle.ft_documents.specs.Gathered.{shown_document}
 use Rattle.ft_documents.specs.Chosen.{document_at}
 use Rattle.ft_index.proofs.LookLemmas.{looks_then, rows_first, rows_then}
-use Rattle.std.specs.Prelude.{IsSome}
 use Rattle.ft_index.proofs.Blaming.{then_blamed, has_at}
 use Rattle.ft_index.proofs.chosen.documents_under.Goals as goal
 
@@ -30,7 +29,7 @@ loop-docid-preserved g c =
           let fits : FitsSigned w64 docid = search rules in
           let back : to_z w64 (of_z w64 docid) ≡ docid = to_z-of_z fits in
           let before = so_far.found content (rows_first g.S.Store first middle last so_far.looks read.looks.only tab content rows) in
-          let here : find int_cmp docid content.documents ≡ Some (cells_of c.in_ok-cells.cells) = ap (λ (k : ℤ). find int_cmp k content.documents) (sym back) ∙ read.looks.told content (rows_then g.S.Store first middle last so_far.looks read.looks.only tab content rows) in
+          let here : find int_cmp docid content.documents ≡ Some (cells_of c.in_ok-cells.cells) = ap (λ (k : ℤ). find int_cmp k content.documents) (sym back) ∙ read.told content (rows_then g.S.Store first middle last so_far.looks read.looks.only tab content rows) in
           let f : ℤ → ℤ × List Cell = document_at content in
           let more = take_more c.args.docids.now c.loop-docid.docid-index (pos 0) c.loop-docid-test.true in
           ap (map shown_document) c.in_ok-push.ensures.items ∙ map-append shown_document c.loop-docid.documents.items (record { docid = to_z w64 (of_z w64 docid); cells = c.in_ok-cells.cells } ∷ [])
@@ -38,32 +37,17 @@ loop-docid-preserved g c =
           ∙ sym (ap (map f) more ∙ map-append f (take c.loop-docid.docid-index c.args.docids.now) (docid ∷ []));
     }
 
-pub returns-clause-looks : goal.returns-clause-looks
-returns-clause-looks g c = record {
-  told = λ content rows.
-      let f : ℤ → ℤ × List Cell = document_at content in
-      c.loop-docid.invariant.found content (subst (λ (k : ℤ). HasRows g.S.Store k c.args.store.now c.loop-docid.store content) (sym (to_z-of_z c.ranges.tab)) rows)
-      ∙ ap (map f) (take_all c.loop-docid.docid-index c.args.docids.now c.loop-docid-test.false);
-  only = search rules;
-  live = search rules;
-  cause = search rules;
-}
+pub returns-clause-told : goal.returns-clause-told
+returns-clause-told g c = λ content rows.
+    let f : ℤ → ℤ × List Cell = document_at content in
+    c.loop-docid.invariant.found content (subst (λ (k : ℤ). HasRows g.S.Store k c.args.store.now c.loop-docid.store content) (sym (to_z-of_z c.ranges.tab)) rows)
+    ∙ ap (map f) (take_all c.loop-docid.docid-index c.args.docids.now c.loop-docid-test.false)
 
 pub returns-in_err-cells-clause-looks : goal.returns-in_err-cells-clause-looks
-returns-in_err-cells-clause-looks g c = record {
-  told = search rules;
-  only = looks_then g.S.Store c.args.store.now c.loop-docid.store c.found_cells.new.store c.loop-docid.invariant.looks c.found_cells.ensures.looks.only c.loop-docid.invariant.live;
-  live = search rules;
-  cause = search rules;
-}
+returns-in_err-cells-clause-looks g c = record { only = looks_then g.S.Store c.args.store.now c.loop-docid.store c.found_cells.new.store c.loop-docid.invariant.looks c.found_cells.ensures.looks.only c.loop-docid.invariant.live; live = search rules; cause = search rules }
 
 pub returns-in_err-push-clause-looks : goal.returns-in_err-push-clause-looks
-returns-in_err-push-clause-looks g c = record {
-  told = search rules;
-  only = looks_then g.S.Store c.args.store.now c.loop-docid.store c.found_cells.new.store c.loop-docid.invariant.looks c.found_cells.ensures.looks.only c.loop-docid.invariant.live;
-  live = search rules;
-  cause = search rules;
-}
+returns-in_err-push-clause-looks g c = record { only = looks_then g.S.Store c.args.store.now c.loop-docid.store c.found_cells.new.store c.loop-docid.invariant.looks c.found_cells.ensures.looks.only c.loop-docid.invariant.live; live = search rules; cause = search rules }
 
 pub returns-in_err-cells-clause-refused : goal.returns-in_err-cells-clause-refused
 returns-in_err-cells-clause-refused g c = λ name content has there clean told.

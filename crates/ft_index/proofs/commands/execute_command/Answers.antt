@@ -1,17 +1,15 @@
 -- by what each command counts, and what it was found to write
-use Rattle.std.proofs.Common.{List, map, option_map, string_bytes, sym, subst}
+use Rattle.std.proofs.Common.{List, map, option_map, string_bytes, sym, subst, refl}
 use Rattle.ft_content.specs.declared.command.Command.{Command}
 use Rattle.ft_values.specs.declared.table.TableInfo.{TableInfo}
 use Rattle.ft_content.specs.Command as plain
 use Rattle.ft_content.specs.Views.{shown_info, names_in, rows_of, set_of, filter_of, command_of, insertion_of, modification_of, selection_of, answer_of}
 use Rattle.ft_index.specs.Changed.{Does, with_tables}
-use Rattle.ft_index.specs.DocumentsRead.{LooksTo}
 use Rattle.ft_index.specs.Written.{WritesIn}
 use Rattle.ft_index.specs.RowsRead.{CountsRows}
 use Rattle.ft_index.proofs.Counting.{counts_other}
 use Rattle.ft_index.proofs.InsertWrites as inserts
 use Rattle.ft_index.proofs.UpdateDue as updates
-use Rattle.std.proofs.Common.{refl}
 use Rattle.ft_index.specs.Refused.{BlamesDone, BlamesOver}
 use Rattle.ft_index.proofs.commands.execute_command.Goals as goal
 
@@ -22,9 +20,9 @@ returns-in-Insert-clause-does g c =
     let mid = c.insert_written-written.new.store in
     let found = c.insert_written-written.result in
     let tables = map shown_info c.args.tables.now.items in
-    let looks = subst (λ (ts : List TableInfo). LooksTo g.S.Store old mid found (WritesIn g.S.Store (map shown_info ts) old mid (insertion_of w) found)) c.as_slice.ensures.value c.insert_written-written.ensures.looks in
+    let told = subst (λ (ts : List TableInfo). WritesIn g.S.Store (map shown_info ts) old mid (insertion_of w) found) c.as_slice.ensures.value c.insert_written-written.ensures.told in
     subst (λ (x : Command). Does g.S.Store (with_tables old tables) (command_of x) c.write_found.result (with_tables c.write_found.new.store tables)) (sym c.in-Insert.is)
-    (c.write_found.ensures.answers old tables (insertion_of w) (inserts.writes_table (option_map names_in w.columns) (rows_of w.rows) (string_bytes w.table)) looks)
+    (c.write_found.ensures.answers old tables (insertion_of w) (inserts.writes_table (option_map names_in w.columns) (rows_of w.rows) (string_bytes w.table)) told c.insert_written-written.ensures.looks)
 
 pub returns-in-Update-clause-does : goal.returns-in-Update-clause-does
 returns-in-Update-clause-does g c =
@@ -33,9 +31,9 @@ returns-in-Update-clause-does g c =
     let mid = c.update_written-written.new.store in
     let found = c.update_written-written.result in
     let tables = map shown_info c.args.tables.now.items in
-    let looks = subst (λ (ts : List TableInfo). LooksTo g.S.Store old mid found (WritesIn g.S.Store (map shown_info ts) old mid (modification_of w) found)) c.as_slice-in-Update.ensures.value c.update_written-written.ensures.looks in
+    let told = subst (λ (ts : List TableInfo). WritesIn g.S.Store (map shown_info ts) old mid (modification_of w) found) c.as_slice-in-Update.ensures.value c.update_written-written.ensures.told in
     subst (λ (x : Command). Does g.S.Store (with_tables old tables) (command_of x) c.write_found-in-Update.result (with_tables c.write_found-in-Update.new.store tables)) (sym c.in-Update.is)
-    (c.write_found-in-Update.ensures.answers old tables (modification_of w) (updates.writes_table (map set_of w.sets.items) (filter_of w.filter) (string_bytes w.table)) looks)
+    (c.write_found-in-Update.ensures.answers old tables (modification_of w) (updates.writes_table (map set_of w.sets.items) (filter_of w.filter) (string_bytes w.table)) told c.update_written-written.ensures.looks)
 
 pub returns-in-Select-clause-counts : goal.returns-in-Select-clause-counts
 returns-in-Select-clause-counts g c =
@@ -62,9 +60,9 @@ returns-in-Insert-clause-refused g c =
     let mid = c.insert_written-written.new.store in
     let found = c.insert_written-written.result in
     let tables = map shown_info c.args.tables.now.items in
-    let looks = subst (λ (ts : List TableInfo). LooksTo g.S.Store old mid found (WritesIn g.S.Store (map shown_info ts) old mid (insertion_of w) found)) c.as_slice.ensures.value c.insert_written-written.ensures.looks in
+    let told = subst (λ (ts : List TableInfo). WritesIn g.S.Store (map shown_info ts) old mid (insertion_of w) found) c.as_slice.ensures.value c.insert_written-written.ensures.told in
     let blames = subst (λ (ts : List TableInfo). BlamesOver g.S.Store (map shown_info ts) old mid found) c.as_slice.ensures.value c.insert_written-written.ensures.refused in
-    subst (λ (x : Command). BlamesDone g.S.Store tables old (command_of x) c.write_found.new.store c.write_found.result) (sym c.in-Insert.is) (c.write_found.ensures.refused old tables (insertion_of w) refl looks blames)
+    subst (λ (x : Command). BlamesDone g.S.Store tables old (command_of x) c.write_found.new.store c.write_found.result) (sym c.in-Insert.is) (c.write_found.ensures.refused old tables (insertion_of w) refl told c.insert_written-written.ensures.looks blames)
 
 pub returns-in-Update-clause-refused : goal.returns-in-Update-clause-refused
 returns-in-Update-clause-refused g c =
@@ -73,6 +71,6 @@ returns-in-Update-clause-refused g c =
     let mid = c.update_written-written.new.store in
     let found = c.update_written-written.result in
     let tables = map shown_info c.args.tables.now.items in
-    let looks = subst (λ (ts : List TableInfo). LooksTo g.S.Store old mid found (WritesIn g.S.Store (map shown_info ts) old mid (modification_of w) found)) c.as_slice-in-Update.ensures.value c.update_written-written.ensures.looks in
+    let told = subst (λ (ts : List TableInfo). WritesIn g.S.Store (map shown_info ts) old mid (modification_of w) found) c.as_slice-in-Update.ensures.value c.update_written-written.ensures.told in
     let blames = subst (λ (ts : List TableInfo). BlamesOver g.S.Store (map shown_info ts) old mid found) c.as_slice-in-Update.ensures.value c.update_written-written.ensures.refused in
-    subst (λ (x : Command). BlamesDone g.S.Store tables old (command_of x) c.write_found-in-Update.new.store c.write_found-in-Update.result) (sym c.in-Update.is) (c.write_found-in-Update.ensures.refused old tables (modification_of w) refl looks blames)
+    subst (λ (x : Command). BlamesDone g.S.Store tables old (command_of x) c.write_found-in-Update.new.store c.write_found-in-Update.result) (sym c.in-Update.is) (c.write_found-in-Update.ensures.refused old tables (modification_of w) refl told c.update_written-written.ensures.looks blames)

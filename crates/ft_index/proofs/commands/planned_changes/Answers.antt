@@ -21,7 +21,7 @@ returns-in-Insert-clause-plans g c =
     let old = c.args.store.now in
     let new = c.insert_written.new.store in
     subst (λ (x : Command). PlansIn g.S.Store tables old new (command_of x) c.found_changes.result) (sym c.in-Insert.is)
-    (plans_written g.S.Store tables old new (insertion_of c.in-Insert.insertion) c.insert_written.result c.found_changes.result c.insert_written.ensures.looks.told c.found_changes.ensures)
+    (plans_written g.S.Store tables old new (insertion_of c.in-Insert.insertion) c.insert_written.result c.found_changes.result c.insert_written.ensures.told c.found_changes.ensures)
 
 pub returns-in-Update-clause-plans : goal.returns-in-Update-clause-plans
 returns-in-Update-clause-plans g c =
@@ -29,7 +29,7 @@ returns-in-Update-clause-plans g c =
     let old = c.args.store.now in
     let new = c.update_written.new.store in
     subst (λ (x : Command). PlansIn g.S.Store tables old new (command_of x) c.found_changes-in-Update.result) (sym c.in-Update.is)
-    (plans_written g.S.Store tables old new (modification_of c.in-Update.modification) c.update_written.result c.found_changes-in-Update.result c.update_written.ensures.looks.told c.found_changes-in-Update.ensures)
+    (plans_written g.S.Store tables old new (modification_of c.in-Update.modification) c.update_written.result c.found_changes-in-Update.result c.update_written.ensures.told c.found_changes-in-Update.ensures)
 
 pub returns-in-Delete-clause-plans : goal.returns-in-Delete-clause-plans
 returns-in-Delete-clause-plans g c =
@@ -37,7 +37,7 @@ returns-in-Delete-clause-plans g c =
     let old = c.args.store.now in
     let new = c.delete_written.new.store in
     subst (λ (x : Command). PlansIn g.S.Store tables old new (command_of x) c.found_changes-in-Delete.result) (sym c.in-Delete.is)
-    (plans_written g.S.Store tables old new (deletion_of c.in-Delete.deletion) c.delete_written.result c.found_changes-in-Delete.result c.delete_written.ensures.looks.told c.found_changes-in-Delete.ensures)
+    (plans_written g.S.Store tables old new (deletion_of c.in-Delete.deletion) c.delete_written.result c.found_changes-in-Delete.result c.delete_written.ensures.told c.found_changes-in-Delete.ensures)
 
 pub returns-in_err-check_table-in-Check-clause-plans : goal.returns-in_err-check_table-in-Check-clause-plans
 returns-in_err-check_table-in-Check-clause-plans g c =
@@ -51,7 +51,7 @@ returns-in_err-check_table-in-Check-clause-plans g c =
     subst (λ (x : Command). PlansIn g.S.Store tables old new (command_of x) c.from_residual.result) (sym c.in-Check.is)
     (subst (λ (n : List ℕ). PlansIn g.S.Store tables old new (plain.Check n) c.from_residual.result) c.as_str-in-Check.ensures.value
     (subst (λ (r : Result (Vec RowChange Global) Fault). PlansIn g.S.Store tables old new (plain.Check table) r) (sym is) (λ up contents held.
-    let answered = c.check_table.ensures.looks.told.steps up contents held in
+    let answered = c.check_table.ensures.told.steps up contents held in
     answered_fault contents answered.0 (plain.Check table) fault (subst (λ (r : Result Reply Fault). Answers contents (plain.Check table) (answer_of r) answered.0) failed answered.2))))
 
 pub returns-in_ok-check_table-in-Check-clause-plans : goal.returns-in_ok-check_table-in-Check-clause-plans
@@ -65,7 +65,7 @@ returns-in_ok-check_table-in-Check-clause-plans g c =
     let same : map shown_change c.new.result.items ≡ [] = ap (map shown_change) c.new.ensures.items in
     subst (λ (x : Command). PlansIn g.S.Store tables old new (command_of x) (Ok c.new.result)) (sym c.in-Check.is)
     (subst (λ (n : List ℕ). PlansIn g.S.Store tables old new (plain.Check n) (Ok c.new.result)) c.as_str-in-Check.ensures.value (λ up contents held.
-    let answered = c.check_table.ensures.looks.told.steps up contents held in
+    let answered = c.check_table.ensures.told.steps up contents held in
     subst (λ (cs : List Change). PlansFrom contents (plain.Check table) (value_in g.S.Store old) (Ok cs)) (sym same)
     (check_plans contents table (value_in g.S.Store old) tables held
     (answered_fine contents answered.0 (plain.Check table) (reply_of reply) (subst (λ (r : Result Reply Fault). Answers contents (plain.Check table) (answer_of r) answered.0) done answered.2)))))

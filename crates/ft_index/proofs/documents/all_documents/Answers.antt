@@ -1,22 +1,16 @@
 -- the documents that the rows are of
 use Rattle.std.proofs.Common.{rules, ℕ, ap, ◌∙◌, to_z-of_z}
-use Rattle.ft_store.specs.Kept.{value_in, more_rows}
+use Rattle.ft_store.specs.Kept.{value_in, more_rows, shows}
 use Rattle.ft_documents.proofs.ReadRows.{all_read}
 use Rattle.ft_index.proofs.RowCounts.{all_rows}
-use Rattle.ft_store.specs.Kept.{shows}
 use Rattle.ft_index.proofs.Blaming.{store_blamed}
 use Rattle.ft_index.proofs.documents.all_documents.Goals as goal
 
-pub returns-clause-looks : goal.returns-clause-looks
-returns-clause-looks g c = record {
-  told = λ content rows.
-      c.in_ok-gathered.ensures
-      ∙ all_read c.args.tab (value_in g.S.Store c.args.store.now) rows.name content c.in_ok-cells.field-0.items rows.is_content rows.rows
-      ((simp (to_z-of_z, c.ranges.tab) at c.in_ok-cells.ensures.rows) rows.clean);
-  only = search rules;
-  live = search rules;
-  cause = search rules;
-}
+pub returns-clause-told : goal.returns-clause-told
+returns-clause-told g c = λ content rows.
+    c.in_ok-gathered.ensures
+    ∙ all_read c.args.tab (value_in g.S.Store c.args.store.now) rows.name content c.in_ok-cells.field-0.items rows.is_content rows.rows
+    ((simp (to_z-of_z, c.ranges.tab) at c.in_ok-cells.ensures.rows) rows.clean)
 
 pub returns-clause-counted : goal.returns-clause-counted
 returns-clause-counted g c content rows =

@@ -2,27 +2,21 @@
 use Rattle.std.proofs.Common.{rules, ℕ, ℤ, true, false, cond, List, map, length, ap, sym, ◌∙◌, to_z-of_z, ◌≡◌}
 use Rattle.std.proofs.lemmas.List.{length-map}
 use Rattle.ft_values.specs.Cells.{Cell}
-use Rattle.ft_store.specs.Kept.{value_in, more_rows}
+use Rattle.ft_store.specs.Kept.{value_in, more_rows, shows}
 use Rattle.ft_store.specs.Docids.{docids_in}
 use Rattle.ft_content.specs.Answer.{cut}
 use Rattle.ft_content.proofs.AnswerLemmas.{cut_of_map}
 use Rattle.ft_index.specs.RowsRead.{are_short}
 use Rattle.ft_index.proofs.DocidReads.{docids_read, cut_is}
-use Rattle.ft_store.specs.Kept.{shows}
 use Rattle.ft_index.proofs.Blaming.{store_blamed}
 use Rattle.ft_index.proofs.documents.docids.Goals as goal
 
-pub returns-in-Some-clause-looks : goal.returns-in-Some-clause-looks
-returns-in-Some-clause-looks g c = record {
-  told = λ content rows.
-      let store = value_in g.S.Store c.args.store.now in
-      (simp (to_z-of_z, c.ranges.tab) at c.in_ok-docids.ensures.rows) rows.clean
-      ∙ cut_is c.in-Some.most c.args.limit c.in-Some.first c.args.offset (docids_in c.args.tab store.cells) c.in-Some.ensures.same.0 c.in-Some.ensures.same.1
-      ∙ ap (cut c.args.limit c.args.offset) (docids_read c.args.tab store rows.name content rows.is_content rows.rows);
-  only = search rules;
-  live = search rules;
-  cause = search rules;
-}
+pub returns-in-Some-clause-told : goal.returns-in-Some-clause-told
+returns-in-Some-clause-told g c = λ content rows.
+    let store = value_in g.S.Store c.args.store.now in
+    (simp (to_z-of_z, c.ranges.tab) at c.in_ok-docids.ensures.rows) rows.clean
+    ∙ cut_is c.in-Some.most c.args.limit c.in-Some.first c.args.offset (docids_in c.args.tab store.cells) c.in-Some.ensures.same.0 c.in-Some.ensures.same.1
+    ∙ ap (cut c.args.limit c.args.offset) (docids_read c.args.tab store rows.name content rows.is_content rows.rows)
 
 pub returns-in-Some-clause-counted : goal.returns-in-Some-clause-counted
 returns-in-Some-clause-counted g c content rows =
@@ -40,17 +34,12 @@ returns-in-Some-clause-counted g c content rows =
     c.in_ok-docids.ensures.read.counted
     ∙ ap (λ (n : ℕ). more_rows n c.args.store.now) (found.ok.0 ∙ many ∙ sym (ap (λ b. cond b (length (cut limit offset content.documents)) (length content.documents)) short))
 
-pub returns-clause-looks : goal.returns-clause-looks
-returns-clause-looks g c = record {
-  told = λ content rows.
-      let store = value_in g.S.Store c.args.store.now in
-      let same : c.in_ok-to_vec.field-0.items ≡ c.cut.result.now = search rules in
-      same ∙ c.cut.ensures
-      ∙ ap (cut c.args.limit c.args.offset) (c.as_slice.ensures.value ∙ (simp (to_z-of_z, c.ranges.tab) at c.in_ok-all.ensures.rows) rows.clean ∙ docids_read c.args.tab store rows.name content rows.is_content rows.rows);
-  only = search rules;
-  live = search rules;
-  cause = search rules;
-}
+pub returns-clause-told : goal.returns-clause-told
+returns-clause-told g c = λ content rows.
+    let store = value_in g.S.Store c.args.store.now in
+    let same : c.in_ok-to_vec.field-0.items ≡ c.cut.result.now = search rules in
+    same ∙ c.cut.ensures
+    ∙ ap (cut c.args.limit c.args.offset) (c.as_slice.ensures.value ∙ (simp (to_z-of_z, c.ranges.tab) at c.in_ok-all.ensures.rows) rows.clean ∙ docids_read c.args.tab store rows.name content rows.is_content rows.rows)
 
 pub returns-clause-counted : goal.returns-clause-counted
 returns-clause-counted g c content rows =

@@ -2,32 +2,21 @@
 use Rattle.std.proofs.Common.{rules, ◌≡◌, ◌==◌, ℕ, Some, length, vec_len, arith, sym, ap, ◌∙◌, to_z-of_z}
 use Rattle.std.proofs.lemmas.List.{length-map}
 use Rattle.ft_values.specs.Cells.{shown_value}
-use Rattle.ft_store.specs.Kept.{value_in, more_rows}
+use Rattle.ft_store.specs.Kept.{value_in, more_rows, shows}
 use Rattle.ft_documents.proofs.ReadRows.{none_read, some_read}
-use Rattle.ft_store.specs.Kept.{shows}
 use Rattle.ft_index.proofs.Blaming.{store_blamed}
 use Rattle.ft_index.proofs.documents.document.Goals as goal
 
-pub returns-then-is_empty-clause-looks : goal.returns-then-is_empty-clause-looks
-returns-then-is_empty-clause-looks g c = record {
-  told = λ content rows.
-      none_read c.args.tab c.args.docid (value_in g.S.Store c.args.store.now) rows.name content c.in_ok-rows.rows.items rows.is_content rows.rows
-      ((simp (to_z-of_z, c.ranges.tab, c.ranges.docid) at c.in_ok-rows.ensures.rows) rows.clean) (ap (λ n. n == 0) (omega (arith, c.in_ok-rows.rows.ok.0)) ∙ sym c.is_empty.ensures ∙ c.if-is_empty.true);
-  only = search rules;
-  live = search rules;
-  cause = search rules;
-}
+pub returns-then-is_empty-clause-told : goal.returns-then-is_empty-clause-told
+returns-then-is_empty-clause-told g c = λ content rows.
+    none_read c.args.tab c.args.docid (value_in g.S.Store c.args.store.now) rows.name content c.in_ok-rows.rows.items rows.is_content rows.rows
+    ((simp (to_z-of_z, c.ranges.tab, c.ranges.docid) at c.in_ok-rows.ensures.rows) rows.clean) (ap (λ n. n == 0) (omega (arith, c.in_ok-rows.rows.ok.0)) ∙ sym c.is_empty.ensures ∙ c.if-is_empty.true)
 
-pub returns-clause-looks : goal.returns-clause-looks
-returns-clause-looks g c = record {
-  told = λ content rows.
-      ap Some c.in_ok-values_of.ensures
-      ∙ some_read c.args.tab c.args.docid (value_in g.S.Store c.args.store.now) rows.name content c.in_ok-rows.rows.items rows.is_content rows.rows
-      ((simp (to_z-of_z, c.ranges.tab, c.ranges.docid) at c.in_ok-rows.ensures.rows) rows.clean) (ap (λ n. n == 0) (omega (arith, c.in_ok-rows.rows.ok.0)) ∙ sym c.is_empty.ensures ∙ c.if-is_empty.false);
-  only = search rules;
-  live = search rules;
-  cause = search rules;
-}
+pub returns-clause-told : goal.returns-clause-told
+returns-clause-told g c = λ content rows.
+    ap Some c.in_ok-values_of.ensures
+    ∙ some_read c.args.tab c.args.docid (value_in g.S.Store c.args.store.now) rows.name content c.in_ok-rows.rows.items rows.is_content rows.rows
+    ((simp (to_z-of_z, c.ranges.tab, c.ranges.docid) at c.in_ok-rows.ensures.rows) rows.clean) (ap (λ n. n == 0) (omega (arith, c.in_ok-rows.rows.ok.0)) ∙ sym c.is_empty.ensures ∙ c.if-is_empty.false)
 
 pub returns-clause-counted : goal.returns-clause-counted
 returns-clause-counted g c =

@@ -13,19 +13,14 @@ use Rattle.ft_index.specs.Walked.{IsIndexed}
 use Rattle.ft_index.proofs.WalkedLemmas.{indexed_at, rows_at}
 use Rattle.ft_index.proofs.matching.matched.Goals as goal
 
-pub returns-in_ok-taken-in-Ok-clause-looks : goal.returns-in_ok-taken-in-Ok-clause-looks
-returns-in_ok-taken-in-Ok-clause-looks g c = record {
-  told = λ content name text read indexed.
-      let tree = tree_of c.in-Some.query.now in
-      let tab : c.new-lists.result.tab ≡ c.args.tab = search rules in
-      let at : IsIndexed g.S.Store c.new-lists.result.tab c.new-lists.result.store.now c.opened.new.lists.store.now content = indexed_at _ _ _ indexed tab c.new-lists.ensures.same_store (search rules) in
-      c.in_ok-taken-in-Ok.ensures (content_documents content) (c.in-Ok.ensures.stands content at)
-      ∙ ap (λ q. cut c.args.most 0 (map (as_wanted c.args.wants_offsets) (hits_of (tree_of q) (content_documents content)))) c.in-Ok.ensures.query
-      ∙ ap (λ hs. cut c.args.most 0 (map (as_wanted c.args.wants_offsets) hs)) (hits_chosen indexed.name content name text tree indexed.is_content (read ∙ ap (λ q. Ok (option_map (λ q. tree_of q.now) q)) c.in-Some.is));
-  only = search rules;
-  live = search rules;
-  cause = search rules;
-}
+pub returns-in_ok-taken-in-Ok-clause-told : goal.returns-in_ok-taken-in-Ok-clause-told
+returns-in_ok-taken-in-Ok-clause-told g c = λ content name text read indexed.
+    let tree = tree_of c.in-Some.query.now in
+    let tab : c.new-lists.result.tab ≡ c.args.tab = search rules in
+    let at : IsIndexed g.S.Store c.new-lists.result.tab c.new-lists.result.store.now c.opened.new.lists.store.now content = indexed_at _ _ _ indexed tab c.new-lists.ensures.same_store (search rules) in
+    c.in_ok-taken-in-Ok.ensures (content_documents content) (c.in-Ok.ensures.stands content at)
+    ∙ ap (λ q. cut c.args.most 0 (map (as_wanted c.args.wants_offsets) (hits_of (tree_of q) (content_documents content)))) c.in-Ok.ensures.query
+    ∙ ap (λ hs. cut c.args.most 0 (map (as_wanted c.args.wants_offsets) hs)) (hits_chosen indexed.name content name text tree indexed.is_content (read ∙ ap (λ q. Ok (option_map (λ q. tree_of q.now) q)) c.in-Some.is))
 
 pub returns-in_ok-taken-in-Ok-clause-counted : goal.returns-in_ok-taken-in-Ok-clause-counted
 returns-in_ok-taken-in-Ok-clause-counted g c content name text read indexed =
@@ -37,13 +32,8 @@ returns-in_ok-taken-in-Ok-clause-counted g c content name text read indexed =
     ∙ ap (λ n. min (n + entry_count (tree_of c.in-Some.query.now) (content_documents content)) (2 ^ 64 - 1)) rows)
     ∙ ap (λ q. min (c.args.store.now.rows_read + entries_asked content (query_read q)) (2 ^ 64 - 1)) (sym (read ∙ ap (λ q. Ok (option_map (λ q. tree_of q.now) q)) c.in-Some.is))
 
-pub returns-in_default-clause-looks : goal.returns-in_default-clause-looks
-returns-in_default-clause-looks g c = record {
-  told = λ content name text read indexed.
-      let none : c.args.query ≡ None = search rules in
-      ap (map plain_hit) c.new.ensures.items
-      ∙ sym (ap (λ hs. cut c.args.most 0 (map (as_wanted c.args.wants_offsets) hs)) (none_chosen content name text (read ∙ ap (λ q. Ok (option_map (λ q. tree_of q.now) q)) none)) ∙ cut_none c.args.most);
-  only = search rules;
-  live = search rules;
-  cause = search rules;
-}
+pub returns-in_default-clause-told : goal.returns-in_default-clause-told
+returns-in_default-clause-told g c = λ content name text read indexed.
+    let none : c.args.query ≡ None = search rules in
+    ap (map plain_hit) c.new.ensures.items
+    ∙ sym (ap (λ hs. cut c.args.most 0 (map (as_wanted c.args.wants_offsets) hs)) (none_chosen content name text (read ∙ ap (λ q. Ok (option_map (λ q. tree_of q.now) q)) none)) ∙ cut_none c.args.most)

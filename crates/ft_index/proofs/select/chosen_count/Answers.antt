@@ -11,18 +11,13 @@ use Rattle.ft_index.specs.DocumentsRead.{HasRows}
 use Rattle.ft_index.specs.RowsRead.{count_asked}
 use Rattle.ft_index.proofs.select.chosen_count.Goals as goal
 
-pub returns-in_ok-docids-in-All-clause-looks : goal.returns-in_ok-docids-in-All-clause-looks
-returns-in_ok-docids-in-All-clause-looks g c = record {
-  told = λ content held reads.
-      let here = subst (λ (k : ℤ). HasRows g.S.Store k c.args.store.now c.docids.new.store content) (sym (to_z-of_z c.ranges.tab)) held.rows in
-      let count : to_z w64 c.len-in-All.result ≡ pos (length c.in_ok-docids-in-All.field-0.items) = search rules in
-      count
-      ∙ ap pos (ap length (c.in_ok-docids-in-All.ensures.looks.told content here) ∙ length-map content.documents (λ (d : ℤ × List Cell). d.0)
-      ∙ ap length (sym (ap (λ (f : Filter). chosen content (filter_of f)) c.in-All.is ∙ chosen_all content)));
-  only = search rules;
-  live = search rules;
-  cause = search rules;
-}
+pub returns-in_ok-docids-in-All-clause-told : goal.returns-in_ok-docids-in-All-clause-told
+returns-in_ok-docids-in-All-clause-told g c = λ content held reads.
+    let here = subst (λ (k : ℤ). HasRows g.S.Store k c.args.store.now c.docids.new.store content) (sym (to_z-of_z c.ranges.tab)) held.rows in
+    let count : to_z w64 c.len-in-All.result ≡ pos (length c.in_ok-docids-in-All.field-0.items) = search rules in
+    count
+    ∙ ap pos (ap length (c.in_ok-docids-in-All.ensures.told content here) ∙ length-map content.documents (λ (d : ℤ × List Cell). d.0)
+    ∙ ap length (sym (ap (λ (f : Filter). chosen content (filter_of f)) c.in-All.is ∙ chosen_all content)))
 
 pub returns-in_ok-docids-in-All-clause-counted : goal.returns-in_ok-docids-in-All-clause-counted
 returns-in_ok-docids-in-All-clause-counted g c content held reads =

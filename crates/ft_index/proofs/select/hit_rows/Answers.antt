@@ -1,6 +1,6 @@
 -- a row more, with the cells that were read
 use Rattle.std.proofs.Common.{◌≡◌, ◌+◌, ◌-◌, ◌*◌, ◌^◌, ℕ, ℤ, List, [], ◌∷◌, ◌++◌, Vec, Global, arith, min, cond, true, false, Some, map, length, take, sym, ap, subst, ◌∙◌, to_z, of_z, w64, to_z-of_z, FitsSigned, rules}
-use Rattle.std.specs.Prelude.{unwrap_or, IsTrue}
+use Rattle.std.specs.Prelude.{unwrap_or, IsTrue, IsSome}
 use Rattle.std.specs.List.{list_any, flat_map}
 use Rattle.std.specs.Ordering.{int_cmp}
 use Rattle.std.specs.FinMap.Entries.{find}
@@ -20,7 +20,6 @@ use Rattle.ft_index.specs.RowsRead.{reads_document}
 use Rattle.ft_index.specs.Selected.{hit_cells}
 use Rattle.ft_index.proofs.LookLemmas.{looks_then, rows_first, rows_then}
 use Rattle.ft_index.proofs.SelectRows.{row_unread, found_wide, counted_more}
-use Rattle.std.specs.Prelude.{IsSome}
 use Rattle.ft_index.proofs.Blaming.{then_blamed, has_at, there_of}
 use Rattle.ft_index.proofs.select.hit_rows.Goals as goal
 use Rattle.ft_index.proofs.select.hit_rows.Goals.{then-reads+in_ok-cells, else-reads}
@@ -65,12 +64,12 @@ loop-hit-preserved g c =
             live = subst (λ (s : StoreState g.row.S.Denot). HasCleanDisk (shows g.S.Store s) → IsTrue (shows g.S.Store first).is_open → IsTrue (shows g.S.Store s).is_open) (sym w.store-is) (λ clean _. read.looks.live clean);
             found = λ content held.
                 let rows = subst (λ (s : StoreState g.row.S.Denot). HasRows g.S.Store tab first s content) w.store-is held in
-                let found = read.looks.told content (rows_then g.S.Store first middle last so_far.looks read.looks.only tab content rows) in
+                let found = read.told content (rows_then g.S.Store first middle last so_far.looks read.looks.only tab content rows) in
                 let here : cells ≡ cells_at content hit.docid = ap (λ (v : Vec Value Global). cells_of v) w.cells-is ∙ read_cells content hit.docid (cells_of w.in_ok-cells.cells) (ap (λ (d : ℤ). find int_cmp d content.documents) (sym back) ∙ found) in
                 added content (so_far.found content (rows_first g.S.Store first middle last so_far.looks read.looks.only tab content rows)) (ap (λ (cs : List Cell). hit_cells columns items (λ k. cs) hit) here);
             counted = λ content held.
                 let rows = subst (λ (s : StoreState g.row.S.Denot). HasRows g.S.Store tab first s content) w.store-is held in
-                let found = read.looks.told content (rows_then g.S.Store first middle last so_far.looks read.looks.only tab content rows) in
+                let found = read.told content (rows_then g.S.Store first middle last so_far.looks read.looks.only tab content rows) in
                 let width = length content.columns in
                 let wide = found_wide rows.name content (to_z w64 (of_z w64 hit.docid)) (cells_of w.in_ok-cells.cells) rows.is_content found in
                 let many : w.in_ok-cells.cells.len ≡ cond (list_any reads_document items) width 0 =
@@ -94,20 +93,14 @@ loop-hit-preserved g c =
           }
     ]
 
-pub returns-clause-looks : goal.returns-clause-looks
-returns-clause-looks g c = record {
-  told = λ content rows.
-      let row : Hit → List Cell = hit_cells (map column_of c.args.columns.now) (map item_of c.args.items.now) (cells_at content) in
-      c.loop-hit.invariant.found content (subst (λ (k : ℤ). HasRows g.S.Store k c.args.store.now c.loop-hit.store content) (sym (to_z-of_z c.ranges.tab)) rows)
-      ∙ ap (map row) (take_all c.loop-hit.hit-index c.args.hits.now c.loop-hit-test.false);
-  only = search rules;
-  live = search rules;
-  cause = search rules;
-}
+pub returns-clause-told : goal.returns-clause-told
+returns-clause-told g c = λ content rows.
+    let row : Hit → List Cell = hit_cells (map column_of c.args.columns.now) (map item_of c.args.items.now) (cells_at content) in
+    c.loop-hit.invariant.found content (subst (λ (k : ℤ). HasRows g.S.Store k c.args.store.now c.loop-hit.store content) (sym (to_z-of_z c.ranges.tab)) rows)
+    ∙ ap (map row) (take_all c.loop-hit.hit-index c.args.hits.now c.loop-hit-test.false)
 
 pub returns-in_err-push-clause-looks : goal.returns-in_err-push-clause-looks
 returns-in_err-push-clause-looks g c = record {
-  told = search rules;
   only = elim c.if-reads.branch [
     | then-reads+in_ok-cells w ↦ subst (Looks g.S.Store c.args.store.now) (sym w.store-is) (looks_then g.S.Store c.args.store.now c.loop-hit.store w.found_cells.new.store c.loop-hit.invariant.looks w.in_ok-cells.ensures.looks.only c.loop-hit.invariant.live)
     | else-reads w ↦ subst (Looks g.S.Store c.args.store.now) (sym w.store-is) c.loop-hit.invariant.looks

@@ -8,7 +8,7 @@ use Rattle.ft_content.specs.Views.{shown_info, items_of, filter_of, selection_of
 use Rattle.ft_documents.specs.Found.{IsUnfit, IsSoundNamed}
 use Rattle.ft_index.specs.Kept.{PlansFrom}
 use Rattle.ft_index.specs.Planned.{changes_of}
-use Rattle.ft_index.proofs.PlanAnswers.{select_unplanned, select_fails, select_plans}
+use Rattle.ft_index.proofs.SelectAnswers.{select_unplanned, select_fails, select_plans}
 use Rattle.ft_index.proofs.select.select_changes.Goals as goal
 
 pub returns-in_err-info-clause-plans : goal.returns-in_err-info-clause-plans

@@ -1,5 +1,5 @@
 -- by the table that is found, its query, and what was read
-use Rattle.std.proofs.Common.{◌≡◌, ℕ, ℤ, List, Option, Some, None, Result, Err, map, option_map, Bor, string_bytes, sym, ap, subst, ◌∙◌, to_z, of_z, w64, to_z-of_z, FitsSigned, rules}
+use Rattle.std.proofs.Common.{◌≡◌, ℕ, ℤ, List, Option, Some, None, Result, Err, map, option_map, Bor, string_bytes, sym, ap, subst, ◌∙◌, to_z, of_z, w64, to_z-of_z, FitsSigned, rules, refl}
 use Rattle.std.specs.Option.{option_copied}
 use Rattle.ft_query.specs.Trees.{Tree, tree_of}
 use Rattle.ft_values.specs.declared.fault.Fault.{Fault}
@@ -7,19 +7,20 @@ use Rattle.ft_content.specs.declared.command.Reply.{Reply}
 use Rattle.ft_values.specs.declared.table.TableInfo.{TableInfo as RustTableInfo}
 use Rattle.ft_values.specs.declared.table.Column.{Column}
 use Rattle.ft_content.specs.Answer.{answer_names, answer}
+use Rattle.ft_content.specs.Content.{Content}
 use Rattle.ft_content.specs.Views.{bare_content, shown_info, column_of, items_of, filter_of, selection_of, names_in, grid_of, answer_of}
 use Rattle.ft_documents.specs.Found.{IsUnfit, IsSoundNamed}
 use Rattle.ft_index.specs.Changed.{with_tables}
 use Rattle.ft_index.specs.Kept.{Executes}
 use Rattle.ft_index.specs.Selected.{IsAsked}
+use Rattle.ft_index.proofs.Acting.{executes_read, fault_answers}
 use Rattle.ft_index.proofs.LookLemmas.{no_look}
-use Rattle.ft_index.proofs.SelectAnswers.{names_bare, select_unfit, select_undone, select_done, select_counts}
-use Rattle.std.proofs.Common.{refl}
+use Rattle.ft_index.proofs.SelectAnswers.{names_bare, reads_bare, select_unplanned, select_fails, select_done, select_counts}
 use Rattle.ft_store.specs.Kept.{value_in}
 use Rattle.ft_documents.specs.Chosen.{ReadsFilterAs}
-use Rattle.ft_documents.proofs.BareLemmas.{reads_bare}
 use Rattle.ft_index.proofs.Blaming.{over_sound, has_at}
 use Rattle.ft_index.proofs.select.select_from.Goals as goal
+use Rattle.ft_index.proofs.select.select_from.Goals.{After-selected_rows}
 
 pub returns-in_err-info-clause-executes : goal.returns-in_err-info-clause-executes
 returns-in_err-info-clause-executes g c =
@@ -29,7 +30,8 @@ returns-in_err-info-clause-executes g c =
     let select = c.args.select.now in
     let unfit : IsUnfit tables (string_bytes select.table) fault = subst (λ (n : List ℕ). IsUnfit tables n fault) c.as_str.ensures.value c.in_err-info.ensures in
     subst (λ (a : Result Reply Fault). Executes g.S.Store (with_tables c.args.store.now tables) (selection_of select) (answer_of a) (with_tables c.args.store.now tables)) (sym is)
-    (select_unfit g.S.Store c.args.store.now c.args.store.now tables (string_bytes select.table) (items_of select.items) (filter_of select.filter) select.limit select.offset (no_look g.S.Store c.args.store.now) fault unfit)
+    (executes_read g.S.Store c.args.store.now c.args.store.now tables (selection_of select) (Err fault) (no_look g.S.Store c.args.store.now) (λ up first held.
+    fault_answers first (selection_of select) fault (select_unplanned first (string_bytes select.table) (items_of select.items) (filter_of select.filter) select.limit select.offset (value_in g.S.Store c.args.store.now) tables held fault unfit)))
 
 pub returns-in_err-query-clause-executes : goal.returns-in_err-query-clause-executes
 returns-in_err-query-clause-executes g c =
@@ -40,13 +42,29 @@ returns-in_err-query-clause-executes g c =
     let info : RustTableInfo = c.in_ok-info.info.now in
     let named : IsSoundNamed tables (string_bytes select.table) (shown_info info) = subst (λ (n : List ℕ). IsSoundNamed tables n (shown_info info)) c.as_str.ensures.value c.in_ok-info.ensures in
     subst (λ (a : Result Reply Fault). Executes g.S.Store (with_tables c.args.store.now tables) (selection_of select) (answer_of a) (with_tables c.args.store.now tables)) (sym is)
-    (select_undone g.S.Store c.args.store.now c.args.store.now tables (string_bytes select.table) (items_of select.items) (filter_of select.filter) select.limit select.offset (no_look g.S.Store c.args.store.now)
-    (shown_info info) named.0 named.1 fault c.in_err-query.ensures.fault)
+    (executes_read g.S.Store c.args.store.now c.args.store.now tables (selection_of select) (Err fault) (no_look g.S.Store c.args.store.now) (λ up first held.
+    fault_answers first (selection_of select) fault (select_fails first (string_bytes select.table) (items_of select.items) (filter_of select.filter) select.limit select.offset (value_in g.S.Store c.args.store.now) tables held (shown_info info) named fault c.in_err-query.ensures.fault)))
 
 -- the query as it was passed
 passed : {A : Type 0} (f : A → Tree) (o : Option (Bor A)) (q : Option A) → option_copied o ≡ q → option_map (λ (r : Bor A). f r.now) o ≡ option_map f q
 passed f None q is = ap (option_map f) is
 passed f (Some r) q is = ap (option_map f) is
+
+-- what is asked for as it was passed
+asked_in : (g : _) (c : After-selected_rows g) (content : Content) → IsAsked g.S.Store c.in_ok-info.info.now.id (map column_of c.in_ok-info.info.now.columns.items) (items_of c.args.select.now.items) (filter_of c.args.select.now.filter) (option_map tree_of c.in_ok-query.query) c.args.store.now c.selected_rows.new.store content →
+    IsAsked g.S.Store (to_z w64 (of_z w64 c.in_ok-info.info.now.id)) (map column_of c.as_slice-columns.result.now) (items_of c.args.select.now.items) (filter_of c.args.select.now.filter) (option_map (λ q. tree_of q.now) c.as_ref.result) c.args.store.now c.selected_rows.new.store content
+asked_in g c content asked =
+    let items = items_of c.args.select.now.items in
+    let f = filter_of c.args.select.now.filter in
+    let info : RustTableInfo = c.in_ok-info.info.now in
+    let columns = map column_of info.columns.items in
+    let query : Option Tree = option_map {T = Bor _} (λ q. tree_of q.now) c.as_ref.result in
+    let first = c.args.store.now in
+    let last = c.selected_rows.new.store in
+    let fits : FitsSigned w64 info.id = search rules in
+    subst (λ (cs : List Column). IsAsked g.S.Store (to_z w64 (of_z w64 info.id)) (map column_of cs) items f query first last content) (sym c.as_slice-columns.ensures.value)
+    (subst (λ (k : ℤ). IsAsked g.S.Store k columns items f query first last content) (sym (to_z-of_z fits))
+    (subst (λ (q : Option Tree). IsAsked g.S.Store info.id columns items f q first last content) (sym (passed tree_of c.as_ref.result c.in_ok-query.query c.as_ref.ensures.value)) asked))
 
 pub returns-clause-executes : goal.returns-clause-executes
 unfolding answer
@@ -54,22 +72,12 @@ returns-clause-executes g c =
     let tables = map shown_info c.args.tables.now in
     let select = c.args.select.now in
     let items = items_of select.items in
-    let f = filter_of select.filter in
     let info : RustTableInfo = c.in_ok-info.info.now in
     let columns = map column_of info.columns.items in
     let named : IsSoundNamed tables (string_bytes select.table) (shown_info info) = subst (λ (n : List ℕ). IsSoundNamed tables n (shown_info info)) c.as_str.ensures.value c.in_ok-info.ensures in
-    let query : Option Tree = option_map tree_of c.in_ok-query.query in
-    let query_is : option_map {T = Bor _} (λ q. tree_of q.now) c.as_ref.result ≡ query = passed tree_of c.as_ref.result c.in_ok-query.query c.as_ref.ensures.value in
-    let passed_on : Option Tree = option_map {T = Bor _} (λ q. tree_of q.now) c.as_ref.result in
-    let first = c.args.store.now in
-    let last = c.selected_rows.new.store in
-    let fits : FitsSigned w64 info.id = search rules in
-    select_done g.S.Store first last tables (string_bytes select.table) items f select.limit select.offset c.in_ok-rows.ensures.looks.only
-    (shown_info info) named.0 named.1 c.is_in_order.ensures.order query (grid_of (record { names = c.in_ok-names.names; rows = c.in_ok-rows.rows })) c.in_ok-query.ensures.fine c.in_ok-query.ensures.query (λ content asked.
-    let rows = c.in_ok-rows.ensures.looks.told content
-    (subst (λ (cs : List Column). IsAsked g.S.Store (to_z w64 (of_z w64 info.id)) (map column_of cs) items f passed_on first last content) (sym c.as_slice-columns.ensures.value)
-    (subst (λ (k : ℤ). IsAsked g.S.Store k columns items f passed_on first last content) (sym (to_z-of_z fits))
-    (subst (λ (q : Option Tree). IsAsked g.S.Store info.id columns items f q first last content) (sym query_is) asked))) in
+    select_done g.S.Store c.args.store.now c.selected_rows.new.store tables (string_bytes select.table) items (filter_of select.filter) select.limit select.offset c.in_ok-rows.ensures.looks.only
+    (shown_info info) named c.is_in_order.ensures.order (option_map tree_of c.in_ok-query.query) (grid_of (record { names = c.in_ok-names.names; rows = c.in_ok-rows.rows })) c.in_ok-query.ensures.fine c.in_ok-query.ensures.query (λ content asked.
+    let rows = c.in_ok-rows.ensures.told content (asked_in g (goal.at.returns-clause-executes g c).After-selected_rows content asked) in
     let names : names_in c.in_ok-names.names ≡ answer_names (string_bytes info.name) content items =
     c.in_ok-names.ensures ∙ (λ i. answer_names (c.as_str-2.ensures.value i) (bare_content (c.as_slice-columns.ensures.value i)) items) ∙ names_bare (string_bytes info.name) columns content items asked.columns in
     λ i. record { names = names i; rows = rows i })
@@ -78,23 +86,11 @@ pub returns-clause-counts : goal.returns-clause-counts
 returns-clause-counts g c =
     let tables = map shown_info c.args.tables.now in
     let select = c.args.select.now in
-    let items = items_of select.items in
-    let f = filter_of select.filter in
     let info : RustTableInfo = c.in_ok-info.info.now in
-    let columns = map column_of info.columns.items in
     let named : IsSoundNamed tables (string_bytes select.table) (shown_info info) = subst (λ (n : List ℕ). IsSoundNamed tables n (shown_info info)) c.as_str.ensures.value c.in_ok-info.ensures in
-    let query : Option Tree = option_map tree_of c.in_ok-query.query in
-    let query_is : option_map {T = Bor _} (λ q. tree_of q.now) c.as_ref.result ≡ query = passed tree_of c.as_ref.result c.in_ok-query.query c.as_ref.ensures.value in
-    let passed_on : Option Tree = option_map {T = Bor _} (λ q. tree_of q.now) c.as_ref.result in
-    let first = c.args.store.now in
-    let last = c.selected_rows.new.store in
-    let fits : FitsSigned w64 info.id = search rules in
-    select_counts g.S.Store first last tables (string_bytes select.table) items f select.limit select.offset c.in_ok-rows.ensures.looks.only
-    (shown_info info) named.0 named.1 c.is_in_order.ensures.order query (grid_of (record { names = c.in_ok-names.names; rows = c.in_ok-rows.rows })) c.in_ok-query.ensures.fine c.in_ok-query.ensures.query (λ content asked.
-    c.in_ok-rows.ensures.counted content
-    (subst (λ (cs : List Column). IsAsked g.S.Store (to_z w64 (of_z w64 info.id)) (map column_of cs) items f passed_on first last content) (sym c.as_slice-columns.ensures.value)
-    (subst (λ (k : ℤ). IsAsked g.S.Store k columns items f passed_on first last content) (sym (to_z-of_z fits))
-    (subst (λ (q : Option Tree). IsAsked g.S.Store info.id columns items f q first last content) (sym query_is) asked))))
+    select_counts g.S.Store c.args.store.now c.selected_rows.new.store tables (string_bytes select.table) (items_of select.items) (filter_of select.filter) select.limit select.offset c.in_ok-rows.ensures.looks.only
+    (shown_info info) named c.is_in_order.ensures.order (option_map tree_of c.in_ok-query.query) (grid_of (record { names = c.in_ok-names.names; rows = c.in_ok-rows.rows })) c.in_ok-query.ensures.fine c.in_ok-query.ensures.query
+    (λ content asked. c.in_ok-rows.ensures.counted content (asked_in g (goal.at.returns-clause-counts g c).After-selected_rows content asked))
 
 pub returns-in_err-rows-clause-refused : goal.returns-in_err-rows-clause-refused
 returns-in_err-rows-clause-refused g c = λ contents held clean told.
@@ -104,6 +100,6 @@ returns-in_err-rows-clause-refused g c = λ contents held clean told.
     let over = over_sound (value_in g.S.Store c.args.store.now) (map shown_info c.args.tables.now) contents c.as_str.result.now (shown_info info) c.is_in_order.ensures.order held c.in_ok-info.ensures in
     let query : Option Tree = option_map tree_of c.in_ok-query.query in
     let query_is : option_map {T = Bor _} (λ q. tree_of q.now) c.as_ref.result ≡ query = passed tree_of c.as_ref.result c.in_ok-query.query c.as_ref.ensures.value in
-    let reads = reads_bare over.content info.columns.items over.columns_are f query c.in_ok-query.ensures.query in
+    let reads = reads_bare (map column_of info.columns.items) over.content f query over.columns_are c.in_ok-query.ensures.query in
     let fits : FitsSigned w64 info.id = search rules in
     c.selected_rows.ensures.refused (string_bytes info.name) over.content (has_at refl (sym (to_z-of_z fits)) over.has) (subst (ReadsFilterAs over.content f) (sym query_is) reads) clean (search rules)

@@ -1,47 +1,49 @@
 -- a count, the hits of a MATCH, the documents by their docids, or those that are read
 use Rattle.ft_query.specs.Trees.{tree_of}
-use Rattle.std.proofs.Common.{option_map, Bor, rules, ◌≡◌, ◌+◌, ◌-◌, ◌*◌, ◌^◌, ◌||◌, not, min, cond, ℕ, ℤ, List, [], false, true, Option, map, length, string_bytes, refl, sym, ap, subst, ◌∙◌, to_z, of_z, w64, to_z-of_z}
+use Rattle.std.proofs.Common.{option_map, Bor, rules, ◌≡◌, ◌+◌, ◌-◌, ◌*◌, ◌^◌, ◌||◌, ◌&&◌, not, min, cond, ℕ, ℤ, List, [], false, true, map, length, string_bytes, sym, ap, subst, ◌∙◌, to_z, of_z, w64, to_z-of_z}
 use Rattle.std.specs.Prelude.{is_some}
 use Rattle.std.specs.List.{list_any}
 use Rattle.std.proofs.lemmas.List.{length-map}
 use Rattle.std.proofs.lemmas.Result.{IfOk-weaker}
-use Rattle.sqlite.specs.Store.{Ghosts}
 use Rattle.ft_query.specs.declared.walk.Hit.{Hit}
 use Rattle.ft_query.specs.Occurs.{PlainHit, plain_hit}
-use Rattle.ft_query.specs.Trees.{Tree}
-use Rattle.ft_store.specs.Kept.{StoreState}
 use Rattle.ft_values.specs.Cells.{Cell}
 use Rattle.ft_content.specs.declared.command.Item.{Item}
 use Rattle.ft_content.specs.declared.command.Items.{Items}
-use Rattle.ft_content.specs.Content.{Column, Content}
-use Rattle.ft_content.specs.Command as plain
+use Rattle.ft_content.specs.Content.{Content}
 use Rattle.ft_content.specs.Command.{All, Match, Listed}
 use Rattle.ft_content.specs.Answer.{cut, answer_rows}
-use Rattle.ft_content.specs.Deserved.{is_match}
+use Rattle.ft_content.specs.Deserved.{is_match, is_offsets, items_in}
 use Rattle.ft_content.specs.Views.{items_of, filter_of, column_of, item_of}
 use Rattle.ft_documents.specs.declared.documents.Document.{Document}
-use Rattle.ft_documents.specs.Chosen.{document_at}
+use Rattle.ft_documents.specs.Chosen.{document_at, ReadsFilterAs}
 use Rattle.ft_documents.specs.Matched.{chosen_hits, as_wanted}
-use Rattle.ft_index.specs.DocumentsRead.{HasRows, Looks}
+use Rattle.ft_index.specs.DocumentsRead.{HasRows}
 use Rattle.ft_index.specs.RowsRead.{reads_document, rows_asked}
-use Rattle.ft_index.specs.Selected.{IsAsked, IsOf}
+use Rattle.ft_index.specs.Selected.{IsOf}
 use Rattle.ft_index.specs.Walked.{IsIndexed}
-use Rattle.ft_index.proofs.LookLemmas.{rows_first, rows_then, index_first}
+use Rattle.ft_index.proofs.LookLemmas.{held_first, held_then}
 use Rattle.ft_index.proofs.ReadsLemmas.{on_ok_from}
 use Rattle.ft_index.proofs.SelectRows.{hit_rows, hits_answered, as_many, counted_both, asked_items, bare_hit_rows, listed_rows_are, documents_again, document_rows_are, no_offsets}
 use Rattle.ft_content.proofs.AnswerLemmas.{cut_of_map}
 use Rattle.ft_index.proofs.RowCounts.{asked_count, asked_all, asked_whole}
 use Rattle.ft_index.specs.Refused.{AreThere}
-use Rattle.ft_documents.specs.Chosen.{ReadsFilterAs}
 use Rattle.ft_content.specs.declared.command.Filter.{Filter}
 use Rattle.ft_index.proofs.Blaming.{then_blamed, has_at, rows_in, index_in, hits_there, docids_there, bare_docids}
 use Rattle.ft_index.proofs.select.selected_rows.Goals as goal
+use Rattle.ft_index.proofs.select.selected_rows.Goals.{After-hit_rows}
 
--- what is asked, as its items and its filter are written
-asked_as : {S : Type 0} (g : Ghosts S) (tab : ℤ) (columns : List Column) (items others : plain.Items) (f other : plain.Filter) (query : Option Tree) (old new : StoreState S) (content : Content) → items ≡ others → f ≡ other →
-    IsAsked g tab columns items f query old new content → IsAsked g tab columns others other query old new content
-asked_as g tab columns items others f other query old new content same is asked =
-    subst (λ fs. IsAsked g tab columns others fs query old new content) is (subst (λ is. IsAsked g tab columns is f query old new content) same asked)
+-- the hits of a MATCH that are answered
+answered_in : (g : _) (c : After-hit_rows g) (content : Content) → IsIndexed g.S.Store (to_z w64 (of_z w64 c.args.tab)) c.args.store.now c.matched.new.store content → ReadsFilterAs content (filter_of c.args.select.now.filter) (option_map (λ q. tree_of q.now) c.args.query) →
+    map plain_hit c.cut-answered.result.now ≡ cut c.args.select.now.limit c.args.select.now.offset (map (as_wanted c.any_offsets.result) (chosen_hits content (Match (string_bytes c.in-Match.name) (string_bytes c.in-Match.query))))
+answered_in g c content indexed reads =
+    let select = c.args.select.now in
+    let name = string_bytes c.in-Match.name in
+    let text = string_bytes c.in-Match.query in
+    let all = map (as_wanted c.any_offsets.result) (chosen_hits content (Match name text)) in
+    let as_read = subst (λ (x : Filter). ReadsFilterAs content (filter_of x) (option_map {T = Bor _} (λ q. tree_of q.now) c.args.query)) c.in-Match.is reads in
+    hits_answered select.limit c.most_hits-most.result select.offset c.in_ok-hits-in-Match.hits.items c.cut-answered.result.now all
+    (c.cut-answered.ensures ∙ ap (λ (hs : List Hit). cut select.limit select.offset hs) c.as_slice.ensures.value) (c.in_ok-hits-in-Match.ensures.told content name text as_read indexed) (c.most_hits-most.ensures.enough all)
 
 pub returns-in_default-clause-counted : goal.returns-in_default-clause-counted
 returns-in_default-clause-counted g c content asked =
@@ -52,136 +54,77 @@ returns-in_default-clause-counted g c content asked =
     ∙ ap (λ (n : ℕ). min (c.args.store.now.rows_read + n) (2 ^ 64 - 1))
     (asked_count content f select.limit select.offset ∙ ap (λ (x : Items). rows_asked content (items_of x) f select.limit select.offset) (sym c.in_default.is))
 
-pub returns-in_ok-hits-in-Match-clause-looks : goal.returns-in_ok-hits-in-Match-clause-looks
-returns-in_ok-hits-in-Match-clause-looks g c = record {
-  told = IfOk-weaker c.hit_rows.result _ _ (λ rows read content as_asked.
-      let first = c.args.store.now in
-      let middle = c.matched.new.store in
-      let last = c.hit_rows.new.store in
-      let one : Looks g.S.Store first middle = c.matched.ensures.looks.only in
-      let two = c.hit_rows.ensures.looks.only in
-      let t = sym (to_z-of_z c.ranges.tab) in
-      let tab : ℤ = to_z w64 (of_z w64 c.args.tab) in
-      let select = c.args.select.now in
-      let items = map item_of c.as_slice-items.result.now in
-      let columns = map column_of c.args.columns.now in
-      let f = Match (string_bytes c.in-Match.name) (string_bytes c.in-Match.query) in
-      let items_are : items_of select.items ≡ Listed items = ap items_of c.in-List.is ∙ ap (λ (l : List Item). Listed (map item_of l)) (sym c.as_slice-items.ensures.value) in
-      let f_is : filter_of select.filter ≡ f = ap filter_of c.in-Match.is in
-      let asked = asked_as g.S.Store c.args.tab columns _ _ _ _ _ first last content items_are f_is as_asked in
-      let here = subst (λ (k : ℤ). HasRows g.S.Store k first last content) t asked.held.rows in
-      let at = subst (λ (k : ℤ). IsIndexed g.S.Store k first last content) t asked.held.index in
-      let before = index_first g.S.Store first middle last one two tab content at in
-      let all = map (as_wanted c.any_offsets.result) (chosen_hits content f) in
-      let hits = c.in_ok-hits-in-Match.ensures.looks.told content (string_bytes c.in-Match.name) (string_bytes c.in-Match.query) asked.reads before in
-      let answered : map plain_hit c.cut-answered.result.now ≡ cut select.limit select.offset all =
-      hits_answered select.limit c.most_hits-most.result select.offset c.in_ok-hits-in-Match.hits.items c.cut-answered.result.now all
-      (c.cut-answered.ensures ∙ ap (λ (hs : List Hit). cut select.limit select.offset hs) c.as_slice.ensures.value) hits (c.most_hits-most.ensures.enough all) in
-      read content (rows_then g.S.Store first middle last one two tab content here)
-      ∙ hit_rows here.name content f columns items select.limit select.offset here.is_content asked.columns c.any_offsets.result c.any_offsets.ensures c.cut-answered.result.now answered
-      ∙ (λ i. cut select.limit select.offset (answer_rows content (sym items_are i) (sym f_is i)))) c.hit_rows.ensures.looks.told;
-  only = search rules;
-  live = search rules;
-  cause = search rules;
-}
+pub returns-in_ok-hits-in-Match-clause-told : goal.returns-in_ok-hits-in-Match-clause-told
+returns-in_ok-hits-in-Match-clause-told g c = IfOk-weaker c.hit_rows.result _ _ (λ rows read content asked.
+    let select = c.args.select.now in
+    let items = map item_of c.as_slice-items.result.now in
+    let f = Match (string_bytes c.in-Match.name) (string_bytes c.in-Match.query) in
+    let items_are : items_of select.items ≡ Listed items = ap items_of c.in-List.is ∙ ap (λ (l : List Item). Listed (map item_of l)) (sym c.as_slice-items.ensures.value) in
+    let before = held_first g.S.Store c.args.store.now c.matched.new.store c.hit_rows.new.store c.matched.ensures.looks.only c.hit_rows.ensures.looks.only (to_z w64 (of_z w64 c.args.tab)) content (to_z-of_z c.ranges.tab) asked.held in
+    let behind = held_then g.S.Store c.args.store.now c.matched.new.store c.hit_rows.new.store c.matched.ensures.looks.only c.hit_rows.ensures.looks.only (to_z w64 (of_z w64 c.args.tab)) content (to_z-of_z c.ranges.tab) asked.held in
+    let answered = answered_in g (goal.at.returns-in_ok-hits-in-Match-clause-told g c).After-hit_rows content before.index asked.reads in
+    read content behind
+    ∙ hit_rows behind.name content f (map column_of c.args.columns.now) items select.limit select.offset behind.is_content asked.columns c.any_offsets.result c.any_offsets.ensures c.cut-answered.result.now answered
+    ∙ (λ i. cut select.limit select.offset (answer_rows content (sym items_are i) (filter_of (sym c.in-Match.is i))))) c.hit_rows.ensures.told
 
 pub returns-in_ok-hits-in-Match-clause-counted : goal.returns-in_ok-hits-in-Match-clause-counted
-returns-in_ok-hits-in-Match-clause-counted g c = on_ok_from c.hit_rows.result _ _ (λ whole counted content as_asked.
-    let first = c.args.store.now in
-    let middle = c.matched.new.store in
-    let last = c.hit_rows.new.store in
-    let one : Looks g.S.Store first middle = c.matched.ensures.looks.only in
-    let two = c.hit_rows.ensures.looks.only in
-    let t = sym (to_z-of_z c.ranges.tab) in
-    let tab : ℤ = to_z w64 (of_z w64 c.args.tab) in
+returns-in_ok-hits-in-Match-clause-counted g c = on_ok_from c.hit_rows.result _ _ (λ whole counted content asked.
+    let rows : ℕ = c.args.store.now.rows_read in
+    let select = c.args.select.now in
+    let items = map item_of c.as_slice-items.result.now in
+    let name = string_bytes c.in-Match.name in
+    let text = string_bytes c.in-Match.query in
+    let items_are : items_of select.items ≡ Listed items = ap items_of c.in-List.is ∙ ap (λ (l : List Item). Listed (map item_of l)) (sym c.as_slice-items.ensures.value) in
+    let before = held_first g.S.Store c.args.store.now c.matched.new.store c.hit_rows.new.store c.matched.ensures.looks.only c.hit_rows.ensures.looks.only (to_z w64 (of_z w64 c.args.tab)) content (to_z-of_z c.ranges.tab) asked.held in
+    let behind = held_then g.S.Store c.args.store.now c.matched.new.store c.hit_rows.new.store c.matched.ensures.looks.only c.hit_rows.ensures.looks.only (to_z w64 (of_z w64 c.args.tab)) content (to_z-of_z c.ranges.tab) asked.held in
+    let as_read = subst (λ (x : Filter). ReadsFilterAs content (filter_of x) (option_map {T = Bor _} (λ q. tree_of q.now) c.args.query)) c.in-Match.is asked.reads in
+    let answered = answered_in g (goal.at.returns-in_ok-hits-in-Match-clause-counted g c).After-hit_rows content before.index asked.reads in
+    let many = as_many behind.name content (Match name text) (map column_of c.args.columns.now) items select.limit select.offset behind.is_content asked.columns c.any_offsets.result c.any_offsets.ensures c.cut-answered.result.now answered in
+    let width : ℕ = cond (list_any reads_document items) (length content.columns) 0 in
+    counted_both rows c.matched.new.store.rows_read c.hit_rows.new.store.rows_read _ (width * length c.cut-answered.result.now) (c.in_ok-hits-in-Match.ensures.counted content name text as_read before.index) (counted content behind)
+    ∙ ap (λ (n : ℕ). min (rows + n) (2 ^ 64 - 1)) (asked_items content items name text select.limit select.offset (length c.cut-answered.result.now) many
+    ∙ (λ i. rows_asked content (sym items_are i) (filter_of (sym c.in-Match.is i)) select.limit select.offset))) c.hit_rows.ensures.counted
+
+pub returns-in_ok-hits-in-All-clause-told : goal.returns-in_ok-hits-in-All-clause-told
+returns-in_ok-hits-in-All-clause-told g c = IfOk-weaker c.hit_rows-in-All.result _ _ (λ rows read content asked.
     let select = c.args.select.now in
     let items = map item_of c.as_slice-items.result.now in
     let columns = map column_of c.args.columns.now in
-    let f = Match (string_bytes c.in-Match.name) (string_bytes c.in-Match.query) in
     let items_are : items_of select.items ≡ Listed items = ap items_of c.in-List.is ∙ ap (λ (l : List Item). Listed (map item_of l)) (sym c.as_slice-items.ensures.value) in
-    let f_is : filter_of select.filter ≡ f = ap filter_of c.in-Match.is in
-    let asked = asked_as g.S.Store c.args.tab columns _ _ _ _ _ first last content items_are f_is as_asked in
-    let here = subst (λ (k : ℤ). HasRows g.S.Store k first last content) t asked.held.rows in
-    let at = subst (λ (k : ℤ). IsIndexed g.S.Store k first last content) t asked.held.index in
-    let before = index_first g.S.Store first middle last one two tab content at in
-    let all = map (as_wanted c.any_offsets.result) (chosen_hits content f) in
-    let hits = c.in_ok-hits-in-Match.ensures.looks.told content (string_bytes c.in-Match.name) (string_bytes c.in-Match.query) asked.reads before in
-    let answered : map plain_hit c.cut-answered.result.now ≡ cut select.limit select.offset all =
-    hits_answered select.limit c.most_hits-most.result select.offset c.in_ok-hits-in-Match.hits.items c.cut-answered.result.now all
-    (c.cut-answered.ensures ∙ ap (λ (hs : List Hit). cut select.limit select.offset hs) c.as_slice.ensures.value) hits (c.most_hits-most.ensures.enough all) in
-    let many = as_many here.name content f columns items select.limit select.offset here.is_content asked.columns c.any_offsets.result c.any_offsets.ensures c.cut-answered.result.now answered in
-    let width : ℕ = cond (list_any reads_document items) (length content.columns) 0 in
-    counted_both first.rows_read middle.rows_read last.rows_read _ (width * length c.cut-answered.result.now) (c.in_ok-hits-in-Match.ensures.counted content (string_bytes c.in-Match.name) (string_bytes c.in-Match.query) asked.reads before)
-    (counted content (rows_then g.S.Store first middle last one two tab content here))
-    ∙ ap (λ (n : ℕ). min (first.rows_read + n) (2 ^ 64 - 1)) (asked_items content items (string_bytes c.in-Match.name) (string_bytes c.in-Match.query) select.limit select.offset (length c.cut-answered.result.now) many
-    ∙ (λ i. rows_asked content (sym items_are i) (sym f_is i) select.limit select.offset))) c.hit_rows.ensures.counted
+    let before = held_first g.S.Store c.args.store.now c.docids.new.store c.hit_rows-in-All.new.store c.docids.ensures.looks.only c.hit_rows-in-All.ensures.looks.only (to_z w64 (of_z w64 c.args.tab)) content (to_z-of_z c.ranges.tab) asked.held in
+    let behind = held_then g.S.Store c.args.store.now c.docids.new.store c.hit_rows-in-All.new.store c.docids.ensures.looks.only c.hit_rows-in-All.ensures.looks.only (to_z w64 (of_z w64 c.args.tab)) content (to_z-of_z c.ranges.tab) asked.held in
+    let docids = c.in_ok-docids-in-All.docids.items in
+    let hits = ap (map plain_hit) c.as_slice-in-All-2.ensures.value ∙ c.in_ok-hits-in-All.ensures ∙ ap (map (λ (k : ℤ). record { docid = k; offsets = [] })) c.as_slice-in-All.ensures.value in
+    read content behind
+    ∙ bare_hit_rows columns content items c.as_slice-in-All-2.result.now docids hits
+    ∙ listed_rows_are content columns items select.limit select.offset asked.columns (map (document_at content) docids)
+    (documents_again behind.name content select.limit select.offset behind.is_content docids (c.in_ok-docids-in-All.ensures.told content before.rows))
+    ∙ (λ i. cut select.limit select.offset (answer_rows content (sym items_are i) (filter_of (sym c.in-All.is i))))) c.hit_rows-in-All.ensures.told
 
-pub returns-in_ok-hits-in-All-clause-looks : goal.returns-in_ok-hits-in-All-clause-looks
-returns-in_ok-hits-in-All-clause-looks g c = record {
-  told = IfOk-weaker c.hit_rows-in-All.result _ _ (λ rows read content as_asked.
-      let first = c.args.store.now in
-      let middle = c.docids.new.store in
-      let last = c.hit_rows-in-All.new.store in
-      let one : Looks g.S.Store first middle = c.docids.ensures.looks.only in
-      let two = c.hit_rows-in-All.ensures.looks.only in
-      let tab : ℤ = to_z w64 (of_z w64 c.args.tab) in
-      let select = c.args.select.now in
-      let items = map item_of c.as_slice-items.result.now in
-      let columns = map column_of c.args.columns.now in
-      let items_are : items_of select.items ≡ Listed items = ap items_of c.in-List.is ∙ ap (λ (l : List Item). Listed (map item_of l)) (sym c.as_slice-items.ensures.value) in
-      let f_is : filter_of select.filter ≡ All = ap filter_of c.in-All.is in
-      let asked = asked_as g.S.Store c.args.tab columns _ _ _ _ _ first last content items_are f_is as_asked in
-      let here = subst (λ (k : ℤ). HasRows g.S.Store k first last content) (sym (to_z-of_z c.ranges.tab)) asked.held.rows in
-      let docids = c.in_ok-docids-in-All.docids.items in
-      let hits = ap (map plain_hit) c.as_slice-in-All-2.ensures.value ∙ c.in_ok-hits-in-All.ensures ∙ ap (map (λ (k : ℤ). record { docid = k; offsets = [] })) c.as_slice-in-All.ensures.value in
-      read content (rows_then g.S.Store first middle last one two tab content here)
-      ∙ bare_hit_rows columns content items c.as_slice-in-All-2.result.now docids hits
-      ∙ listed_rows_are content columns items select.limit select.offset asked.columns (map (document_at content) docids)
-      (documents_again here.name content select.limit select.offset here.is_content docids (c.in_ok-docids-in-All.ensures.looks.told content (rows_first g.S.Store first middle last one two tab content here)))
-      ∙ (λ i. cut select.limit select.offset (answer_rows content (sym items_are i) (sym f_is i)))) c.hit_rows-in-All.ensures.looks.told;
-  only = search rules;
-  live = search rules;
-  cause = search rules;
-}
-
-pub returns-in_ok-document_rows-in-All-2-clause-looks : goal.returns-in_ok-document_rows-in-All-2-clause-looks
-returns-in_ok-document_rows-in-All-2-clause-looks g c = record {
-  told = λ content as_asked.
-      let first = c.args.store.now in
-      let last = c.chosen_documents.new.store in
-      let t = sym (to_z-of_z c.ranges.tab) in
-      let select = c.args.select.now in
-      let f = filter_of select.filter in
-      let items = map item_of c.as_slice-items.result.now in
-      let columns = map column_of c.args.columns.now in
-      let items_are : items_of select.items ≡ Listed items = ap items_of c.in-List.is ∙ ap (λ (l : List Item). Listed (map item_of l)) (sym c.as_slice-items.ensures.value) in
-      let asked = asked_as g.S.Store c.args.tab columns _ _ _ _ _ first last content items_are refl as_asked in
-      let plainly : is_match f ≡ false = search rules in
-      let found = c.in_ok-documents-in-All-2.ensures.looks.told content (subst (λ (k : ℤ). HasRows g.S.Store k first last content) t asked.held.rows) (subst (λ (k : ℤ). IsIndexed g.S.Store k first last content) t asked.held.index) asked.reads in
-      c.in_ok-document_rows-in-All-2.ensures (no_offsets f items plainly asked.offsets)
-      ∙ document_rows_are content f columns items select.limit select.offset plainly asked.columns c.in_ok-documents-in-All-2.documents.items c.cut-answered-in-All-2.result.now found
-      (c.cut-answered-in-All-2.ensures ∙ ap (λ (ds : List Document). cut select.limit select.offset ds) c.as_slice-in-All-2-2.ensures.value)
-      ∙ (λ i. cut select.limit select.offset (answer_rows content (sym items_are i) f));
-  only = search rules;
-  live = search rules;
-  cause = search rules;
-}
+pub returns-in_ok-document_rows-in-All-2-clause-told : goal.returns-in_ok-document_rows-in-All-2-clause-told
+returns-in_ok-document_rows-in-All-2-clause-told g c = λ content asked.
+    let first = c.args.store.now in
+    let last = c.chosen_documents.new.store in
+    let t = sym (to_z-of_z c.ranges.tab) in
+    let select = c.args.select.now in
+    let f = filter_of select.filter in
+    let items = map item_of c.as_slice-items.result.now in
+    let items_are : items_of select.items ≡ Listed items = ap items_of c.in-List.is ∙ ap (λ (l : List Item). Listed (map item_of l)) (sym c.as_slice-items.ensures.value) in
+    let plainly : is_match f ≡ false = search rules in
+    let found = c.in_ok-documents-in-All-2.ensures.told content (subst (λ (k : ℤ). HasRows g.S.Store k first last content) t asked.held.rows) (subst (λ (k : ℤ). IsIndexed g.S.Store k first last content) t asked.held.index) asked.reads in
+    c.in_ok-document_rows-in-All-2.ensures (no_offsets f items plainly (subst (λ is. (list_any is_offsets (items_in is) && not (is_match f)) ≡ false) items_are asked.offsets))
+    ∙ document_rows_are content f (map column_of c.args.columns.now) items select.limit select.offset plainly asked.columns c.in_ok-documents-in-All-2.documents.items c.cut-answered-in-All-2.result.now found
+    (c.cut-answered-in-All-2.ensures ∙ ap (λ (ds : List Document). cut select.limit select.offset ds) c.as_slice-in-All-2-2.ensures.value)
+    ∙ (λ i. cut select.limit select.offset (answer_rows content (sym items_are i) f))
 
 pub returns-in_ok-hits-in-All-clause-counted : goal.returns-in_ok-hits-in-All-clause-counted
-returns-in_ok-hits-in-All-clause-counted g c = on_ok_from c.hit_rows-in-All.result _ _ (λ whole counted content as_asked.
-    let first = c.args.store.now in
-    let middle = c.docids.new.store in
-    let last = c.hit_rows-in-All.new.store in
-    let one : Looks g.S.Store first middle = c.docids.ensures.looks.only in
-    let two = c.hit_rows-in-All.ensures.looks.only in
-    let tab : ℤ = to_z w64 (of_z w64 c.args.tab) in
+returns-in_ok-hits-in-All-clause-counted g c = on_ok_from c.hit_rows-in-All.result _ _ (λ whole counted content asked.
+    let rows : ℕ = c.args.store.now.rows_read in
     let select = c.args.select.now in
     let items = map item_of c.as_slice-items.result.now in
     let items_are : items_of select.items ≡ Listed items = ap items_of c.in-List.is ∙ ap (λ (l : List Item). Listed (map item_of l)) (sym c.as_slice-items.ensures.value) in
-    let f_is : filter_of select.filter ≡ All = ap filter_of c.in-All.is in
-    let asked = asked_as g.S.Store c.args.tab (map column_of c.args.columns.now) _ _ _ _ _ first last content items_are f_is as_asked in
-    let here = subst (λ (k : ℤ). HasRows g.S.Store k first last content) (sym (to_z-of_z c.ranges.tab)) asked.held.rows in
-    let before = rows_first g.S.Store first middle last one two tab content here in
+    let before = held_first g.S.Store c.args.store.now c.docids.new.store c.hit_rows-in-All.new.store c.docids.ensures.looks.only c.hit_rows-in-All.ensures.looks.only (to_z w64 (of_z w64 c.args.tab)) content (to_z-of_z c.ranges.tab) asked.held in
+    let behind = held_then g.S.Store c.args.store.now c.docids.new.store c.hit_rows-in-All.new.store c.docids.ensures.looks.only c.hit_rows-in-All.ensures.looks.only (to_z w64 (of_z w64 c.args.tab)) content (to_z-of_z c.ranges.tab) asked.held in
     let docids = c.in_ok-docids-in-All.docids.items in
     let hits : List Hit = c.as_slice-in-All-2.result.now in
     let bare : ℤ → PlainHit = λ k. record { docid = k; offsets = [] } in
@@ -189,25 +132,23 @@ returns-in_ok-hits-in-All-clause-counted g c = on_ok_from c.hit_rows-in-All.resu
     let answered : List (ℤ × List Cell) = cut select.limit select.offset content.documents in
     let are : map plain_hit hits ≡ map bare docids = ap (map plain_hit) c.as_slice-in-All-2.ensures.value ∙ c.in_ok-hits-in-All.ensures ∙ ap (map bare) c.as_slice-in-All.ensures.value in
     let many : length hits ≡ length answered =
-    sym (length-map hits plain_hit) ∙ ap length are ∙ length-map docids bare ∙ ap length (c.in_ok-docids-in-All.ensures.looks.told content before ∙ cut_of_map docid select.limit select.offset content.documents) ∙ length-map answered docid in
+    sym (length-map hits plain_hit) ∙ ap length are ∙ length-map docids bare ∙ ap length (c.in_ok-docids-in-All.ensures.told content before.rows ∙ cut_of_map docid select.limit select.offset content.documents) ∙ length-map answered docid in
     let by_docid : (is_some select.limit || not (list_any reads_document items)) ≡ true = search rules in
     let width : ℕ = cond (list_any reads_document items) (length content.columns) 0 in
-    counted_both first.rows_read middle.rows_read last.rows_read _ (width * length hits) (c.in_ok-docids-in-All.ensures.counted content before) (counted content (rows_then g.S.Store first middle last one two tab content here))
-    ∙ ap (λ (n : ℕ). min (first.rows_read + n) (2 ^ 64 - 1)) (asked_all content items select.limit select.offset (length hits) by_docid many
-    ∙ (λ i. rows_asked content (sym items_are i) (sym f_is i) select.limit select.offset))) c.hit_rows-in-All.ensures.counted
+    counted_both rows c.docids.new.store.rows_read c.hit_rows-in-All.new.store.rows_read _ (width * length hits) (c.in_ok-docids-in-All.ensures.counted content before.rows) (counted content behind)
+    ∙ ap (λ (n : ℕ). min (rows + n) (2 ^ 64 - 1)) (asked_all content items select.limit select.offset (length hits) by_docid many
+    ∙ (λ i. rows_asked content (sym items_are i) (filter_of (sym c.in-All.is i)) select.limit select.offset))) c.hit_rows-in-All.ensures.counted
 
 pub returns-in_ok-document_rows-in-All-2-clause-counted : goal.returns-in_ok-document_rows-in-All-2-clause-counted
-returns-in_ok-document_rows-in-All-2-clause-counted g c content as_asked =
+returns-in_ok-document_rows-in-All-2-clause-counted g c content asked =
     let first = c.args.store.now in
-    let last = c.chosen_documents.new.store in
     let select = c.args.select.now in
     let f = filter_of select.filter in
     let items = map item_of c.as_slice-items.result.now in
     let items_are : items_of select.items ≡ Listed items = ap items_of c.in-List.is ∙ ap (λ (l : List Item). Listed (map item_of l)) (sym c.as_slice-items.ensures.value) in
-    let asked = asked_as g.S.Store c.args.tab (map column_of c.args.columns.now) _ _ _ _ _ first last content items_are refl as_asked in
     let plainly : is_match f ≡ false = search rules in
     let whole : f ≡ All → (is_some select.limit || not (list_any reads_document items)) ≡ false = search rules in
-    c.in_ok-documents-in-All-2.ensures.counted content (subst (λ (k : ℤ). HasRows g.S.Store k first last content) (sym (to_z-of_z c.ranges.tab)) asked.held.rows) plainly
+    c.in_ok-documents-in-All-2.ensures.counted content (subst (λ (k : ℤ). HasRows g.S.Store k first c.chosen_documents.new.store content) (sym (to_z-of_z c.ranges.tab)) asked.held.rows) plainly
     ∙ ap (λ (n : ℕ). min (first.rows_read + n) (2 ^ 64 - 1)) (asked_whole content items f select.limit select.offset plainly whole
     ∙ (λ i. rows_asked content (sym items_are i) f select.limit select.offset))
 
@@ -215,19 +156,12 @@ pub returns-in_ok-hits-in-Match-clause-refused : goal.returns-in_ok-hits-in-Matc
 returns-in_ok-hits-in-Match-clause-refused g c = λ name content has reads clean told.
     let first = c.args.store.now in
     let middle = c.matched.new.store in
-    let last = c.hit_rows.new.store in
     let tab : ℤ = to_z w64 (of_z w64 c.args.tab) in
     let t : tab ≡ c.args.tab = to_z-of_z c.ranges.tab in
     let select = c.args.select.now in
-    let f = Match (string_bytes c.in-Match.name) (string_bytes c.in-Match.query) in
-    let as_read = subst (λ (x : Filter). ReadsFilterAs content (filter_of x) (option_map {T = Bor _} (λ q. tree_of q.now) c.args.query)) c.in-Match.is reads in
-    let all = map (as_wanted c.any_offsets.result) (chosen_hits content f) in
-    then_blamed g.S.Store first middle last c.matched.ensures.looks.only c.in_ok-hits-in-Match.ensures.looks.live c.hit_rows.ensures.looks.only.survives clean (λ middle_clean is_open same.
-    let hits = c.in_ok-hits-in-Match.ensures.looks.told content (string_bytes c.in-Match.name) (string_bytes c.in-Match.query) as_read (index_in g.S.Store tab c.args.tab t first middle name content has middle_clean is_open) in
-    let answered : map plain_hit c.cut-answered.result.now ≡ cut select.limit select.offset all =
-    hits_answered select.limit c.most_hits-most.result select.offset c.in_ok-hits-in-Match.hits.items c.cut-answered.result.now all
-    (c.cut-answered.ensures ∙ ap (λ (hs : List Hit). cut select.limit select.offset hs) c.as_slice.ensures.value) hits (c.most_hits-most.ensures.enough all) in
-    c.hit_rows.ensures.refused name content (has_at (sym same) (sym t) has) (hits_there name content has.is_content f c.any_offsets.result select.limit select.offset c.cut-answered.result.now answered) clean told)
+    then_blamed g.S.Store first middle c.hit_rows.new.store c.matched.ensures.looks.only c.in_ok-hits-in-Match.ensures.looks.live c.hit_rows.ensures.looks.only.survives clean (λ middle_clean is_open same.
+    let answered = answered_in g (goal.at.returns-in_ok-hits-in-Match-clause-refused g c).After-hit_rows content (index_in g.S.Store tab c.args.tab t first middle name content has middle_clean is_open) reads in
+    c.hit_rows.ensures.refused name content (has_at (sym same) (sym t) has) (hits_there name content has.is_content (Match (string_bytes c.in-Match.name) (string_bytes c.in-Match.query)) c.any_offsets.result select.limit select.offset c.cut-answered.result.now answered) clean told)
 
 pub returns-in_ok-hits-in-All-clause-refused : goal.returns-in_ok-hits-in-All-clause-refused
 returns-in_ok-hits-in-All-clause-refused g c = λ name content has reads clean told.
@@ -240,6 +174,6 @@ returns-in_ok-hits-in-All-clause-refused g c = λ name content has reads clean t
     let docids = c.in_ok-docids-in-All.docids.items in
     let hits = ap (map plain_hit) c.as_slice-in-All-2.ensures.value ∙ c.in_ok-hits-in-All.ensures ∙ ap (map (λ (k : ℤ). record { docid = k; offsets = [] })) c.as_slice-in-All.ensures.value in
     then_blamed g.S.Store first middle last c.docids.ensures.looks.only (λ middle_clean _. c.in_ok-docids-in-All.ensures.looks.live middle_clean) c.hit_rows-in-All.ensures.looks.only.survives clean (λ middle_clean is_open same.
-    let read = c.in_ok-docids-in-All.ensures.looks.told content (rows_in g.S.Store tab c.args.tab t first middle name content has middle_clean is_open) in
+    let read = c.in_ok-docids-in-All.ensures.told content (rows_in g.S.Store tab c.args.tab t first middle name content has middle_clean is_open) in
     c.hit_rows-in-All.ensures.refused name content (has_at (sym same) (sym t) has)
     (subst (AreThere content) (sym (bare_docids c.as_slice-in-All-2.result.now docids hits)) (docids_there name content has.is_content select.limit select.offset docids read)) clean told)

@@ -10,54 +10,42 @@ use Rattle.ft_index.specs.Opened.{HasState}
 use Rattle.ft_index.specs.Changed.{with_tables}
 use Rattle.ft_index.proofs.Acting.{executes_read}
 use Rattle.ft_index.proofs.CheckLemmas.{told_here, check_missing, check_right, check_wrong}
-use Rattle.ft_index.proofs.Executing.{executes_same}
+use Rattle.ft_index.proofs.LookLemmas.{no_look}
 use Rattle.ft_store.specs.Calls.{fault_of_read}
 use Rattle.ft_store.specs.declared.fault.StoreFault.TheVariants as causes
 use Rattle.ft_index.proofs.Pinging.{is_refused}
 use Rattle.ft_index.proofs.special.check_table.Goals as goal
 
-pub returns-in_err-known-clause-looks : goal.returns-in_err-known-clause-looks
-returns-in_err-known-clause-looks g c = record {
-  told =
-      let tables = map shown_info c.args.tables.now in
-      let known = with_tables c.args.store.now tables in
-      let command = plain.Check c.args.table.now in
-      let fault : Fault = c.in_err-known.field-0.0 in
-      let is : c.from_residual.result ≡ Err fault = search rules in
-      let missing = c.in_err-known.ensures in
-      subst (λ (a : Result Reply Fault). Executes g.S.Store known command (answer_of a) known) (sym is)
-      (subst (λ f. Executes g.S.Store known command (Err f) known) (sym missing.0) (executes_same g.S.Store known command _ (λ first holds. inr (check_missing first tables c.args.table.now holds.told missing.1))));
-  only = search rules;
-  live = search rules;
-}
+pub returns-in_err-known-clause-told : goal.returns-in_err-known-clause-told
+returns-in_err-known-clause-told g c =
+    let tables = map shown_info c.args.tables.now in
+    let known = with_tables c.args.store.now tables in
+    let command = plain.Check c.args.table.now in
+    let fault : Fault = c.in_err-known.field-0.0 in
+    let is : c.from_residual.result ≡ Err fault = search rules in
+    let missing = c.in_err-known.ensures in
+    subst (λ (a : Result Reply Fault). Executes g.S.Store known command (answer_of a) known) (sym is)
+    (subst (λ f. Executes g.S.Store known command (Err f) known) (sym missing.0) (executes_read g.S.Store c.args.store.now c.args.store.now tables command _ (no_look g.S.Store c.args.store.now) (λ up first holds. inr (check_missing first tables c.args.table.now holds.told missing.1))))
 
-pub returns-then-is_sound-clause-looks : goal.returns-then-is_sound-clause-looks
-returns-then-is_sound-clause-looks g c = record {
-  told =
-      let tables = map shown_info c.args.tables.now in
-      let known = shown_info c.in_ok-known.known.now in
-      let v = value_in g.S.Store c.args.store.now in
-      executes_read g.S.Store c.args.store.now c.known_state.new.store tables (plain.Check c.args.table.now) _ c.in_ok-state.ensures.asks.only (λ up first holds.
-      let t = told_here v tables first c.args.table.now known c.is_in_order.ensures.order holds c.in_ok-known.ensures in
-      let stands = c.in_ok-state.ensures.asks.told t.table.1.held up.clean (subst (λ k. HasState v k t.table.1.held) t.told t.stands) in
-      inr (check_right first c.args.table.now t.table t.found (sym (c.is_sound.ensures t.table.1.held stands) ∙ c.if-is_sound.true)));
-  only = search rules;
-  live = search rules;
-}
+pub returns-then-is_sound-clause-told : goal.returns-then-is_sound-clause-told
+returns-then-is_sound-clause-told g c =
+    let tables = map shown_info c.args.tables.now in
+    let known = shown_info c.in_ok-known.known.now in
+    let v = value_in g.S.Store c.args.store.now in
+    executes_read g.S.Store c.args.store.now c.known_state.new.store tables (plain.Check c.args.table.now) _ c.in_ok-state.ensures.asks.only (λ up first holds.
+    let t = told_here v tables first c.args.table.now known c.is_in_order.ensures.order holds c.in_ok-known.ensures in
+    let stands = c.in_ok-state.ensures.told t.table.1.held up.clean (subst (λ k. HasState v k t.table.1.held) t.told t.stands) in
+    inr (check_right first c.args.table.now t.table t.found (sym (c.is_sound.ensures t.table.1.held stands) ∙ c.if-is_sound.true)))
 
-pub returns-else-is_sound-clause-looks : goal.returns-else-is_sound-clause-looks
-returns-else-is_sound-clause-looks g c = record {
-  told =
-      let tables = map shown_info c.args.tables.now in
-      let known = shown_info c.in_ok-known.known.now in
-      let v = value_in g.S.Store c.args.store.now in
-      executes_read g.S.Store c.args.store.now c.known_state.new.store tables (plain.Check c.args.table.now) _ c.in_ok-state.ensures.asks.only (λ up first holds.
-      let t = told_here v tables first c.args.table.now known c.is_in_order.ensures.order holds c.in_ok-known.ensures in
-      let stands = c.in_ok-state.ensures.asks.told t.table.1.held up.clean (subst (λ k. HasState v k t.table.1.held) t.told t.stands) in
-      inr (check_wrong first c.args.table.now t.table t.found (sym (c.is_sound.ensures t.table.1.held stands) ∙ c.if-is_sound.false)));
-  only = search rules;
-  live = search rules;
-}
+pub returns-else-is_sound-clause-told : goal.returns-else-is_sound-clause-told
+returns-else-is_sound-clause-told g c =
+    let tables = map shown_info c.args.tables.now in
+    let known = shown_info c.in_ok-known.known.now in
+    let v = value_in g.S.Store c.args.store.now in
+    executes_read g.S.Store c.args.store.now c.known_state.new.store tables (plain.Check c.args.table.now) _ c.in_ok-state.ensures.asks.only (λ up first holds.
+    let t = told_here v tables first c.args.table.now known c.is_in_order.ensures.order holds c.in_ok-known.ensures in
+    let stands = c.in_ok-state.ensures.told t.table.1.held up.clean (subst (λ k. HasState v k t.table.1.held) t.told t.stands) in
+    inr (check_wrong first c.args.table.now t.table t.found (sym (c.is_sound.ensures t.table.1.held stands) ∙ c.if-is_sound.false)))
 
 pub returns-in_err-state-clause-refused : goal.returns-in_err-state-clause-refused
 returns-in_err-state-clause-refused g c = λ clean told.

@@ -8,74 +8,61 @@ use Rattle.ft_documents.specs.NewDocuments.{new_rewrite}
 use Rattle.ft_documents.specs.Rewrite.{shown_rewrite}
 use Rattle.ft_documents.specs.Tables.{table_rows}
 use Rattle.ft_index.specs.DocumentsRead.{HasRows}
-use Rattle.ft_index.specs.Kept.{PlansFrom}
+use Rattle.ft_index.specs.Kept.{PlansFrom, AreHeld, IsUp}
 use Rattle.ft_index.specs.Opened.{HasState}
 use Rattle.ft_index.proofs.Acting.{looks_up}
 use Rattle.ft_index.proofs.CheckLemmas.{told_here}
 use Rattle.ft_index.proofs.LookLemmas.{rows_then}
 use Rattle.ft_content.specs.Deserved.{Contents}
 use Rattle.ft_index.specs.Changed.{with_tables}
-use Rattle.ft_index.specs.Kept.{AreHeld, IsUp}
 use Rattle.ft_index.proofs.RebuildPlans.{IsPutAnew, plan_right, plan_stale, plan_loose, stale_content}
 use Rattle.ft_index.proofs.special.rebuilt.Goals as goal
 
-pub returns-in-Sound-clause-looks : goal.returns-in-Sound-clause-looks
-returns-in-Sound-clause-looks g c = record {
-  told = λ tables name is. (
-    λ changes are up contents held.
-        let v = value_in g.S.Store c.args.store.now in
-        let known = shown_info c.args.table.now in
-        let t = told_here v tables contents name known c.is_in_order.ensures.order held is in
-        let stands = c.in_ok-state.ensures.asks.told t.table.1.held up.clean (subst (λ k. HasState v k t.table.1.held) t.told t.stands) in
-        subst (λ (cs : List Change). PlansFrom contents (plain.Rebuild name) v (Ok cs)) (sym are) (plan_right v tables contents name known c.is_in_order.ensures.order held t (sym c.in-Sound.is ∙ stands)),
-    λ _ _ _. tt,
-  );
-  only = search rules;
-  live = search rules;
-}
-
-pub returns-in_ok-rewrites-in-Stale-clause-looks : goal.returns-in_ok-rewrites-in-Stale-clause-looks
-returns-in_ok-rewrites-in-Stale-clause-looks g c = record {
-  told = λ tables name is.
-      let v = value_in g.S.Store c.args.store.now in
-      let known = shown_info c.args.table.now in
-      let old = c.args.store.now in
-      let mid = c.known_state.new.store in
-      let new = c.all_documents.new.store in
-      let one = c.in_ok-state.ensures.asks.only in
-      let two = c.in_ok-documents-in-Stale.ensures.looks.only in
-      let rewrites = map shown_rewrite c.in_ok-rewrites-in-Stale.rewrites.items in
-      let order = c.is_in_order.ensures.order in
-      let stale : IsUp g.S.Store (with_tables new tables) → (contents : Contents) → AreHeld v tables contents → IsPutAnew v contents name known rewrites = λ up contents held.
-      let t = told_here v tables contents name known order held is in
-      let fits : FitsSigned w64 known.id = search rules in
-      let stands = c.in_ok-state.ensures.asks.told t.table.1.held (looks_up g.S.Store mid new tables tables two up).clean (subst (λ k. HasState v k t.table.1.held) t.told t.stands) in
-      let id : to_z w64 (of_z w64 known.id) ≡ t.table.0 = to_z-of_z fits ∙ ap (λ (k : TableInfo). k.id) (sym t.told) in
-      record {
-        told = t;
-        stale = sym c.in-Stale.is ∙ stands;
-        all = λ content is_content rows.
-            let has : HasRows g.S.Store (to_z w64 (of_z w64 known.id)) old new content = record { clean = up.clean; is_open = up.is_open; name = t.table.1.name; is_content = is_content; rows = ap (λ k. table_rows k v) id ∙ rows } in
-            c.in_ok-rewrites-in-Stale.ensures ∙ ap (map new_rewrite) (c.in_ok-documents-in-Stale.ensures.looks.told content (rows_then g.S.Store old mid new one two (to_z w64 (of_z w64 known.id)) content has));
-      } in (
-        λ changes are up contents held. subst (λ (cs : List Change). PlansFrom contents (plain.Rebuild name) v (Ok cs)) (sym are.are) (let s = stale up contents held in plan_stale v tables contents name known order held s.told rewrites are.rest s.stale s.all are.of_written.0 are.of_written.1),
-        λ up contents held.
-            let s = stale up contents held in
-            let k = stale_content v tables contents name known order held s.told rewrites s.stale s.all in
-            record { content = k.0; columns_are = k.1; are_of = k.2 },
-      );
-  only = search rules;
-  live = search rules;
-}
-
-pub returns-in-Loose-clause-looks : goal.returns-in-Loose-clause-looks
-returns-in-Loose-clause-looks g c = record {
-  told = λ tables name is up contents held.
+pub returns-in-Sound-clause-told : goal.returns-in-Sound-clause-told
+returns-in-Sound-clause-told g c = λ tables name is. (
+  λ changes are up contents held.
       let v = value_in g.S.Store c.args.store.now in
       let known = shown_info c.args.table.now in
       let t = told_here v tables contents name known c.is_in_order.ensures.order held is in
-      let stands = c.in_ok-state.ensures.asks.told t.table.1.held up.clean (subst (λ k. HasState v k t.table.1.held) t.told t.stands) in
-      plan_loose v tables contents name known c.is_in_order.ensures.order held t (sym c.in-Loose.is ∙ stands);
-  only = search rules;
-  live = search rules;
-}
+      let stands = c.in_ok-state.ensures.told t.table.1.held up.clean (subst (λ k. HasState v k t.table.1.held) t.told t.stands) in
+      subst (λ (cs : List Change). PlansFrom contents (plain.Rebuild name) v (Ok cs)) (sym are) (plan_right v tables contents name known c.is_in_order.ensures.order held t (sym c.in-Sound.is ∙ stands)),
+  λ _ _ _. tt,
+)
+
+pub returns-in_ok-rewrites-in-Stale-clause-told : goal.returns-in_ok-rewrites-in-Stale-clause-told
+returns-in_ok-rewrites-in-Stale-clause-told g c = λ tables name is.
+    let v = value_in g.S.Store c.args.store.now in
+    let known = shown_info c.args.table.now in
+    let old = c.args.store.now in
+    let mid = c.known_state.new.store in
+    let new = c.all_documents.new.store in
+    let one = c.in_ok-state.ensures.asks.only in
+    let two = c.in_ok-documents-in-Stale.ensures.looks.only in
+    let rewrites = map shown_rewrite c.in_ok-rewrites-in-Stale.rewrites.items in
+    let order = c.is_in_order.ensures.order in
+    let stale : IsUp g.S.Store (with_tables new tables) → (contents : Contents) → AreHeld v tables contents → IsPutAnew v contents name known rewrites = λ up contents held.
+    let t = told_here v tables contents name known order held is in
+    let fits : FitsSigned w64 known.id = search rules in
+    let stands = c.in_ok-state.ensures.told t.table.1.held (looks_up g.S.Store mid new tables tables two up).clean (subst (λ k. HasState v k t.table.1.held) t.told t.stands) in
+    let id : to_z w64 (of_z w64 known.id) ≡ t.table.0 = to_z-of_z fits ∙ ap (λ (k : TableInfo). k.id) (sym t.told) in
+    record {
+      told = t;
+      stale = sym c.in-Stale.is ∙ stands;
+      all = λ content is_content rows.
+          let has : HasRows g.S.Store (to_z w64 (of_z w64 known.id)) old new content = record { clean = up.clean; is_open = up.is_open; name = t.table.1.name; is_content = is_content; rows = ap (λ k. table_rows k v) id ∙ rows } in
+          c.in_ok-rewrites-in-Stale.ensures ∙ ap (map new_rewrite) (c.in_ok-documents-in-Stale.ensures.told content (rows_then g.S.Store old mid new one two (to_z w64 (of_z w64 known.id)) content has));
+    } in (
+      λ changes are up contents held. subst (λ (cs : List Change). PlansFrom contents (plain.Rebuild name) v (Ok cs)) (sym are.are) (let s = stale up contents held in plan_stale v tables contents name known order held s.told rewrites are.rest s.stale s.all are.of_written.0 are.of_written.1),
+      λ up contents held.
+          let s = stale up contents held in
+          let k = stale_content v tables contents name known order held s.told rewrites s.stale s.all in
+          record { content = k.0; columns_are = k.1; are_of = k.2 },
+    )
+
+pub returns-in-Loose-clause-told : goal.returns-in-Loose-clause-told
+returns-in-Loose-clause-told g c = λ tables name is up contents held.
+    let v = value_in g.S.Store c.args.store.now in
+    let known = shown_info c.args.table.now in
+    let t = told_here v tables contents name known c.is_in_order.ensures.order held is in
+    let stands = c.in_ok-state.ensures.told t.table.1.held up.clean (subst (λ k. HasState v k t.table.1.held) t.told t.stands) in
+    plan_loose v tables contents name known c.is_in_order.ensures.order held t (sym c.in-Loose.is ∙ stands)

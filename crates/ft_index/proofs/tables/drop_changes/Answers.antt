@@ -1,5 +1,5 @@
 -- the table of the name is the one that goes
-use Rattle.std.proofs.Common.{inr, ◌≡◌, ◌∷◌, [], List, ◌++◌, Ok, refl, sym, ap, subst, ◌∙◌, map, rules, FitsSigned, w64, to_z, of_z, to_z-of_z, Vec, Global}
+use Rattle.std.proofs.Common.{inr, ◌≡◌, ◌∷◌, [], List, ◌++◌, Ok, refl, sym, ap, subst, ◌∙◌, map, rules, FitsSigned, w64, to_z, of_z, to_z-of_z, Vec, Global, All, ℤ}
 use Rattle.std.specs.Prelude.{slice_index_or}
 use Rattle.ft_rows.specs.Changes.{shown_change}
 use Rattle.ft_rows.specs.Store.{Change, DropTable}
@@ -15,7 +15,6 @@ use Rattle.ft_index.specs.Kept.{PlansFrom}
 use Rattle.ft_documents.proofs.FoundLemmas.{placed, unplaced}
 use Rattle.ft_index.proofs.KnownLemmas.{none_named}
 use Rattle.ft_index.proofs.TablePlans.{drop_missing, drop_spared, drop_planned}
-use Rattle.std.proofs.Common.{All, ℤ}
 use Rattle.std.proofs.lemmas.List.Elements.{All-from_recursion}
 use Rattle.ft_store.specs.Blame.{TakesOut}
 use Rattle.ft_index.proofs.tables.drop_changes.Goals as goal

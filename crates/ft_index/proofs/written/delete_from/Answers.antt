@@ -1,11 +1,11 @@
 -- all documents, or those that were found
-use Rattle.std.proofs.Common.{rules, ◌≡◌, [], map, string_bytes, Err, Ok, sym, ap, subst}
+use Rattle.std.proofs.Common.{rules, ◌≡◌, [], map, string_bytes, Err, Ok, sym, ap, subst, refl}
 use Rattle.ft_store.specs.Kept.{value_in}
 use Rattle.ft_values.specs.declared.fault.Fault.{Fault}
 use Rattle.ft_content.specs.declared.command.Reply.TheVariants as reply
 use Rattle.ft_content.specs.Command as plain
 use Rattle.ft_content.specs.Command.{Command}
-use Rattle.ft_content.specs.Views.{filter_of, deletion_of, shown_info}
+use Rattle.ft_content.specs.Views.{filter_of, deletion_of, shown_info, column_of}
 use Rattle.ft_documents.specs.Rewrite.{shown_rewrite}
 use Rattle.ft_index.specs.Changed.{Does, with_tables}
 use Rattle.ft_index.proofs.Acting.{told_kept}
@@ -14,8 +14,6 @@ use Rattle.ft_index.proofs.DeleteWrites.{due, made, gone, leaves, replies, is_wr
 use Rattle.ft_index.proofs.Doing.{does_failed, does_undone, does_made, done_blamed}
 use Rattle.ft_index.proofs.LookLemmas.{no_look}
 use Rattle.ft_index.proofs.Planning.{plans_unfit}
-use Rattle.std.proofs.Common.{refl}
-use Rattle.ft_content.specs.Views.{column_of}
 use Rattle.ft_index.specs.Refused.{BlamesDone}
 use Rattle.ft_index.proofs.Blaming.{err_of}
 use Rattle.ft_index.proofs.GroupLemmas.{none_written}
@@ -73,7 +71,7 @@ returns-in-All-clause-does g c =
 pub returns-clause-does : goal.returns-clause-does
 returns-clause-does g c =
     let deletion = c.args.deletion.now in
-    c.write_found.ensures.answers c.args.store.now (map shown_info c.args.tables.now) (deletion_of deletion) (writes_table (filter_of deletion.filter) (string_bytes deletion.table)) c.delete_written-written.ensures.looks
+    c.write_found.ensures.answers c.args.store.now (map shown_info c.args.tables.now) (deletion_of deletion) (writes_table (filter_of deletion.filter) (string_bytes deletion.table)) c.delete_written-written.ensures.told c.delete_written-written.ensures.looks
 
 pub returns-in_err-table-clause-refused : goal.returns-in_err-table-clause-refused
 returns-in_err-table-clause-refused g c = λ contents held clean told. absurd (unfit_other (map shown_info c.args.tables.now) c.as_str.result.now c.in_err-table.field-0.0 c.in_err-table.ensures (err_of c.from_residual.result c.in_err-table.field-0.0 (search rules) told))
@@ -96,4 +94,4 @@ returns-in_err-make_anew-clause-refused g c =
 
 pub returns-clause-refused : goal.returns-clause-refused
 returns-clause-refused g c =
-    c.write_found.ensures.refused c.args.store.now (map shown_info c.args.tables.now) (deletion_of c.args.deletion.now) refl c.delete_written-written.ensures.looks c.delete_written-written.ensures.refused
+    c.write_found.ensures.refused c.args.store.now (map shown_info c.args.tables.now) (deletion_of c.args.deletion.now) refl c.delete_written-written.ensures.told c.delete_written-written.ensures.looks c.delete_written-written.ensures.refused

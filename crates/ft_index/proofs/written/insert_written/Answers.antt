@@ -1,13 +1,11 @@
 -- by the table, the tests, and what the rows make where docids are read
-use Rattle.std.proofs.Common.{rules, ℕ, false, zip, ◌≡◌, inl, inr, ℤ, List, [], Bor, String, Option, None, Some, map, option_map, string_bytes, Err, Ok, Result, Vec, Global, refl, sym, ap, subst, ◌∙◌, arith, to_z-of_z, to_z, of_z, w64, FitsSigned}
+use Rattle.std.proofs.Common.{rules, ℕ, false, zip, ◌≡◌, inl, inr, List, [], Bor, String, Option, None, Some, map, option_map, string_bytes, Err, Ok, Result, Vec, Global, refl, sym, ap, subst, ◌∙◌, arith, to_z-of_z, to_z, of_z, w64, FitsSigned}
 use Rattle.std.specs.Prelude.{unwrap_or}
 use Rattle.sqlite.specs.State.{HasCleanDisk}
 use Rattle.sqlite.specs.Store.{Ghosts}
-use Rattle.sqlite.specs.Effect.{Database}
 use Rattle.ft_store.specs.Calls.{fault_of_read}
 use Rattle.ft_rows.specs.Store.{AreInOrder}
 use Rattle.ft_store.specs.Kept.{StoreState, shows, value_in}
-use Rattle.ft_store.specs.Rows.{value_of}
 use Rattle.ft_values.specs.declared.fault.Fault.{Fault}
 use Rattle.ft_values.specs.declared.fault.Fault.TheVariants as faults
 use Rattle.ft_values.specs.declared.rows.Value.{Value}
@@ -15,19 +13,21 @@ use Rattle.ft_values.specs.declared.table.TableInfo.{TableInfo as RustTableInfo}
 use Rattle.ft_content.specs.Command as plain
 use Rattle.ft_content.specs.Command.{Command}
 use Rattle.ft_content.specs.declared.command.Insertion.{Insertion}
-use Rattle.ft_content.specs.Content.{Content, repeats_name, content_rows}
+use Rattle.ft_content.specs.Content.{Content, repeats_name}
 use Rattle.ft_content.specs.Deserved.{inserted_rows, listed_columns}
 use Rattle.ft_content.specs.Views.{TableInfo, bare_content, cells_of, column_of, last_docid, insertion_of, names_in, shown_info}
 use Rattle.ft_documents.specs.Found.{IsSoundNamed, IsUnfit}
 use Rattle.ft_documents.specs.Inserted.{AreKnown, Inserts}
 use Rattle.ft_documents.specs.Rewrite.{shown_rewrite}
-use Rattle.ft_documents.specs.Tables.{table_rows}
 use Rattle.ft_documents.proofs.InsertDue.{insert_repeats}
 use Rattle.ft_documents.proofs.InsertRows.{known_from, new_are_inserts}
 use Rattle.ft_documents.proofs.ReadRows.{last_read}
 use Rattle.ft_index.specs.declared.written.Written.{Written}
 use Rattle.ft_index.specs.Written.{HasAll, WritesDocuments, PlansTo, WritesIn}
 use Rattle.ft_index.proofs.InsertWrites.{due, made, news, is_write, tested_writes, tests_are, rows_are, writes}
+use Rattle.ft_index.specs.DocumentsRead.{Looks}
+use Rattle.ft_index.proofs.LookLemmas.{rows_first, rows_then}
+use Rattle.ft_index.proofs.WholeReads.{rows_of}
 use Rattle.ft_index.proofs.Pinging.{outside_of}
 use Rattle.ft_index.proofs.Planning.{plans_unfit, plans_failed, writes_do}
 use Rattle.ft_index.proofs.Blaming.{err_of, over_sound}
@@ -48,36 +48,28 @@ twice_is : (o : Option (Bor (List (String Global)))) (none : Bor (List (String G
 twice_is None none is = sym (ap (λ ns. repeats_name (map string_bytes ns)) is)
 twice_is (Some x) none is = refl
 
-pub returns-then-repeats_name-clause-looks : goal.returns-then-repeats_name-clause-looks
-returns-then-repeats_name-clause-looks g c = record {
-  told =
-      let w = c.args.insertion.now in
-      subst (λ (command : Command). PlansTo g.S.Store (map shown_info c.args.tables.now) c.args.store.now c.args.store.now command (Err faults.DuplicateColumn)) (λ i. plain.Insert (string_bytes w.table) (listed_are c.as_deref-listed.result c.args.insertion.now.columns c.as_deref-listed.ensures.value i) (map cells_of w.rows.items))
-      (λ up contents held.
-      let columns = option_map (λ n. map string_bytes n.now) c.as_deref-listed.result in
-      inr (insert_repeats contents (string_bytes w.table) columns (map cells_of w.rows.items) (twice_is c.as_deref-listed.result _ refl ∙ sym (c.repeats_name.ensures ∙ ap (λ (r : Bor (List (String Global))). repeats_name (map string_bytes r.now)) c.unwrap_or.ensures) ∙ c.if-repeats_name.true)));
-  only = search rules;
-  live = search rules;
-}
+pub returns-then-repeats_name-clause-told : goal.returns-then-repeats_name-clause-told
+returns-then-repeats_name-clause-told g c =
+    let w = c.args.insertion.now in
+    subst (λ (command : Command). PlansTo g.S.Store (map shown_info c.args.tables.now) c.args.store.now c.args.store.now command (Err faults.DuplicateColumn)) (λ i. plain.Insert (string_bytes w.table) (listed_are c.as_deref-listed.result c.args.insertion.now.columns c.as_deref-listed.ensures.value i) (map cells_of w.rows.items))
+    (λ up contents held.
+    let columns = option_map (λ n. map string_bytes n.now) c.as_deref-listed.result in
+    inr (insert_repeats contents (string_bytes w.table) columns (map cells_of w.rows.items) (twice_is c.as_deref-listed.result _ refl ∙ sym (c.repeats_name.ensures ∙ ap (λ (r : Bor (List (String Global))). repeats_name (map string_bytes r.now)) c.unwrap_or.ensures) ∙ c.if-repeats_name.true)))
 
-pub returns-in_err-table-clause-looks : goal.returns-in_err-table-clause-looks
-returns-in_err-table-clause-looks g c = record {
-  told =
-      subst (λ (command : Command). WritesIn g.S.Store (map shown_info c.args.tables.now) c.args.store.now c.args.store.now command c.from_residual.result) (λ i. plain.Insert (c.as_str.ensures.value i) (listed_are c.as_deref-listed.result c.args.insertion.now.columns c.as_deref-listed.ensures.value i) (map cells_of (c.args.insertion.now.rows.items)))
-      (
-      let columns = option_map (λ n. map string_bytes n.now) c.as_deref-listed.result in
-      let rows = map cells_of c.args.insertion.now.rows.items in
-      let tables = map shown_info c.args.tables.now in
-      let fault : Fault = c.in_err-table.field-0.0 in
-      let is : c.from_residual.result ≡ Err fault = search rules in
-      let unfit : IsUnfit tables c.as_str.result.now fault = c.in_err-table.ensures in
-      let apart = twice_is c.as_deref-listed.result _ refl ∙ sym (c.repeats_name.ensures ∙ ap (λ (r : Bor (List (String Global))). repeats_name (map string_bytes r.now)) c.unwrap_or.ensures) ∙ c.if-repeats_name.false in
-      let command = plain.Insert c.as_str.result.now columns rows in
-      subst (λ (r : Result Written Fault). WritesIn g.S.Store tables c.args.store.now c.args.store.now command r) (sym is)
-      (plans_unfit g.S.Store command c.as_str.result.now (λ table content. due columns rows content) (made columns rows) (news columns rows) (is_write columns rows c.as_str.result.now apart) c.args.store.now c.args.store.now tables fault unfit));
-  only = search rules;
-  live = search rules;
-}
+pub returns-in_err-table-clause-told : goal.returns-in_err-table-clause-told
+returns-in_err-table-clause-told g c =
+    subst (λ (command : Command). WritesIn g.S.Store (map shown_info c.args.tables.now) c.args.store.now c.args.store.now command c.from_residual.result) (λ i. plain.Insert (c.as_str.ensures.value i) (listed_are c.as_deref-listed.result c.args.insertion.now.columns c.as_deref-listed.ensures.value i) (map cells_of (c.args.insertion.now.rows.items)))
+    (
+    let columns = option_map (λ n. map string_bytes n.now) c.as_deref-listed.result in
+    let rows = map cells_of c.args.insertion.now.rows.items in
+    let tables = map shown_info c.args.tables.now in
+    let fault : Fault = c.in_err-table.field-0.0 in
+    let is : c.from_residual.result ≡ Err fault = search rules in
+    let unfit : IsUnfit tables c.as_str.result.now fault = c.in_err-table.ensures in
+    let apart = twice_is c.as_deref-listed.result _ refl ∙ sym (c.repeats_name.ensures ∙ ap (λ (r : Bor (List (String Global))). repeats_name (map string_bytes r.now)) c.unwrap_or.ensures) ∙ c.if-repeats_name.false in
+    let command = plain.Insert c.as_str.result.now columns rows in
+    subst (λ (r : Result Written Fault). WritesIn g.S.Store tables c.args.store.now c.args.store.now command r) (sym is)
+    (plans_unfit g.S.Store command c.as_str.result.now (λ table content. due columns rows content) (made columns rows) (news columns rows) (is_write columns rows c.as_str.result.now apart) c.args.store.now c.args.store.now tables fault unfit))
 
 -- a fault of the table, or one from outside
 fails : {S : Type 0} (g : Ghosts S) (w : Insertion) (listed : Option (Bor (List (String Global)))) (none : Bor (List (String Global))) (rows : List (Vec Value Global)) (info : RustTableInfo) (tables : List TableInfo) (old new : StoreState S) → AreInOrder (value_in g old) →
@@ -92,43 +84,27 @@ fails g w listed none rows info tables old new order same are is_none apart text
     subst (λ (x : Command). WritesIn g tables old new x found) (λ i. plain.Insert name (listed_are listed w.columns same i) (map cells_of (are i)))
     (plans_failed g (plain.Insert name columns cells) name (λ table content. due columns cells content) (made columns cells) (news columns cells) (is_write columns cells name (twice_is listed none is_none ∙ apart)) old new tables (shown_info info) order (subst (λ n. IsSoundNamed tables n (shown_info info)) is named) fault found failed writes)
 
-pub returns-in_err-names-clause-looks : goal.returns-in_err-names-clause-looks
-returns-in_err-names-clause-looks g c = record {
-  told = fails g.S.Store c.args.insertion.now c.as_deref-listed.result _ c.args.insertion.now.rows.items c.in_ok-table.table.now (map shown_info c.args.tables.now) c.args.store.now c.args.store.now c.is_in_order.ensures.order c.as_deref-listed.ensures.value refl refl (sym (c.repeats_name.ensures ∙ ap (λ (r : Bor (List (String Global))). repeats_name (map string_bytes r.now)) c.unwrap_or.ensures) ∙ c.if-repeats_name.false) _ c.as_str.ensures.value c.in_ok-table.ensures faults.Memory c.from_residual-in_err-names.result (search rules) (λ content has.
-      inl (inr refl));
-  only = search rules;
-  live = search rules;
-}
+pub returns-in_err-names-clause-told : goal.returns-in_err-names-clause-told
+returns-in_err-names-clause-told g c = fails g.S.Store c.args.insertion.now c.as_deref-listed.result _ c.args.insertion.now.rows.items c.in_ok-table.table.now (map shown_info c.args.tables.now) c.args.store.now c.args.store.now c.is_in_order.ensures.order c.as_deref-listed.ensures.value refl refl (sym (c.repeats_name.ensures ∙ ap (λ (r : Bor (List (String Global))). repeats_name (map string_bytes r.now)) c.unwrap_or.ensures) ∙ c.if-repeats_name.false) _ c.as_str.ensures.value c.in_ok-table.ensures faults.Memory c.from_residual-in_err-names.result (search rules) (λ content has.
+    inl (inr refl))
 
-pub returns-in-Some-clause-looks : goal.returns-in-Some-clause-looks
-returns-in-Some-clause-looks g c = record {
-  told = fails g.S.Store c.args.insertion.now c.as_deref-listed.result _ c.as_slice-rows.result.now c.in_ok-table.table.now (map shown_info c.args.tables.now) c.args.store.now c.args.store.now c.is_in_order.ensures.order c.as_deref-listed.ensures.value c.as_slice-rows.ensures.value refl (sym (c.repeats_name.ensures ∙ ap (λ (r : Bor (List (String Global))). repeats_name (map string_bytes r.now)) c.unwrap_or.ensures) ∙ c.if-repeats_name.false) _ c.as_str.ensures.value c.in_ok-table.ensures c.in-Some.fault (Err c.in-Some.fault) refl (λ content has.
-      let columns = option_map (λ n. map string_bytes n.now) c.as_deref-listed.result in
-      let rows = map cells_of c.as_slice-rows.result.now in
-      let names = map (λ n. n.now) c.as_slice-names.result.now in
-      let cols = c.as_slice-columns.result.now in
-      let columns_are : content.columns ≡ map column_of cols = has.columns_are ∙ ap (map column_of) (sym c.as_slice-columns.ensures.value) in
-      let those : names ≡ listed_columns (bare_content cols) columns = search rules in
-      inr (tested_writes columns rows content c.in-Some.fault (tests_are columns rows content cols names (Some c.in-Some.fault) columns_are those (search rules))));
-  only = search rules;
-  live = search rules;
-}
+pub returns-in-Some-clause-told : goal.returns-in-Some-clause-told
+returns-in-Some-clause-told g c = fails g.S.Store c.args.insertion.now c.as_deref-listed.result _ c.as_slice-rows.result.now c.in_ok-table.table.now (map shown_info c.args.tables.now) c.args.store.now c.args.store.now c.is_in_order.ensures.order c.as_deref-listed.ensures.value c.as_slice-rows.ensures.value refl (sym (c.repeats_name.ensures ∙ ap (λ (r : Bor (List (String Global))). repeats_name (map string_bytes r.now)) c.unwrap_or.ensures) ∙ c.if-repeats_name.false) _ c.as_str.ensures.value c.in_ok-table.ensures c.in-Some.fault (Err c.in-Some.fault) refl (λ content has.
+    let columns = option_map (λ n. map string_bytes n.now) c.as_deref-listed.result in
+    let rows = map cells_of c.as_slice-rows.result.now in
+    let names = map (λ n. n.now) c.as_slice-names.result.now in
+    let cols = c.as_slice-columns.result.now in
+    let columns_are : content.columns ≡ map column_of cols = has.columns_are ∙ ap (map column_of) (sym c.as_slice-columns.ensures.value) in
+    let those : names ≡ listed_columns (bare_content cols) columns = search rules in
+    inr (tested_writes columns rows content c.in-Some.fault (tests_are columns rows content cols names (Some c.in-Some.fault) columns_are those (search rules))))
 
-pub returns-in_err-last-clause-looks : goal.returns-in_err-last-clause-looks
-returns-in_err-last-clause-looks g c = record {
-  told = fails g.S.Store c.args.insertion.now c.as_deref-listed.result _ c.as_slice-rows.result.now c.in_ok-table.table.now (map shown_info c.args.tables.now) c.args.store.now c.last_docid.new.self c.is_in_order.ensures.order c.as_deref-listed.ensures.value c.as_slice-rows.ensures.value refl (sym (c.repeats_name.ensures ∙ ap (λ (r : Bor (List (String Global))). repeats_name (map string_bytes r.now)) c.unwrap_or.ensures) ∙ c.if-repeats_name.false) _ c.as_str.ensures.value c.in_ok-table.ensures (fault_of_read c.in_err-last.field-0.0) c.from_residual-in_err-last.result (search rules) (λ content has.
-      inl (outside_of c.in_err-last.field-0.0));
-  only = search rules;
-  live = search rules;
-}
+pub returns-in_err-last-clause-told : goal.returns-in_err-last-clause-told
+returns-in_err-last-clause-told g c = fails g.S.Store c.args.insertion.now c.as_deref-listed.result _ c.as_slice-rows.result.now c.in_ok-table.table.now (map shown_info c.args.tables.now) c.args.store.now c.last_docid.new.self c.is_in_order.ensures.order c.as_deref-listed.ensures.value c.as_slice-rows.ensures.value refl (sym (c.repeats_name.ensures ∙ ap (λ (r : Bor (List (String Global))). repeats_name (map string_bytes r.now)) c.unwrap_or.ensures) ∙ c.if-repeats_name.false) _ c.as_str.ensures.value c.in_ok-table.ensures (fault_of_read c.in_err-last.field-0.0) c.from_residual-in_err-last.result (search rules) (λ content has.
+    inl (outside_of c.in_err-last.field-0.0))
 
-pub returns-in_err-stored-clause-looks : goal.returns-in_err-stored-clause-looks
-returns-in_err-stored-clause-looks g c = record {
-  told = fails g.S.Store c.args.insertion.now c.as_deref-listed.result _ c.as_slice-rows.result.now c.in_ok-table.table.now (map shown_info c.args.tables.now) c.args.store.now c.stored_docids.new.store c.is_in_order.ensures.order c.as_deref-listed.ensures.value c.as_slice-rows.ensures.value refl (sym (c.repeats_name.ensures ∙ ap (λ (r : Bor (List (String Global))). repeats_name (map string_bytes r.now)) c.unwrap_or.ensures) ∙ c.if-repeats_name.false) _ c.as_str.ensures.value c.in_ok-table.ensures c.in_err-stored.field-0.0 c.from_residual-in_err-stored.result (search rules) (λ content has.
-      inl c.in_err-stored.ensures.faults);
-  only = search rules;
-  live = search rules;
-}
+pub returns-in_err-stored-clause-told : goal.returns-in_err-stored-clause-told
+returns-in_err-stored-clause-told g c = fails g.S.Store c.args.insertion.now c.as_deref-listed.result _ c.as_slice-rows.result.now c.in_ok-table.table.now (map shown_info c.args.tables.now) c.args.store.now c.stored_docids.new.store c.is_in_order.ensures.order c.as_deref-listed.ensures.value c.as_slice-rows.ensures.value refl (sym (c.repeats_name.ensures ∙ ap (λ (r : Bor (List (String Global))). repeats_name (map string_bytes r.now)) c.unwrap_or.ensures) ∙ c.if-repeats_name.false) _ c.as_str.ensures.value c.in_ok-table.ensures c.in_err-stored.field-0.0 c.from_residual-in_err-stored.result (search rules) (λ content has.
+    inl c.in_err-stored.ensures.faults)
 
 -- the last docid and the docids that are given, as they are read
 known_in : (g : _) (c : After-made_documents g) (content : Content) → HasAll g.S.Store c.in_ok-table.table.now.id (string_bytes c.in_ok-table.table.now.name) (map column_of c.in_ok-table.table.now.columns.items) c.args.store.now c.stored_docids.new.store content →
@@ -136,78 +112,73 @@ known_in : (g : _) (c : After-made_documents g) (content : Content) → HasAll g
 known_in g c content has =
     let info : RustTableInfo = c.in_ok-table.table.now in
     let names = map (λ n. n.now) c.as_slice-names.result.now in
-    let old = value_in g.S.Store c.args.store.now in
     let tab = to_z w64 (of_z w64 info.id) in
     let fits : FitsSigned w64 info.id = search rules in
     let live = c.in_ok-last.ensures.read.live in
-    let looks = c.in_ok-stored.ensures.looks live in
-    let clean : HasCleanDisk (shows g.S.Store c.last_docid.new.self) = omega (arith, looks.survives.clean, has.clean) in
-    let is_open = (looks.kept has.clean has.is_open).2 in
-    let same : value_in g.S.Store c.last_docid.new.self ≡ old = ap (λ (d : Database). value_of d.trees) (c.in_ok-last.ensures.read.kept clean is_open).0 in
-    let held : table_rows tab old ≡ content_rows content = ap (λ (k : ℤ). table_rows k old) (to_z-of_z fits) ∙ has.has.rows in
-    let stored = c.in_ok-stored.ensures.found live content (record { clean = has.clean; is_open = has.is_open; name = string_bytes info.name; is_content = has.has.is_content; rows = ap (table_rows tab) same ∙ held }) in (
-      last_read tab old (string_bytes info.name) content has.has.is_content held ∙ sym (c.in_ok-last.ensures.last clean),
+    let old = c.args.store.now in
+    let mid = c.last_docid.new.self in
+    let new = c.stored_docids.new.store in
+    let one : Looks g.S.Store old mid = record { kept = c.in_ok-last.ensures.read.kept; survives = c.in_ok-last.ensures.read.survives } in
+    let two = c.in_ok-stored.ensures.looks live in
+    let rows = rows_of g.S.Store tab info.id (to_z-of_z fits) (string_bytes info.name) (map column_of info.columns.items) old new content has in
+    let first = rows_first g.S.Store old mid new one two tab content rows in
+    let stored = c.in_ok-stored.ensures.found live content (rows_then g.S.Store old mid new one two tab content rows) in (
+      last_read tab (value_in g.S.Store old) first.name content first.is_content first.rows ∙ sym (c.in_ok-last.ensures.last first.clean),
       subst (AreKnown content.documents (map (zip names) (map cells_of c.as_slice-rows.result.now))) (sym (c.as_slice.ensures.value ∙ stored)) (known_from content.documents names cells_of c.as_slice-rows.result.now),
     )
 
-pub returns-in_err-new-clause-looks : goal.returns-in_err-new-clause-looks
-returns-in_err-new-clause-looks g c = record {
-  told = fails g.S.Store c.args.insertion.now c.as_deref-listed.result _ c.as_slice-rows.result.now c.in_ok-table.table.now (map shown_info c.args.tables.now) c.args.store.now c.stored_docids.new.store c.is_in_order.ensures.order c.as_deref-listed.ensures.value c.as_slice-rows.ensures.value refl (sym (c.repeats_name.ensures ∙ ap (λ (r : Bor (List (String Global))). repeats_name (map string_bytes r.now)) c.unwrap_or.ensures) ∙ c.if-repeats_name.false) _ c.as_str.ensures.value c.in_ok-table.ensures c.in_err-new.field-0.0 c.from_residual-in_err-new.result (search rules) (λ content has.
-      let columns = option_map (λ n. map string_bytes n.now) c.as_deref-listed.result in
-      let rows = map cells_of c.as_slice-rows.result.now in
-      let info : RustTableInfo = c.in_ok-table.table.now in
-      let fault : Fault = c.in_err-new.field-0.0 in
-      let names = map (λ n. n.now) c.as_slice-names.result.now in
-      let cols = c.as_slice-columns.result.now in
-      let columns_are : content.columns ≡ map column_of cols = has.columns_are ∙ ap (map column_of) (sym c.as_slice-columns.ensures.value) in
-      let those : names ≡ listed_columns (bare_content cols) columns = search rules in
-      let values = map (zip names) rows in
-      let tested = tests_are columns rows content cols names None columns_are those (search rules) in
-      let known = known_in g (goal.at.returns-in_err-new-clause-looks g c).After-made_documents content has in
-      let made_of : Inserts content.documents (inserted_rows (map column_of cols) values content.documents) (Err fault) =
-      elim (c.in_err-new.ensures content.documents has.has.is_content.rising known.0 known.1) [ inl memory ↦ inl (inr memory) | inr failed ↦ inr failed ] in
-      writes columns rows (string_bytes info.name) content (Err fault) has.has.is_content tested (rows_are columns rows content cols names (Err fault) columns_are those made_of));
-  only = search rules;
-  live = search rules;
-}
+pub returns-in_err-new-clause-told : goal.returns-in_err-new-clause-told
+returns-in_err-new-clause-told g c = fails g.S.Store c.args.insertion.now c.as_deref-listed.result _ c.as_slice-rows.result.now c.in_ok-table.table.now (map shown_info c.args.tables.now) c.args.store.now c.stored_docids.new.store c.is_in_order.ensures.order c.as_deref-listed.ensures.value c.as_slice-rows.ensures.value refl (sym (c.repeats_name.ensures ∙ ap (λ (r : Bor (List (String Global))). repeats_name (map string_bytes r.now)) c.unwrap_or.ensures) ∙ c.if-repeats_name.false) _ c.as_str.ensures.value c.in_ok-table.ensures c.in_err-new.field-0.0 c.from_residual-in_err-new.result (search rules) (λ content has.
+    let columns = option_map (λ n. map string_bytes n.now) c.as_deref-listed.result in
+    let rows = map cells_of c.as_slice-rows.result.now in
+    let info : RustTableInfo = c.in_ok-table.table.now in
+    let fault : Fault = c.in_err-new.field-0.0 in
+    let names = map (λ n. n.now) c.as_slice-names.result.now in
+    let cols = c.as_slice-columns.result.now in
+    let columns_are : content.columns ≡ map column_of cols = has.columns_are ∙ ap (map column_of) (sym c.as_slice-columns.ensures.value) in
+    let those : names ≡ listed_columns (bare_content cols) columns = search rules in
+    let values = map (zip names) rows in
+    let tested = tests_are columns rows content cols names None columns_are those (search rules) in
+    let known = known_in g (goal.at.returns-in_err-new-clause-told g c).After-made_documents content has in
+    let made_of : Inserts content.documents (inserted_rows (map column_of cols) values content.documents) (Err fault) =
+    elim (c.in_err-new.ensures content.documents has.has.is_content.rising known.0 known.1) [ inl memory ↦ inl (inr memory) | inr failed ↦ inr failed ] in
+    writes columns rows (string_bytes info.name) content (Err fault) has.has.is_content tested (rows_are columns rows content cols names (Err fault) columns_are those made_of))
+
+pub returns-in_err-rewrites-clause-told : goal.returns-in_err-rewrites-clause-told
+returns-in_err-rewrites-clause-told g c = fails g.S.Store c.args.insertion.now c.as_deref-listed.result _ c.as_slice-rows.result.now c.in_ok-table.table.now (map shown_info c.args.tables.now) c.args.store.now c.stored_docids.new.store c.is_in_order.ensures.order c.as_deref-listed.ensures.value c.as_slice-rows.ensures.value refl (sym (c.repeats_name.ensures ∙ ap (λ (r : Bor (List (String Global))). repeats_name (map string_bytes r.now)) c.unwrap_or.ensures) ∙ c.if-repeats_name.false) _ c.as_str.ensures.value c.in_ok-table.ensures faults.Memory c.from_residual-in_err-rewrites.result (search rules) (λ content has.
+    inl (inr refl))
 
 pub returns-in_err-rewrites-clause-looks : goal.returns-in_err-rewrites-clause-looks
-returns-in_err-rewrites-clause-looks g c = record {
-  told = fails g.S.Store c.args.insertion.now c.as_deref-listed.result _ c.as_slice-rows.result.now c.in_ok-table.table.now (map shown_info c.args.tables.now) c.args.store.now c.stored_docids.new.store c.is_in_order.ensures.order c.as_deref-listed.ensures.value c.as_slice-rows.ensures.value refl (sym (c.repeats_name.ensures ∙ ap (λ (r : Bor (List (String Global))). repeats_name (map string_bytes r.now)) c.unwrap_or.ensures) ∙ c.if-repeats_name.false) _ c.as_str.ensures.value c.in_ok-table.ensures faults.Memory c.from_residual-in_err-rewrites.result (search rules) (λ content has.
-      inl (inr refl));
-  only = search rules;
-  live = search rules;
-}
+returns-in_err-rewrites-clause-looks g c = record { only = search rules; live = search rules }
+
+pub returns-clause-told : goal.returns-clause-told
+returns-clause-told g c =
+    let w = c.args.insertion.now in
+    let columns = option_map (λ n. map string_bytes n.now) c.as_deref-listed.result in
+    let rows = map cells_of c.as_slice-rows.result.now in
+    let name = string_bytes w.table in
+    let tables = map shown_info c.args.tables.now in
+    let info : RustTableInfo = c.in_ok-table.table.now in
+    let named : IsSoundNamed tables name (shown_info info) = subst (λ n. IsSoundNamed tables n (shown_info info)) c.as_str.ensures.value c.in_ok-table.ensures in
+    let apart = twice_is c.as_deref-listed.result _ refl ∙ sym (c.repeats_name.ensures ∙ ap (λ (r : Bor (List (String Global))). repeats_name (map string_bytes r.now)) c.unwrap_or.ensures) ∙ c.if-repeats_name.false in
+    let command = plain.Insert name columns rows in
+    let rewrites = c.in_ok-rewrites.rewrites in
+    let written : Written = record { table = c.in_ok-table.table; rewrites = rewrites } in
+    subst (λ (x : Command). WritesIn g.S.Store tables c.args.store.now c.stored_docids.new.store x (Ok written)) (λ i. plain.Insert name (listed_are c.as_deref-listed.result w.columns c.as_deref-listed.ensures.value i) (map cells_of (c.as_slice-rows.ensures.value i)))
+    (writes_do g.S.Store command name (λ table content. due columns rows content) (made columns rows) (news columns rows) (is_write columns rows name apart) c.args.store.now c.stored_docids.new.store tables written c.is_in_order.ensures.order named (λ content has.
+    let names = map (λ n. n.now) c.as_slice-names.result.now in
+    let cols = c.as_slice-columns.result.now in
+    let columns_are : content.columns ≡ map column_of cols = has.columns_are ∙ ap (map column_of) (sym c.as_slice-columns.ensures.value) in
+    let those : names ≡ listed_columns (bare_content cols) columns = search rules in
+    let values = map (zip names) rows in
+    let tested = tests_are columns rows content cols names None columns_are those (search rules) in
+    let known = known_in g (goal.at.returns-clause-told g c).After-made_documents content has in
+    let new = c.in_ok-new.ensures content.documents has.has.is_content.rising known.0 known.1 in
+    let made_of = new_are_inserts content.documents c.in_ok-new.new (map shown_rewrite rewrites.items) (inserted_rows (map column_of cols) values content.documents) c.in_ok-rewrites.ensures new.0 new.1 in
+    writes columns rows (string_bytes info.name) content (Ok rewrites) has.has.is_content tested (rows_are columns rows content cols names (Ok rewrites) columns_are those made_of)))
 
 pub returns-clause-looks : goal.returns-clause-looks
-returns-clause-looks g c = record {
-  told =
-      let w = c.args.insertion.now in
-      let columns = option_map (λ n. map string_bytes n.now) c.as_deref-listed.result in
-      let rows = map cells_of c.as_slice-rows.result.now in
-      let name = string_bytes w.table in
-      let tables = map shown_info c.args.tables.now in
-      let info : RustTableInfo = c.in_ok-table.table.now in
-      let named : IsSoundNamed tables name (shown_info info) = subst (λ n. IsSoundNamed tables n (shown_info info)) c.as_str.ensures.value c.in_ok-table.ensures in
-      let apart = twice_is c.as_deref-listed.result _ refl ∙ sym (c.repeats_name.ensures ∙ ap (λ (r : Bor (List (String Global))). repeats_name (map string_bytes r.now)) c.unwrap_or.ensures) ∙ c.if-repeats_name.false in
-      let command = plain.Insert name columns rows in
-      let rewrites = c.in_ok-rewrites.rewrites in
-      let written : Written = record { table = c.in_ok-table.table; rewrites = rewrites } in
-      subst (λ (x : Command). WritesIn g.S.Store tables c.args.store.now c.stored_docids.new.store x (Ok written)) (λ i. plain.Insert name (listed_are c.as_deref-listed.result w.columns c.as_deref-listed.ensures.value i) (map cells_of (c.as_slice-rows.ensures.value i)))
-      (writes_do g.S.Store command name (λ table content. due columns rows content) (made columns rows) (news columns rows) (is_write columns rows name apart) c.args.store.now c.stored_docids.new.store tables written c.is_in_order.ensures.order named (λ content has.
-      let names = map (λ n. n.now) c.as_slice-names.result.now in
-      let cols = c.as_slice-columns.result.now in
-      let columns_are : content.columns ≡ map column_of cols = has.columns_are ∙ ap (map column_of) (sym c.as_slice-columns.ensures.value) in
-      let those : names ≡ listed_columns (bare_content cols) columns = search rules in
-      let values = map (zip names) rows in
-      let tested = tests_are columns rows content cols names None columns_are those (search rules) in
-      let known = known_in g (goal.at.returns-clause-looks g c).After-made_documents content has in
-      let new = c.in_ok-new.ensures content.documents has.has.is_content.rising known.0 known.1 in
-      let made_of = new_are_inserts content.documents c.in_ok-new.new (map shown_rewrite rewrites.items) (inserted_rows (map column_of cols) values content.documents) c.in_ok-rewrites.ensures new.0 new.1 in
-      writes columns rows (string_bytes info.name) content (Ok rewrites) has.has.is_content tested (rows_are columns rows content cols names (Ok rewrites) columns_are those made_of)));
-  only = search rules;
-  live = search rules;
-}
+returns-clause-looks g c = record { only = search rules; live = search rules }
 
 pub returns-in_err-new-clause-refused : goal.returns-in_err-new-clause-refused
 returns-in_err-new-clause-refused g c = λ contents held clean told.

@@ -1,5 +1,6 @@
 -- by the table, the tests, the documents that are chosen, and where one may go
 use Rattle.std.proofs.Common.{rules, ℕ, String, Bool, false, ◌≡◌, ◌≢◌, inl, inr, ℤ, List, map, string_bytes, option_map, Ok, Err, Some, None, Result, Vec, Global, refl, sym, ap, subst, ◌∙◌, to_z-of_z, to_z, of_z, w64, FitsSigned}
+use Rattle.sqlite_keyed.proofs.ListLemmas.{map-map}
 use Rattle.std.specs.Prelude.{slice_get, IfOk, IfSome}
 use Rattle.std.specs.declared.alloc.AllocError.{AllocError}
 use Rattle.std.proofs.lemmas.Iterator.{YieldsList-from_map, YieldsList-from_slice, items_from_collect}
@@ -26,49 +27,42 @@ use Rattle.ft_documents.specs.Gathered.{shown_document}
 use Rattle.ft_documents.specs.Rewrite.{shown_rewrite}
 use Rattle.ft_documents.specs.Updated.{changing, MayMove}
 use Rattle.ft_documents.specs.Chosen.{ReadsFilterAs}
-use Rattle.ft_documents.proofs.BareLemmas.{reads_bare}
 use Rattle.ft_documents.proofs.InsertRows.{given_is}
 use Rattle.ft_index.specs.declared.written.Written.{Written}
 use Rattle.ft_index.specs.Written.{HasAll, WritesDocuments, PlansTo, WritesIn}
 use Rattle.ft_index.proofs.LookLemmas.{looks_then, rows_first, rows_then, index_first}
 use Rattle.ft_index.proofs.Planning.{plans_unfit, plans_failed, writes_do}
+use Rattle.ft_index.proofs.SelectAnswers.{reads_bare}
 use Rattle.ft_index.proofs.WholeReads.{rows_of, index_of}
 use Rattle.ft_index.proofs.UpdateDue.{due, made, touches, is_write, repeats_due, tested_due, text_due, moves_due}
-use Rattle.ft_index.proofs.UpdateWrites.{docids_shown, leads}
+use Rattle.ft_index.proofs.UpdateWrites.{leads}
 use Rattle.ft_index.proofs.Blaming.{err_of, over_sound, has_at}
 use Rattle.ft_index.proofs.NoStore.{moved_other}
 use Rattle.ft_index.proofs.written.update_written.Goals as goal
+use Rattle.ft_index.proofs.written.update_written.Goals.{After-chosen_documents, After-moves_fault}
 
-pub returns-then-repeats_set-clause-looks : goal.returns-then-repeats_set-clause-looks
-returns-then-repeats_set-clause-looks g c = record {
-  told =
-      subst (λ (command : Command). PlansTo g.S.Store (map shown_info c.args.tables.now) c.args.store.now c.args.store.now command (Err faults.DuplicateColumn)) (λ i. plain.Update (string_bytes c.args.modification.now.table) (map set_of (c.as_slice-sets.ensures.value i)) (filter_of c.args.modification.now.filter))
-      (λ up contents held.
-      let sets = map set_of c.as_slice-sets.result.now in
-      let f = filter_of c.args.modification.now.filter in
-      inr (repeats_due sets f (string_bytes c.args.modification.now.table) contents (sym c.repeats_set.ensures ∙ c.if-repeats_set.true)));
-  only = search rules;
-  live = search rules;
-}
+pub returns-then-repeats_set-clause-told : goal.returns-then-repeats_set-clause-told
+returns-then-repeats_set-clause-told g c =
+    subst (λ (command : Command). PlansTo g.S.Store (map shown_info c.args.tables.now) c.args.store.now c.args.store.now command (Err faults.DuplicateColumn)) (λ i. plain.Update (string_bytes c.args.modification.now.table) (map set_of (c.as_slice-sets.ensures.value i)) (filter_of c.args.modification.now.filter))
+    (λ up contents held.
+    let sets = map set_of c.as_slice-sets.result.now in
+    let f = filter_of c.args.modification.now.filter in
+    inr (repeats_due sets f (string_bytes c.args.modification.now.table) contents (sym c.repeats_set.ensures ∙ c.if-repeats_set.true)))
 
-pub returns-in_err-table-clause-looks : goal.returns-in_err-table-clause-looks
-returns-in_err-table-clause-looks g c = record {
-  told =
-      subst (λ (command : Command). WritesIn g.S.Store (map shown_info c.args.tables.now) c.args.store.now c.args.store.now command c.from_residual.result) (λ i. plain.Update (c.as_str.ensures.value i) (map set_of (c.as_slice-sets.ensures.value i)) (filter_of c.args.modification.now.filter))
-      (
-      let sets = map set_of c.as_slice-sets.result.now in
-      let f = filter_of c.args.modification.now.filter in
-      let tables = map shown_info c.args.tables.now in
-      let fault : Fault = c.in_err-table.field-0.0 in
-      let is : c.from_residual.result ≡ Err fault = search rules in
-      let unfit : IsUnfit tables c.as_str.result.now fault = c.in_err-table.ensures in
-      let apart = sym c.repeats_set.ensures ∙ c.if-repeats_set.false in
-      let command = plain.Update c.as_str.result.now sets f in
-      subst (λ (r : Result Written Fault). WritesIn g.S.Store tables c.args.store.now c.args.store.now command r) (sym is)
-      (plans_unfit g.S.Store command c.as_str.result.now (due sets f) (made sets f) (touches sets f) (is_write sets f c.as_str.result.now apart) c.args.store.now c.args.store.now tables fault unfit));
-  only = search rules;
-  live = search rules;
-}
+pub returns-in_err-table-clause-told : goal.returns-in_err-table-clause-told
+returns-in_err-table-clause-told g c =
+    subst (λ (command : Command). WritesIn g.S.Store (map shown_info c.args.tables.now) c.args.store.now c.args.store.now command c.from_residual.result) (λ i. plain.Update (c.as_str.ensures.value i) (map set_of (c.as_slice-sets.ensures.value i)) (filter_of c.args.modification.now.filter))
+    (
+    let sets = map set_of c.as_slice-sets.result.now in
+    let f = filter_of c.args.modification.now.filter in
+    let tables = map shown_info c.args.tables.now in
+    let fault : Fault = c.in_err-table.field-0.0 in
+    let is : c.from_residual.result ≡ Err fault = search rules in
+    let unfit : IsUnfit tables c.as_str.result.now fault = c.in_err-table.ensures in
+    let apart = sym c.repeats_set.ensures ∙ c.if-repeats_set.false in
+    let command = plain.Update c.as_str.result.now sets f in
+    subst (λ (r : Result Written Fault). WritesIn g.S.Store tables c.args.store.now c.args.store.now command r) (sym is)
+    (plans_unfit g.S.Store command c.as_str.result.now (due sets f) (made sets f) (touches sets f) (is_write sets f c.as_str.result.now apart) c.args.store.now c.args.store.now tables fault unfit))
 
 -- a fault of the table, or one from outside
 fails : {S : Type 0} (g : Ghosts S) (w : Modification) (sets : List (String Global × Value)) (info : RustTableInfo) (tables : List TableInfo) (old new : StoreState S) → AreInOrder (value_in g old) → sets ≡ w.sets.items → repeats_name (map (λ (s : List ℕ × Cell). s.0) (map set_of sets)) ≡ false →
@@ -82,177 +76,138 @@ fails g w sets info tables old new order same apart text is named fault found fa
     subst (λ (x : Command). WritesIn g tables old new x found) (λ i. plain.Update name (map set_of (same i)) f)
     (plans_failed g (plain.Update name shown f) name (due shown f) (made shown f) (touches shown f) (is_write shown f name apart) old new tables (shown_info info) order (subst (λ n. IsSoundNamed tables n (shown_info info)) is named) fault found failed writes)
 
-pub returns-in-Some-clause-looks : goal.returns-in-Some-clause-looks
-returns-in-Some-clause-looks g c = record {
-  told = fails g.S.Store c.args.modification.now c.as_slice-sets.result.now c.in_ok-table.table.now (map shown_info c.args.tables.now) c.args.store.now c.args.store.now c.is_in_order.ensures.order c.as_slice-sets.ensures.value (sym c.repeats_set.ensures ∙ c.if-repeats_set.false) _ c.as_str.ensures.value c.in_ok-table.ensures c.in-Some.fault (Err c.in-Some.fault) refl (λ content has.
-      let sets = map set_of c.as_slice-sets.result.now in
-      let f = filter_of c.args.modification.now.filter in
-      let cols = c.as_slice-columns.result.now in
-      let columns_are : content.columns ≡ map column_of cols = has.columns_are ∙ ap (map column_of) (sym c.as_slice-columns.ensures.value) in
-      let table = c.as_str-2.result.now in
-      let tested : update_tests table (bare_content cols) sets f ≡ Some c.in-Some.fault = search rules in
-      inr (subst (λ n. due sets f n content ≡ Some c.in-Some.fault) c.as_str-2.ensures.value (tested_due sets f content cols columns_are table c.in-Some.fault tested)));
-  only = search rules;
-  live = search rules;
-}
+pub returns-in-Some-clause-told : goal.returns-in-Some-clause-told
+returns-in-Some-clause-told g c = fails g.S.Store c.args.modification.now c.as_slice-sets.result.now c.in_ok-table.table.now (map shown_info c.args.tables.now) c.args.store.now c.args.store.now c.is_in_order.ensures.order c.as_slice-sets.ensures.value (sym c.repeats_set.ensures ∙ c.if-repeats_set.false) _ c.as_str.ensures.value c.in_ok-table.ensures c.in-Some.fault (Err c.in-Some.fault) refl (λ content has.
+    let sets = map set_of c.as_slice-sets.result.now in
+    let f = filter_of c.args.modification.now.filter in
+    let cols = c.as_slice-columns.result.now in
+    let columns_are : content.columns ≡ map column_of cols = has.columns_are ∙ ap (map column_of) (sym c.as_slice-columns.ensures.value) in
+    let table = c.as_str-2.result.now in
+    let tested : update_tests table (bare_content cols) sets f ≡ Some c.in-Some.fault = search rules in
+    inr (subst (λ n. due sets f n content ≡ Some c.in-Some.fault) c.as_str-2.ensures.value (tested_due sets f content cols columns_are table c.in-Some.fault tested)))
 
-pub returns-in_err-query-clause-looks : goal.returns-in_err-query-clause-looks
-returns-in_err-query-clause-looks g c = record {
-  told = fails g.S.Store c.args.modification.now c.as_slice-sets.result.now c.in_ok-table.table.now (map shown_info c.args.tables.now) c.args.store.now c.args.store.now c.is_in_order.ensures.order c.as_slice-sets.ensures.value (sym c.repeats_set.ensures ∙ c.if-repeats_set.false) _ c.as_str.ensures.value c.in_ok-table.ensures c.in_err-query.field-0.0 c.from_residual-in_err-query.result (search rules) (λ content has.
-      let sets = map set_of c.as_slice-sets.result.now in
-      let f = filter_of c.args.modification.now.filter in
-      let fault : Fault = c.in_err-query.field-0.0 in
-      let cols = c.as_slice-columns.result.now in
-      let columns_are : content.columns ≡ map column_of cols = has.columns_are ∙ ap (map column_of) (sym c.as_slice-columns.ensures.value) in
-      let table = c.as_str-2.result.now in
-      let tested : update_tests table (bare_content cols) sets f ≡ None = search rules in
-      let refused : fault ≢ faults.Memory → query_fault (bare_content cols) f ≡ Some fault = search rules in
-      subst (λ n. WritesDocuments content (due sets f n content) (made sets f content) (touches sets f content) (Err fault)) c.as_str-2.ensures.value (text_due sets f content cols columns_are table fault tested refused));
-  only = search rules;
-  live = search rules;
-}
+pub returns-in_err-query-clause-told : goal.returns-in_err-query-clause-told
+returns-in_err-query-clause-told g c = fails g.S.Store c.args.modification.now c.as_slice-sets.result.now c.in_ok-table.table.now (map shown_info c.args.tables.now) c.args.store.now c.args.store.now c.is_in_order.ensures.order c.as_slice-sets.ensures.value (sym c.repeats_set.ensures ∙ c.if-repeats_set.false) _ c.as_str.ensures.value c.in_ok-table.ensures c.in_err-query.field-0.0 c.from_residual-in_err-query.result (search rules) (λ content has.
+    let sets = map set_of c.as_slice-sets.result.now in
+    let f = filter_of c.args.modification.now.filter in
+    let fault : Fault = c.in_err-query.field-0.0 in
+    let cols = c.as_slice-columns.result.now in
+    let columns_are : content.columns ≡ map column_of cols = has.columns_are ∙ ap (map column_of) (sym c.as_slice-columns.ensures.value) in
+    let table = c.as_str-2.result.now in
+    let tested : update_tests table (bare_content cols) sets f ≡ None = search rules in
+    let refused : fault ≢ faults.Memory → query_fault (bare_content cols) f ≡ Some fault = search rules in
+    subst (λ n. WritesDocuments content (due sets f n content) (made sets f content) (touches sets f content) (Err fault)) c.as_str-2.ensures.value (text_due sets f content cols columns_are table fault tested refused))
 
-pub returns-in_err-documents-clause-looks : goal.returns-in_err-documents-clause-looks
-returns-in_err-documents-clause-looks g c = record {
-  told = fails g.S.Store c.args.modification.now c.as_slice-sets.result.now c.in_ok-table.table.now (map shown_info c.args.tables.now) c.args.store.now c.chosen_documents.new.store c.is_in_order.ensures.order c.as_slice-sets.ensures.value (sym c.repeats_set.ensures ∙ c.if-repeats_set.false) _ c.as_str.ensures.value c.in_ok-table.ensures c.in_err-documents.field-0.0 c.from_residual-in_err-documents.result (search rules) (λ content has.
-      inl c.in_err-documents.ensures.looks.cause);
-  only = search rules;
-  live = search rules;
-}
+pub returns-in_err-documents-clause-told : goal.returns-in_err-documents-clause-told
+returns-in_err-documents-clause-told g c = fails g.S.Store c.args.modification.now c.as_slice-sets.result.now c.in_ok-table.table.now (map shown_info c.args.tables.now) c.args.store.now c.chosen_documents.new.store c.is_in_order.ensures.order c.as_slice-sets.ensures.value (sym c.repeats_set.ensures ∙ c.if-repeats_set.false) _ c.as_str.ensures.value c.in_ok-table.ensures c.in_err-documents.field-0.0 c.from_residual-in_err-documents.result (search rules) (λ content has.
+    inl c.in_err-documents.ensures.looks.cause)
 
-pub returns-in_err-docids-clause-looks : goal.returns-in_err-docids-clause-looks
-returns-in_err-docids-clause-looks g c = record {
-  told = fails g.S.Store c.args.modification.now c.as_slice-sets.result.now c.in_ok-table.table.now (map shown_info c.args.tables.now) c.args.store.now c.chosen_documents.new.store c.is_in_order.ensures.order c.as_slice-sets.ensures.value (sym c.repeats_set.ensures ∙ c.if-repeats_set.false) _ c.as_str.ensures.value c.in_ok-table.ensures faults.Memory c.from_residual-in_err-docids.result (search rules) (λ content has.
-      inl (inr refl));
-  only = search rules;
-  live = search rules;
-}
+pub returns-in_err-docids-clause-told : goal.returns-in_err-docids-clause-told
+returns-in_err-docids-clause-told g c = fails g.S.Store c.args.modification.now c.as_slice-sets.result.now c.in_ok-table.table.now (map shown_info c.args.tables.now) c.args.store.now c.chosen_documents.new.store c.is_in_order.ensures.order c.as_slice-sets.ensures.value (sym c.repeats_set.ensures ∙ c.if-repeats_set.false) _ c.as_str.ensures.value c.in_ok-table.ensures faults.Memory c.from_residual-in_err-docids.result (search rules) (λ content has.
+    inl (inr refl))
+
+pub returns-in_err-is_taken-clause-told : goal.returns-in_err-is_taken-clause-told
+returns-in_err-is_taken-clause-told g c = fails g.S.Store c.args.modification.now c.as_slice-sets.result.now c.in_ok-table.table.now (map shown_info c.args.tables.now) c.args.store.now c.has_document.new.store c.is_in_order.ensures.order c.as_slice-sets.ensures.value (sym c.repeats_set.ensures ∙ c.if-repeats_set.false) _ c.as_str.ensures.value c.in_ok-table.ensures c.in_err-is_taken.field-0.0 c.from_residual-in_err-is_taken.result (search rules) (λ content has.
+    inl c.in_err-is_taken.ensures.faults)
 
 pub returns-in_err-is_taken-clause-looks : goal.returns-in_err-is_taken-clause-looks
-returns-in_err-is_taken-clause-looks g c = record {
-  told = fails g.S.Store c.args.modification.now c.as_slice-sets.result.now c.in_ok-table.table.now (map shown_info c.args.tables.now) c.args.store.now c.has_document.new.store c.is_in_order.ensures.order c.as_slice-sets.ensures.value (sym c.repeats_set.ensures ∙ c.if-repeats_set.false) _ c.as_str.ensures.value c.in_ok-table.ensures c.in_err-is_taken.field-0.0 c.from_residual-in_err-is_taken.result (search rules) (λ content has.
-      inl c.in_err-is_taken.ensures.faults);
-  only = looks_then g.S.Store c.args.store.now c.chosen_documents.new.store c.has_document.new.store c.in_ok-documents.ensures.looks.only c.has_document.ensures.looks c.in_ok-documents.ensures.looks.live;
-  live = search rules;
-}
+returns-in_err-is_taken-clause-looks g c = record { only = looks_then g.S.Store c.args.store.now c.chosen_documents.new.store c.has_document.new.store c.in_ok-documents.ensures.looks.only c.has_document.ensures.looks c.in_ok-documents.ensures.looks.live; live = search rules }
+
+-- the text of a MATCH is read as over the content
+reads_in : (g : _) (c : After-chosen_documents g) (content : Content) → content.columns ≡ map column_of c.in_ok-table.table.now.columns.items → ReadsFilterAs content (filter_of c.args.modification.now.filter) (option_map (λ q. tree_of q.now) c.as_ref.result)
+reads_in g c content columns_are =
+    let f = filter_of c.args.modification.now.filter in
+    let cols = c.as_slice-columns.result.now in
+    let reads : ReadsFilterAs (bare_content cols) f (option_map tree_of c.in_ok-query.query) = search rules in
+    let shown : option_map (λ q. tree_of q.now) c.as_ref.result ≡ option_map tree_of c.in_ok-query.query = search rules in
+    subst (ReadsFilterAs content f) (sym shown) (reads_bare (map column_of cols) content f (option_map tree_of c.in_ok-query.query) (columns_are ∙ ap (map column_of) (sym c.as_slice-columns.ensures.value)) reads)
+
+-- the documents that are chosen, and what their moves deserve
+moves_in : (g : _) (c : After-moves_fault g) (content : Content) → HasAll g.S.Store c.in_ok-table.table.now.id (string_bytes c.in_ok-table.table.now.name) (map column_of c.in_ok-table.table.now.columns.items) c.args.store.now c.has_document.new.store content →
+    (map shown_document c.in_ok-documents.documents.items ≡ chosen content (filter_of c.args.modification.now.filter))
+    × (moves_fault content.documents (chosen content (filter_of c.args.modification.now.filter)) (docids_named (map set_of c.as_slice-sets.result.now)) ≡ c.moves_fault.result)
+    × (due (map set_of c.as_slice-sets.result.now) (filter_of c.args.modification.now.filter) (string_bytes c.in_ok-table.table.now.name) content ≡ c.moves_fault.result)
+moves_in g c content has =
+    let sets = map set_of c.as_slice-sets.result.now in
+    let f = filter_of c.args.modification.now.filter in
+    let info : RustTableInfo = c.in_ok-table.table.now in
+    let cols = c.as_slice-columns.result.now in
+    let columns_are : content.columns ≡ map column_of cols = has.columns_are ∙ ap (map column_of) (sym c.as_slice-columns.ensures.value) in
+    let table = c.as_str-2.result.now in
+    let tested : update_tests table (bare_content cols) sets f ≡ None = search rules in
+    let fine : query_fault (bare_content cols) f ≡ None = search rules in
+    let fits : FitsSigned w64 info.id = search rules in
+    let same = to_z-of_z fits in
+    let tab = to_z w64 (of_z w64 info.id) in
+    let old = c.args.store.now in
+    let mid = c.chosen_documents.new.store in
+    let new = c.has_document.new.store in
+    let rows = rows_of g.S.Store tab info.id same (string_bytes info.name) (map column_of info.columns.items) old new content has in
+    let index = index_of g.S.Store tab info.id same (string_bytes info.name) (map column_of info.columns.items) old new content has in
+    let one = c.in_ok-documents.ensures.looks.only in
+    let two = c.has_document.ensures.looks in
+    let documents = c.in_ok-documents.documents.items in
+    let found = c.in_ok-documents.ensures.told content (rows_first g.S.Store old mid new one two tab content rows) (index_first g.S.Store old mid new one two tab content index) (reads_in g (goal.at.After-moves_fault g c).After-chosen_documents content has.columns_are) in
+    let given : slice_get (docids_named sets) 0 ≡ c.set_docid-given.result = sym c.set_docid-given.ensures in
+    let taken = c.in_ok-is_taken.ensures.found content (rows_then g.S.Store old mid new one two tab content rows) in
+    let ok : c.collect.result ≡ Ok c.in_ok-docids.docids = search rules in
+    let numbers : c.in_ok-docids.docids.items ≡ map (λ (d : Document). d.docid) c.deref.result.now =
+    subst (λ (r : Result (Vec ℤ Global) AllocError). IfOk r (λ (v : Vec ℤ Global). v.items ≡ map (λ (d : Document). d.docid) c.deref.result.now)) ok
+    (items_from_collect c.collect.result c.collect.ensures.ran (YieldsList-from_map _ (λ (d : Document). d.docid) (YieldsList-from_slice c.deref.result.now cc) c.map.ensures.closure (λ x r q k. search rules))) in
+    let listed = map-map (λ (d : ℤ × List Cell). d.0) shown_document documents ∙ sym (c.as_slice.ensures.value ∙ numbers ∙ ap (map (λ (d : Document). d.docid)) c.deref.ensures.value) in
+    let known = subst (λ (b : Bool). IfSome c.set_docid-given.result (λ docid. has_docid content.documents docid ≡ b)) (sym taken) (given_is content.documents c.set_docid-given.result) in
+    let moved : moves_fault content.documents (chosen content f) (docids_named sets) ≡ c.moves_fault.result =
+    ap (λ ds. moves_fault content.documents ds (docids_named sets)) (sym found) ∙ sym (c.moves_fault.ensures content.documents (map shown_document documents) (docids_named sets) listed given known) in (
+      found,
+      moved,
+      subst (λ n. due sets f n content ≡ c.moves_fault.result) c.as_str-2.ensures.value (moves_due sets f content cols columns_are table tested fine ∙ moved),
+    )
+
+pub returns-in-Some-moves_fault-clause-told : goal.returns-in-Some-moves_fault-clause-told
+returns-in-Some-moves_fault-clause-told g c = fails g.S.Store c.args.modification.now c.as_slice-sets.result.now c.in_ok-table.table.now (map shown_info c.args.tables.now) c.args.store.now c.has_document.new.store c.is_in_order.ensures.order c.as_slice-sets.ensures.value (sym c.repeats_set.ensures ∙ c.if-repeats_set.false) _ c.as_str.ensures.value c.in_ok-table.ensures c.in-Some-moves_fault.fault (Err c.in-Some-moves_fault.fault) refl (λ content has.
+    inr ((moves_in g (goal.at.returns-in-Some-moves_fault-clause-told g c).After-moves_fault content has).2 ∙ c.in-Some-moves_fault.is))
 
 pub returns-in-Some-moves_fault-clause-looks : goal.returns-in-Some-moves_fault-clause-looks
-returns-in-Some-moves_fault-clause-looks g c = record {
-  told = fails g.S.Store c.args.modification.now c.as_slice-sets.result.now c.in_ok-table.table.now (map shown_info c.args.tables.now) c.args.store.now c.has_document.new.store c.is_in_order.ensures.order c.as_slice-sets.ensures.value (sym c.repeats_set.ensures ∙ c.if-repeats_set.false) _ c.as_str.ensures.value c.in_ok-table.ensures c.in-Some-moves_fault.fault (Err c.in-Some-moves_fault.fault) refl (λ content has.
-      let sets = map set_of c.as_slice-sets.result.now in
-      let f = filter_of c.args.modification.now.filter in
-      let info : RustTableInfo = c.in_ok-table.table.now in
-      let cols = c.as_slice-columns.result.now in
-      let columns_are : content.columns ≡ map column_of cols = has.columns_are ∙ ap (map column_of) (sym c.as_slice-columns.ensures.value) in
-      let table = c.as_str-2.result.now in
-      let tested : update_tests table (bare_content cols) sets f ≡ None = search rules in
-      let fine : query_fault (bare_content cols) f ≡ None = search rules in
-      let reads : ReadsFilterAs (bare_content cols) f (option_map tree_of c.in_ok-query.query) = search rules in
-      let fits : FitsSigned w64 info.id = search rules in
-      let same = to_z-of_z fits in
-      let tab = to_z w64 (of_z w64 info.id) in
-      let old = c.args.store.now in
-      let mid = c.chosen_documents.new.store in
-      let new = c.has_document.new.store in
-      let rows = rows_of g.S.Store tab info.id same (string_bytes info.name) (map column_of info.columns.items) old new content has in
-      let index = index_of g.S.Store tab info.id same (string_bytes info.name) (map column_of info.columns.items) old new content has in
-      let one = c.in_ok-documents.ensures.looks.only in
-      let two = c.has_document.ensures.looks in
-      let shown : option_map (λ q. tree_of q.now) c.as_ref.result ≡ option_map tree_of c.in_ok-query.query = search rules in
-      let here = subst (ReadsFilterAs content f) (sym shown) (reads_bare content cols columns_are f (option_map tree_of c.in_ok-query.query) reads) in
-      let documents = c.in_ok-documents.documents.items in
-      let found = c.in_ok-documents.ensures.looks.told content (rows_first g.S.Store old mid new one two tab content rows) (index_first g.S.Store old mid new one two tab content index) here in
-      let given : slice_get (docids_named sets) 0 ≡ c.set_docid-given.result = sym c.set_docid-given.ensures in
-      let taken = c.in_ok-is_taken.ensures.found content (rows_then g.S.Store old mid new one two tab content rows) in
-      let ok : c.collect.result ≡ Ok c.in_ok-docids.docids = search rules in
-      let numbers : c.in_ok-docids.docids.items ≡ map (λ (d : Document). d.docid) c.deref.result.now =
-      subst (λ (r : Result (Vec ℤ Global) AllocError). IfOk r (λ (v : Vec ℤ Global). v.items ≡ map (λ (d : Document). d.docid) c.deref.result.now)) ok
-      (items_from_collect c.collect.result c.collect.ensures.ran (YieldsList-from_map _ (λ (d : Document). d.docid) (YieldsList-from_slice c.deref.result.now cc) c.map.ensures.closure (λ x r q k. search rules))) in
-      let listed = docids_shown documents ∙ sym (c.as_slice.ensures.value ∙ numbers ∙ ap (map (λ (d : Document). d.docid)) c.deref.ensures.value) in
-      let known = subst (λ (b : Bool). IfSome c.set_docid-given.result (λ docid. has_docid content.documents docid ≡ b)) (sym taken) (given_is content.documents c.set_docid-given.result) in
-      let moved = c.moves_fault.ensures content.documents (map shown_document documents) (docids_named sets) listed given known in
-      inr (subst (λ n. due sets f n content ≡ Some c.in-Some-moves_fault.fault) c.as_str-2.ensures.value
-      (moves_due sets f content cols columns_are table tested fine ∙ ap (λ ds. moves_fault content.documents ds (docids_named sets)) (sym found) ∙ sym moved ∙ c.in-Some-moves_fault.is)));
-  only = looks_then g.S.Store c.args.store.now c.chosen_documents.new.store c.has_document.new.store c.in_ok-documents.ensures.looks.only c.has_document.ensures.looks c.in_ok-documents.ensures.looks.live;
-  live = search rules;
-}
+returns-in-Some-moves_fault-clause-looks g c = record { only = looks_then g.S.Store c.args.store.now c.chosen_documents.new.store c.has_document.new.store c.in_ok-documents.ensures.looks.only c.has_document.ensures.looks c.in_ok-documents.ensures.looks.live; live = search rules }
+
+pub returns-in_err-rewrites-clause-told : goal.returns-in_err-rewrites-clause-told
+returns-in_err-rewrites-clause-told g c = fails g.S.Store c.args.modification.now c.as_slice-sets.result.now c.in_ok-table.table.now (map shown_info c.args.tables.now) c.args.store.now c.has_document.new.store c.is_in_order.ensures.order c.as_slice-sets.ensures.value (sym c.repeats_set.ensures ∙ c.if-repeats_set.false) _ c.as_str.ensures.value c.in_ok-table.ensures faults.Memory c.from_residual-in_err-rewrites.result (search rules) (λ content has.
+    inl (inr refl))
 
 pub returns-in_err-rewrites-clause-looks : goal.returns-in_err-rewrites-clause-looks
-returns-in_err-rewrites-clause-looks g c = record {
-  told = fails g.S.Store c.args.modification.now c.as_slice-sets.result.now c.in_ok-table.table.now (map shown_info c.args.tables.now) c.args.store.now c.has_document.new.store c.is_in_order.ensures.order c.as_slice-sets.ensures.value (sym c.repeats_set.ensures ∙ c.if-repeats_set.false) _ c.as_str.ensures.value c.in_ok-table.ensures faults.Memory c.from_residual-in_err-rewrites.result (search rules) (λ content has.
-      inl (inr refl));
-  only = looks_then g.S.Store c.args.store.now c.chosen_documents.new.store c.has_document.new.store c.in_ok-documents.ensures.looks.only c.has_document.ensures.looks c.in_ok-documents.ensures.looks.live;
-  live = search rules;
-}
+returns-in_err-rewrites-clause-looks g c = record { only = looks_then g.S.Store c.args.store.now c.chosen_documents.new.store c.has_document.new.store c.in_ok-documents.ensures.looks.only c.has_document.ensures.looks c.in_ok-documents.ensures.looks.live; live = search rules }
+
+pub returns-clause-told : goal.returns-clause-told
+returns-clause-told g c =
+    let modification = c.args.modification.now in
+    let sets = map set_of c.as_slice-sets.result.now in
+    let f = filter_of modification.filter in
+    let name = string_bytes modification.table in
+    let tables = map shown_info c.args.tables.now in
+    let info : RustTableInfo = c.in_ok-table.table.now in
+    let named : IsSoundNamed tables name (shown_info info) = subst (λ n. IsSoundNamed tables n (shown_info info)) c.as_str.ensures.value c.in_ok-table.ensures in
+    let apart = sym c.repeats_set.ensures ∙ c.if-repeats_set.false in
+    let written : Written = record { table = c.in_ok-table.table; rewrites = c.in_ok-rewrites.rewrites } in
+    subst (λ (x : Command). WritesIn g.S.Store tables c.args.store.now c.has_document.new.store x (Ok written)) (λ i. plain.Update name (map set_of (c.as_slice-sets.ensures.value i)) f)
+    (writes_do g.S.Store (plain.Update name sets f) name (due sets f) (made sets f) (touches sets f) (is_write sets f name apart) c.args.store.now c.has_document.new.store tables written c.is_in_order.ensures.order named (λ content has.
+    let m = moves_in g (goal.at.returns-clause-told g c).After-moves_fault content has in
+    let stays = m.1 ∙ c.in_default-moves_fault.is in
+    let none = m.2 ∙ c.in_default-moves_fault.is in
+    let rewrites = map shown_rewrite c.in_ok-rewrites.rewrites.items in
+    let moves = subst (λ o. MayMove o (map (changing sets content.columns) (chosen content f)) rewrites) c.set_docid-given.ensures
+    (subst (λ (ds : Documents). MayMove c.set_docid-given.result (map (changing sets content.columns) ds) rewrites) m.0
+    (subst (λ (cs : List Column). MayMove c.set_docid-given.result (map (changing sets cs) (map shown_document c.in_ok-documents.documents.items)) rewrites) (sym (has.columns_are ∙ ap (map column_of) (sym c.as_slice-columns.ensures.value))) c.in_ok-rewrites.ensures)) in
+    (none, leads sets f (string_bytes info.name) content (docids_named sets) (chosen content f) rewrites (λ i. chosen content f) has.has.is_content stays (update_keeps_content (string_bytes info.name) content sets f has.has.is_content none) moves)))
 
 pub returns-clause-looks : goal.returns-clause-looks
-returns-clause-looks g c = record {
-  told =
-      let modification = c.args.modification.now in
-      let sets = map set_of c.as_slice-sets.result.now in
-      let f = filter_of modification.filter in
-      let name = string_bytes modification.table in
-      let tables = map shown_info c.args.tables.now in
-      let info : RustTableInfo = c.in_ok-table.table.now in
-      let named : IsSoundNamed tables name (shown_info info) = subst (λ n. IsSoundNamed tables n (shown_info info)) c.as_str.ensures.value c.in_ok-table.ensures in
-      let apart = sym c.repeats_set.ensures ∙ c.if-repeats_set.false in
-      let command = plain.Update name sets f in
-      let written : Written = record { table = c.in_ok-table.table; rewrites = c.in_ok-rewrites.rewrites } in
-      subst (λ (x : Command). WritesIn g.S.Store tables c.args.store.now c.has_document.new.store x (Ok written)) (λ i. plain.Update name (map set_of (c.as_slice-sets.ensures.value i)) f)
-      (writes_do g.S.Store command name (due sets f) (made sets f) (touches sets f) (is_write sets f name apart) c.args.store.now c.has_document.new.store tables written c.is_in_order.ensures.order named (λ content has.
-      let cols = c.as_slice-columns.result.now in
-      let columns_are : content.columns ≡ map column_of cols = has.columns_are ∙ ap (map column_of) (sym c.as_slice-columns.ensures.value) in
-      let table = c.as_str-2.result.now in
-      let tested : update_tests table (bare_content cols) sets f ≡ None = search rules in
-      let fine : query_fault (bare_content cols) f ≡ None = search rules in
-      let reads : ReadsFilterAs (bare_content cols) f (option_map tree_of c.in_ok-query.query) = search rules in
-      let fits : FitsSigned w64 info.id = search rules in
-      let same = to_z-of_z fits in
-      let tab = to_z w64 (of_z w64 info.id) in
-      let old = c.args.store.now in
-      let mid = c.chosen_documents.new.store in
-      let new = c.has_document.new.store in
-      let rows = rows_of g.S.Store tab info.id same (string_bytes info.name) (map column_of info.columns.items) old new content has in
-      let index = index_of g.S.Store tab info.id same (string_bytes info.name) (map column_of info.columns.items) old new content has in
-      let one = c.in_ok-documents.ensures.looks.only in
-      let two = c.has_document.ensures.looks in
-      let shown : option_map (λ q. tree_of q.now) c.as_ref.result ≡ option_map tree_of c.in_ok-query.query = search rules in
-      let here = subst (ReadsFilterAs content f) (sym shown) (reads_bare content cols columns_are f (option_map tree_of c.in_ok-query.query) reads) in
-      let documents = c.in_ok-documents.documents.items in
-      let found = c.in_ok-documents.ensures.looks.told content (rows_first g.S.Store old mid new one two tab content rows) (index_first g.S.Store old mid new one two tab content index) here in
-      let given : slice_get (docids_named sets) 0 ≡ c.set_docid-given.result = sym c.set_docid-given.ensures in
-      let taken = c.in_ok-is_taken.ensures.found content (rows_then g.S.Store old mid new one two tab content rows) in
-      let ok : c.collect.result ≡ Ok c.in_ok-docids.docids = search rules in
-      let numbers : c.in_ok-docids.docids.items ≡ map (λ (d : Document). d.docid) c.deref.result.now =
-      subst (λ (r : Result (Vec ℤ Global) AllocError). IfOk r (λ (v : Vec ℤ Global). v.items ≡ map (λ (d : Document). d.docid) c.deref.result.now)) ok
-      (items_from_collect c.collect.result c.collect.ensures.ran (YieldsList-from_map _ (λ (d : Document). d.docid) (YieldsList-from_slice c.deref.result.now cc) c.map.ensures.closure (λ x r q k. search rules))) in
-      let listed = docids_shown documents ∙ sym (c.as_slice.ensures.value ∙ numbers ∙ ap (map (λ (d : Document). d.docid)) c.deref.ensures.value) in
-      let known = subst (λ (b : Bool). IfSome c.set_docid-given.result (λ docid. has_docid content.documents docid ≡ b)) (sym taken) (given_is content.documents c.set_docid-given.result) in
-      let moved = c.moves_fault.ensures content.documents (map shown_document documents) (docids_named sets) listed given known in
-      let stays : moves_fault content.documents (chosen content f) (docids_named sets) ≡ None = ap (λ ds. moves_fault content.documents ds (docids_named sets)) (sym found) ∙ sym moved ∙ c.in_default-moves_fault.is in
-      let none : due sets f (string_bytes info.name) content ≡ None = subst (λ n. due sets f n content ≡ None) c.as_str-2.ensures.value (moves_due sets f content cols columns_are table tested fine ∙ stays) in
-      let rewrites = map shown_rewrite c.in_ok-rewrites.rewrites.items in
-      let moves = subst (λ o. MayMove o (map (changing sets content.columns) (chosen content f)) rewrites) (sym given)
-      (subst (λ (ds : Documents). MayMove c.set_docid-given.result (map (changing sets content.columns) ds) rewrites) found
-      (subst (λ (cs : List Column). MayMove c.set_docid-given.result (map (changing sets cs) (map shown_document documents)) rewrites) (sym columns_are) c.in_ok-rewrites.ensures)) in (
-        none,
-        leads sets f (string_bytes info.name) content (docids_named sets) (chosen content f) rewrites (λ i. chosen content f) has.has.is_content stays (update_keeps_content (string_bytes info.name) content sets f has.has.is_content none) moves,
-      )));
-  only = looks_then g.S.Store c.args.store.now c.chosen_documents.new.store c.has_document.new.store c.in_ok-documents.ensures.looks.only c.has_document.ensures.looks c.in_ok-documents.ensures.looks.live;
-  live = search rules;
-}
+returns-clause-looks g c = record { only = looks_then g.S.Store c.args.store.now c.chosen_documents.new.store c.has_document.new.store c.in_ok-documents.ensures.looks.only c.has_document.ensures.looks c.in_ok-documents.ensures.looks.live; live = search rules }
 
 pub returns-in_err-documents-clause-refused : goal.returns-in_err-documents-clause-refused
 returns-in_err-documents-clause-refused g c = λ contents held clean told.
     let info : RustTableInfo = c.in_ok-table.table.now in
-    let f = filter_of c.args.modification.now.filter in
-    let cols = c.as_slice-columns.result.now in
     let over = over_sound (value_in g.S.Store c.args.store.now) (map shown_info c.args.tables.now) contents c.as_str.result.now (shown_info info) c.is_in_order.ensures.order held c.in_ok-table.ensures in
-    let columns_are : over.content.columns ≡ map column_of cols = over.columns_are ∙ ap (map column_of) (sym c.as_slice-columns.ensures.value) in
-    let reads : ReadsFilterAs (bare_content cols) f (option_map tree_of c.in_ok-query.query) = search rules in
-    let shown : option_map (λ q. tree_of q.now) c.as_ref.result ≡ option_map tree_of c.in_ok-query.query = search rules in
     let fits : FitsSigned w64 info.id = search rules in
-    c.chosen_documents.ensures.refused (string_bytes info.name) over.content (has_at refl (sym (to_z-of_z fits)) over.has) (subst (ReadsFilterAs over.content f) (sym shown) (reads_bare over.content cols columns_are f (option_map tree_of c.in_ok-query.query) reads)) clean (search rules)
+    c.chosen_documents.ensures.refused (string_bytes info.name) over.content (has_at refl (sym (to_z-of_z fits)) over.has) (reads_in g (goal.at.returns-in_err-documents-clause-refused g c).After-chosen_documents over.content over.columns_are) clean (search rules)
 
 pub returns-in-Some-moves_fault-clause-refused : goal.returns-in-Some-moves_fault-clause-refused
 returns-in-Some-moves_fault-clause-refused g c = λ contents held clean told.

@@ -5,11 +5,10 @@ use Rattle.ft_store.specs.Calls.{fault_of_read}
 use Rattle.ft_values.specs.declared.fault.Fault.{Fault}
 use Rattle.ft_content.specs.declared.command.Reply.{Reply}
 use Rattle.ft_content.specs.Views.{shown_info, command_of, answer_of}
-use Rattle.ft_index.specs.Kept.{FullText, Executes}
+use Rattle.ft_index.specs.Kept.{FullText, Executes, AreHeld}
 use Rattle.ft_index.specs.Crashes.{LeavesCommand}
 use Rattle.ft_index.specs.Changed.{with_tables}
 use Rattle.ft_index.specs.RowsRead.{CountsRows}
-use Rattle.ft_index.specs.Kept.{AreHeld}
 use Rattle.ft_index.proofs.Acting.{looks_up}
 use Rattle.sqlite.specs.Effect.{Database}
 use Rattle.ft_store.specs.Rows.{value_of as rows_of}

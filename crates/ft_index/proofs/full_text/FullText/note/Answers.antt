@@ -1,12 +1,12 @@
 -- a note changes no table
 use Rattle.std.proofs.Common.{map, refl, subst, sym}
+use Rattle.sqlite.proofs.StateLemmas.{survives_weaker}
 use Rattle.std.specs.Prelude.{is_ok}
 use Rattle.ft_content.specs.Views.{shown_info}
 use Rattle.ft_index.specs.Kept.{FullText, Notes}
 use Rattle.ft_index.specs.Crashes.{LeavesNote}
 use Rattle.ft_index.specs.Changed.{with_tables}
 use Rattle.ft_index.proofs.Changing.{note_upheld}
-use Rattle.ft_index.proofs.Crashing.{survives_as}
 use Rattle.ft_index.proofs.Pinging.{ok_then}
 use Rattle.ft_store.specs.Kept.{shows}
 use Rattle.ft_index.proofs.full_text.FullText.note.Goals as goal
@@ -29,7 +29,7 @@ returns g c =
       leaves = subst (λ (k : FullText g.row.S.Denot). LeavesNote g.S.Store k c.args.name.now (is_ok c.note_name-result.result) new) c.self.view_is (record {
         live = λ clean done. ok_then c.note_name-result.result (c.note_name-result.ensures.makes.live clean) done;
         settled = λ up. c.is_settled.ensures up.clean up.is_open;
-        survives = survives_as (shows g.S.Store c.self.inside.store) (shows g.S.Store c.note_name-result.new.store) _ _ (λ clean db commits. (record { clean = commits.0.clean; is_open = commits.0.is_open }, λ up. commits.1)) c.note_name-result.ensures.makes.crash;
+        survives = survives_weaker (shows g.S.Store c.self.inside.store) (shows g.S.Store c.note_name-result.new.store) _ _ (λ clean db commits. (record { clean = commits.0.clean; is_open = commits.0.is_open }, λ up. commits.1)) c.note_name-result.ensures.makes.crash;
       });
       fault = c.note_name-result.ensures.makes.cause;
       refused = λ clean told. rw (sym c.self.view_is) (c.note_name-result.ensures.refused clean told);
