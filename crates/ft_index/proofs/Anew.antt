@@ -1,10 +1,12 @@
 -- A table that is made anew, with documents.
 use Rattle.std.proofs.Common.{◌≡◌, map, ℕ, Bool, true, false, cond, not, List, [], ◌∷◌, Some, None, ℤ, pos, refl, sym, ap, subst, ◌∙◌}
+use Rattle.std.proofs.lemmas.Float.{T_from_true}
+use Rattle.sqlite_keyed.proofs.KeyedLemmas.{same_int}
 use Rattle.std.specs.Prelude.{All, is_some, option_map}
 use Rattle.std.specs.List.{enumerate_from, find as first_of}
 use Rattle.std.specs.declared.cmp.Ordering.{Ordering}
 use Rattle.std.specs.Ordering.{int_cmp, int_eq}
-use Rattle.std.specs.Cmp.{int_cmp_total}
+use Rattle.std.specs.Cmp.{eq_by_cmp_equiv, int_cmp_total}
 use Rattle.std.specs.FinMap.Entries.{put, find, where_key, is_sorted, is_sorted-put, is_sorted-where_key, find-put, find-where_key, same_entries}
 use Rattle.std.proofs.lemmas.List.Elements.{All-nil, recursion_from_All}
 use Rattle.std.proofs.lemmas.Map.Lookups.{exact_signed}
@@ -20,7 +22,7 @@ use Rattle.ft_documents.specs.Found.{IsSoundNamed}
 use Rattle.ft_documents.specs.Rewrite.{Rewrite, AreOf, AreRight, HasContent, rewritten_docids, rewritten, rewritten_content, shown_rewrite}
 use Rattle.ft_documents.specs.Tables.{table_rows, table_index, IsOfDocids}
 use Rattle.ft_documents.proofs.AddLemmas.{bare, added_rows, added_index}
-use Rattle.ft_documents.proofs.KeyedRows.{true_of, of_true, same_int, turned_round, sorted_put}
+use Rattle.ft_documents.proofs.KeyedRows.{true_of, sorted_put}
 use Rattle.ft_documents.proofs.StoreKeys.{column_total, column_exact}
 use Rattle.ft_index.specs.declared.written.Written.{Written}
 use Rattle.ft_index.specs.Kept.{ReachesStep, AreHeld, KeepsOthers, StoreHolds, Stands, held_columns, table_info}
@@ -46,7 +48,7 @@ key_found id name (n ∷ ns) is = go (int_eq id n.0) is (key_found id name ns)
 
 named_again : (id : ℤ) (name : List ℕ) (tables : List (ℤ × List ℕ)) → is_sorted int_cmp tables ≡ true → find int_cmp id tables ≡ Some name → put int_cmp id name (where_key int_cmp (λ k. not (int_eq id k)) tables) ≡ tables
 named_again id name tables sorted found =
-    same_entries int_cmp int_cmp_total exact_signed (put int_cmp id name others) tables (is_sorted-put int_cmp int_cmp_total id name others (is_sorted-where_key int_cmp p tables (of_true _ sorted))) (of_true _ sorted)
+    same_entries int_cmp int_cmp_total exact_signed (put int_cmp id name others) tables (is_sorted-put int_cmp int_cmp_total id name others (is_sorted-where_key int_cmp p tables (T_from_true _ sorted))) (T_from_true _ sorted)
     (λ q. find-put int_cmp int_cmp_total q id name others ∙ ap (λ o. cond (int_eq q id) (Some name) o) (find-where_key int_cmp p q (λ x e. ap p (sym (exact_signed q x e))) tables) ∙ go q (int_eq q id) refl)
   where
     p : ℤ → Bool
@@ -57,12 +59,12 @@ named_again id name tables sorted found =
 
     go : (q : ℤ) (b : Bool) → int_eq q id ≡ b → cond (int_eq q id) (Some name) (cond (not (int_eq id q)) (find int_cmp q tables) None) ≡ find int_cmp q tables
     go q true e = ap (λ b. cond b (Some name) (cond (not (int_eq id q)) (find int_cmp q tables) None)) e ∙ sym (ap (λ k. find int_cmp k tables) (same_int q id e) ∙ found)
-    go q false e = ap (λ b. cond b (Some name) (cond (not (int_eq id q)) (find int_cmp q tables) None)) e ∙ ap (λ b. cond (not b) (find int_cmp q tables) None) (turned_round id q ∙ e)
+    go q false e = ap (λ b. cond b (Some name) (cond (not (int_eq id q)) (find int_cmp q tables) None)) e ∙ ap (λ b. cond (not b) (find int_cmp q tables) None) ((eq_by_cmp_equiv int_cmp_total).symm id q ∙ e)
 
 -- ---- and all rows are in order
 
 others_sorted : {K V : Type 0} (R : K → K → Ordering) (p : K → Bool) (rows : List (K × V)) → is_sorted R rows ≡ true → is_sorted R (where_key R p rows) ≡ true
-others_sorted R p rows sorted = true_of _ (is_sorted-where_key R p rows (of_true _ sorted))
+others_sorted R p rows sorted = true_of _ (is_sorted-where_key R p rows (T_from_true _ sorted))
 
 columns_sorted : (id : ℤ) (cs : List (ℕ × List ℕ)) (rows : List (ColumnKey × List ℕ)) → is_sorted column_key_cmp rows ≡ true → is_sorted column_key_cmp (with_columns id cs rows) ≡ true
 columns_sorted id [] rows sorted = sorted

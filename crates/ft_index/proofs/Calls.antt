@@ -13,7 +13,7 @@ use Rattle.ft_rows.specs.Store.{StoreValue, applied, Note}
 use Rattle.ft_store.specs.Kept.{shows}
 use Rattle.ft_index.specs.Kept.{StoreHolds, FullText, IsUp, store_value, Holds, Answers, is_outside}
 use Rattle.ft_index.specs.Refused.{BlamesCommand}
-use Rattle.ft_index.specs.Crashes.{HoldsLeft, SurvivesCrash, CommitsCommand, CommitsNote, Name}
+use Rattle.ft_index.specs.Crashes.{HoldsLeft, SurvivesCrash, Name}
 use Rattle.ft_index.specs.Called.{Call, Executed, Looked, Noted, DoesCall, Runs, is_answered, accepted, left_by, with_name, noted_by, contents_with, names_with, AreAnswered, StandsAfter, LeftAfter, at_rest, running, KeptByCalls}
 
 -- a step that is done leaves what comes after it, and one that is refused leaves the contents

@@ -1,19 +1,18 @@
 -- Docids as a store reads them, and rows of documents without their cells.
 use Rattle.std.proofs.Common.{◌≡◌, ℕ, ◌+◌, Bool, true, false, cond, ◌&&◌, List, [], ◌∷◌, ◌++◌, map, Option, Some, None, ℤ, pos, negsuc, refl, ap, ◌∙◌, arith}
+use Rattle.sqlite_keyed.proofs.KeyedLemmas.{same_int}
 use Rattle.std.specs.Prelude.{filter, slice_get, is_some, unwrap_or}
 use Rattle.std.specs.List.{flat_map, enumerate_from}
 use Rattle.std.specs.Ordering.{int_cmp, int_eq}
 use Rattle.std.specs.FinMap.Entries.{find, where_key}
 use Rattle.std.proofs.lemmas.List.{map-append}
 use Rattle.std.proofs.lemmas.List.Elements.{filter-append}
-use Rattle.std.proofs.lemmas.Map.Lookups.{exact_signed}
 use Rattle.ft_values.specs.Cells.{Cell}
 use Rattle.ft_rows.specs.Store.{CellKey, StoreValue, cell_key_cmp}
 use Rattle.ft_content.specs.Content.{CellRow, TableRows, Content, Documents, IsContent, document_rows, content_rows}
 use Rattle.ft_content.specs.Answer.{cut}
 use Rattle.ft_documents.specs.Tables.{table_rows}
 use Rattle.ft_documents.proofs.ReadRows.{HaveCells, content_cells, values_at, asked_values, values_found}
-use Rattle.ft_documents.proofs.KeyedRows.{tie}
 use Rattle.ft_store.specs.Docids.{docids_in, cut_to}
 
 -- ---- the first cell of each document
@@ -50,7 +49,7 @@ number_of (negsuc n) = 0
 
 behind_first : (n : ℕ) (b : Bool) → int_eq (pos 0) (pos (n + 1)) ≡ b → b ≡ false
 behind_first n false is = refl
-behind_first n true is = absurd (let same : 0 ≡ n + 1 = ap number_of (exact_signed (pos 0) (pos (n + 1)) (tie _ is)) in omega (arith, same))
+behind_first n true is = absurd (let same : 0 ≡ n + 1 = ap number_of (same_int (pos 0) (pos (n + 1)) is) in omega (arith, same))
 
 no_firsts : (docid : ℤ) (n : ℕ) (cells : List Cell) → firsts (map (λ (c : ℕ × Cell). record { docid = docid; column = pos c.0; value = c.1 }) (enumerate_from (n + 1) cells)) ≡ []
 no_firsts docid n [] = refl

@@ -24,9 +24,7 @@ use Rattle.sqlite.specs.Effect.{Database}
 use Rattle.ft_values.specs.declared.fault.Fault.TheVariants as faults
 use Rattle.ft_index.specs.Refused.{AreOwn, BlamesDone, BlamesMade, CantMake}
 use Rattle.ft_index.proofs.Blaming.{then_either}
-use Rattle.ft_index.proofs.Acting.{executes_read, executes_undone, fault_answers, then_changed}
-use Rattle.ft_index.proofs.Crashing.{crash_read, crash_reached}
-use Rattle.ft_index.proofs.Executing.{executes_planned}
+use Rattle.ft_index.proofs.Executing.{executes_read, executes_undone, fault_answers, then_changed, crash_read, crash_reached, executes_planned}
 
 module _ {S : Type 0} (g : Ghosts S) (old mid : StoreState S) (tables : List TableInfo) (command : Command) (looks : Looks g old mid) where
   -- reads that show its answer

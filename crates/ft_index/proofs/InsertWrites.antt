@@ -1,12 +1,12 @@
 -- What an Insert writes.
 use Rattle.std.proofs.Common.{◌≡◌, inl, inr, ℕ, Bool, true, false, cond, not, List, [], ◌∷◌, map, filter, zip, Option, Some, None, Result, Ok, Err, ℤ, refl, sym, ap, subst, ◌∙◌}
+use Rattle.std.proofs.lemmas.List.Elements.{Contains-append_left, Contains-append_right, Contains-push}
+use Rattle.sqlite_keyed.proofs.KeyedLemmas.{same_int}
 use Rattle.std.specs.Prelude.{Contains, Vec, unwrap_or, is_some}
 use Rattle.std.specs.declared.alloc.Global.{Global}
 use Rattle.std.specs.List.{AllByRecursion}
 use Rattle.std.specs.Ordering.{int_cmp, int_eq}
 use Rattle.std.specs.FinMap.Entries.{find, is_sorted}
-use Rattle.std.proofs.lemmas.Map.Lookups.{exact_signed}
-use Rattle.ft_query.proofs.OffsetOrder.{contains_head, contains_tail}
 use Rattle.ft_values.specs.Cells.{Cell}
 use Rattle.ft_values.specs.declared.fault.Fault.{Fault}
 use Rattle.ft_content.specs.Content.{Content, Documents, IsContent, names_of, repeats_name}
@@ -20,7 +20,6 @@ use Rattle.ft_documents.specs.declared.rewrite.Rewrite as source
 use Rattle.ft_documents.specs.Rewrite.{Rewrite, shown_rewrite, under_docids, rewritten}
 use Rattle.ft_documents.specs.Inserted.{IsNewIn, Inserts}
 use Rattle.ft_index.specs.Written.{WritesDocuments, WritesTable}
-use Rattle.ft_documents.proofs.KeyedRows.{tie}
 use Rattle.ft_documents.proofs.RewriteLemmas.{written, find_rewritten}
 use Rattle.ft_documents.proofs.InsertDue.{once, inserted_is}
 use Rattle.ft_documents.proofs.InsertOf.{each_found, are_of}
@@ -38,14 +37,14 @@ new_in old (d ∷ ds) docid cells found apart = go (int_eq docid d.0) refl found
     docid_of x = x.0
 
     more : (b : Bool) → Contains (map docid_of rest) docid → Contains (map docid_of (cond b (d ∷ rest) rest)) docid
-    more true h = contains_tail d.0 docid (map docid_of rest) h
+    more true h = Contains-append_right (d.0 ∷ []) (map docid_of rest) docid h
     more false h = h
 
     go : (b : Bool) → int_eq docid d.0 ≡ b → cond b (Some d.1) (find int_cmp docid ds) ≡ Some cells → (find int_cmp docid ds ≡ Some cells → Contains (map docid_of rest) docid) → Contains (map docid_of (cond (not (has_docid old d.0)) (d ∷ rest) rest)) docid
     go true is h behind =
-        let same : docid ≡ d.0 = exact_signed docid d.0 (tie _ is) in
+        let same : docid ≡ d.0 = same_int docid d.0 is in
         let fresh : not (has_docid old d.0) ≡ true = ap (λ x. not (has_docid old x)) (sym same) ∙ ap not apart in
-        subst (λ b. Contains (map docid_of (cond b (d ∷ rest) rest)) docid) (sym fresh) (subst (Contains (d.0 ∷ map docid_of rest)) (sym same) (contains_head d.0 (map docid_of rest)))
+        subst (λ b. Contains (map docid_of (cond b (d ∷ rest) rest)) docid) (sym fresh) (subst (Contains (d.0 ∷ map docid_of rest)) (sym same) (Contains-append_left (d.0 ∷ []) (map docid_of rest) d.0 (Contains-push [] d.0)))
     go false is h behind = more (not (has_docid old d.0)) (behind h)
 
 all_new : (documents after : Documents) (all rs : List Rewrite) → is_sorted int_cmp (under_docids all) ≡ true → rewritten all documents ≡ after → AllByRecursion (λ (r : Rewrite). find int_cmp r.docid (under_docids all) ≡ Some r) rs → AllByRecursion (IsNewIn documents) rs →

@@ -1,5 +1,6 @@
 -- What commands leave under ids that no table has.
 use Rattle.std.proofs.Common.{◌≡◌, ℕ, Bool, true, false, cond, not, List, [], ◌∷◌, map, Some, None, ℤ, string_bytes, refl, sym, ap, ◌∙◌}
+use Rattle.sqlite_keyed.proofs.KeyedLemmas.{same_int}
 use Rattle.std.specs.Prelude.{is_some, unwrap_or}
 use Rattle.std.specs.declared.cmp.Ordering.{Ordering}
 use Rattle.std.specs.Ordering.{int_cmp, int_eq, is_eq}
@@ -14,7 +15,6 @@ use Rattle.ft_content.specs.Views.{column_of}
 use Rattle.ft_content.specs.Deserved.{Table, Contents, table_named}
 use Rattle.ft_content.specs.Index.{StoredSpot}
 use Rattle.ft_documents.specs.Tables.{table_rows, table_index}
-use Rattle.ft_documents.proofs.KeyedRows.{same_int}
 use Rattle.ft_index.specs.Kept.{KeepsOthers, has_table_id, no_index, no_rows}
 use Rattle.ft_index.specs.Planned.{table_change}
 use Rattle.ft_index.proofs.Lifting.{LeavesRest}

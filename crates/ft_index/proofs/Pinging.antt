@@ -1,7 +1,6 @@
 -- Calls that ask first whether the store is open.
 use Rattle.std.proofs.Common.{◌≡◌, ◌⊎◌, ℕ, Bool, true, false, List, [], ◌∷◌, map, Option, Some, None, Result, Ok, Err, ℤ, refl, sym, ap, subst, ◌∙◌, inl, inr, arith, All as AllOf}
 use Rattle.std.specs.Prelude.{IsTrue, OnOk, is_ok}
-use Rattle.sqlite_trees.specs.View.{doubt}
 use Rattle.sqlite.specs.State.{State, HasCleanDisk, Survives}
 use Rattle.sqlite.specs.Store.{Ghosts}
 use Rattle.sqlite.specs.Tree.{Trees}
@@ -29,8 +28,7 @@ use Rattle.ft_index.specs.Kept.{FullText, IsUp, IsOutside, AreHeld, Executes, Ke
 use Rattle.ft_index.specs.Crashes.{HoldsAfter, SurvivesCrash, LeavesRead}
 use Rattle.ft_index.specs.Changed.{with_tables, Does, DoesAsked, LooksAsked, MakesAsked, MakesRows}
 use Rattle.ft_index.specs.RowsRead.{CountsFound, CountsHeld, CountsIfRows, CountsRows}
-use Rattle.ft_index.proofs.Acting.{executes_read, looks_same, looks_up, then_changed}
-use Rattle.ft_index.proofs.Executing.{is_outside_of}
+use Rattle.ft_index.proofs.Executing.{executes_read, looks_same, looks_up, then_changed, is_outside_of}
 use Rattle.ft_index.proofs.ReadsLemmas.{nothing_done}
 
 -- what a Select reads is told by the count before it alone
@@ -73,6 +71,9 @@ outside_of causes.Refused = inl refl
 outside_of causes.NotAStore = inl refl
 outside_of (causes.Version n) = inl refl
 outside_of causes.Damaged = inl refl
+
+pub clean_before : (a b : State) {C : _} → Survives a b C → HasCleanDisk b → HasCleanDisk a
+clean_before a b survives clean = omega (arith, survives.clean, clean)
 
 -- where memory lacks before the store is asked
 pub unasked : {S X : Type 0} (g : Ghosts S) (old : StoreState S) (changes : List Change) (result : Result X Fault) (f : Fault) → result ≡ Err f → IsOutside f → MakesAsked g old old changes result
@@ -118,28 +119,22 @@ module _ {S : Type 0} (g : Ghosts S) (old mid : StoreState S) (result : Result (
     makes_then new changes made rows = record {
       changed = then_changed g old mid new changes (is_ok made) pinged rows.changed;
       crash = survives_then (shows g old) (shows g mid) (shows g new) (λ _. ⊥) _ _ (λ clean db none. absurd none) (λ clean db commits.
-          let up = up_mid [] (clean_mid clean) in
+          let up = up_mid [] (clean_before (shows g mid) (shows g new) rows.crash clean) in
           (looks_up g old mid [] [] pinged up, subst (λ (v : StoreValue). IsStored db (all_applied changes v)) (looks_same g old mid [] pinged up) (commits up.is_open))) it.survives rows.crash;
-      live = λ clean. on_ok _ made (rows.live clean) (asked (clean_mid clean));
+      live = λ clean. on_ok _ made (rows.live clean) (asked (clean_before (shows g mid) (shows g new) rows.crash clean));
       cause = rows.cause;
     }
-      where
-        clean_mid : HasCleanDisk (shows g new) → HasCleanDisk (shows g mid)
-        clean_mid clean = let c : doubt (shows g new).is_clean ≡ 0 = clean in omega (arith, c, rows.crash.clean)
 
     pub does_then : (tables : List TableInfo) (new : FullText S) (command : Command) (answer : Result RustReply Fault) → Does g (with_tables mid tables) command answer new → DoesAsked g (with_tables old tables) command answer new
     does_then tables new command answer does = record {
       executes = executes_behind;
       crash = survives_then (shows g old) (shows g mid) (shows g new.store) (λ _. ⊥) _ _ (λ clean db none. absurd none) (λ clean db commits.
-          let up = up_mid tables (clean_mid clean) in
+          let up = up_mid tables (clean_before (shows g mid) (shows g new.store) does.crash clean) in
           let same : value_in g mid ≡ value_in g old = looks_same g old mid tables pinged up in
           (looks_up g old mid tables tables pinged up, λ old_up first holds. subst (λ v. HoldsAfter v first command db) same (commits up first (subst (λ v. AreHeld v tables first) (sym same) holds)))) it.survives does.crash;
-      live = λ clean. on_ok _ answer (does.live clean) (asked (clean_mid clean));
+      live = λ clean. on_ok _ answer (does.live clean) (asked (clean_before (shows g mid) (shows g new.store) does.crash clean));
     }
       where
-        clean_mid : HasCleanDisk (shows g new.store) → HasCleanDisk (shows g mid)
-        clean_mid clean = let c : doubt (shows g new.store).is_clean ≡ 0 = clean in omega (arith, c, does.crash.clean)
-
         same_value : IsUp g new → value_in g mid ≡ value_in g old
         same_value up = looks_same g old mid tables pinged (does.executes.was_up up)
 
@@ -161,14 +156,11 @@ module _ {S : Type 0} (g : Ghosts S) (old mid : StoreState S) (result : Result (
 
     pub looks_then : {X : Type 0} (new : StoreState S) (read : Result X StoreFault) (count : X → ℕ) → ReadsRows g mid new read count IsPlainFault → LooksAsked g old new read
     looks_then new read count rows = record {
-      kept = λ clean. kept_then (shows g old) (shows g mid) (shows g new) (it.kept (clean_mid clean)) (rows.kept clean);
-      survives = survives_then (shows g old) (shows g mid) (shows g new) (λ _. ⊥) _ _ (λ clean db none. none) (λ clean db none. none (asked (clean_mid clean))) it.survives rows.survives;
+      kept = λ clean. kept_then (shows g old) (shows g mid) (shows g new) (it.kept (clean_before (shows g mid) (shows g new) rows.survives clean)) (rows.kept clean);
+      survives = survives_then (shows g old) (shows g mid) (shows g new) (λ _. ⊥) _ _ (λ clean db none. none) (λ clean db none. none (asked (clean_before (shows g mid) (shows g new) rows.survives clean))) it.survives rows.survives;
       live = rows.live;
       cause = rows.causes;
     }
-      where
-        clean_mid : HasCleanDisk (shows g new) → HasCleanDisk (shows g mid)
-        clean_mid clean = let c : doubt (shows g new).is_clean ≡ 0 = clean in omega (arith, c, rows.survives.clean)
 
 -- what a read leaves of full-text tables
 pub read_leaves : {S X : Type 0} (g : Ghosts S) (old new : StoreState S) (tables : List TableInfo) (read : Result X StoreFault) → LooksAsked g old new read → SurvivesCrash g (with_tables old tables) → LeavesRead g (with_tables old tables) (is_ok read) (with_tables new tables)
@@ -207,9 +199,6 @@ read_looks g old new tables read it = record {
 pub is_refused : {X : Type 0} (fault : StoreFault) (result : Result X Fault) → result ≡ Err (fault_of_read fault) → IsPlainFault fault → result ≡ Err faults.Store → fault ≡ causes.Refused
 is_refused fault result is (inl memory) store = absurd (let e = sym store ∙ is ∙ ap (λ f. Err (fault_of_read f)) memory in cc)
 is_refused fault result is (inr refused) store = refused
-
-pub clean_before : (a b : State) {C : _} → Survives a b C → HasCleanDisk b → HasCleanDisk a
-clean_before a b survives clean = omega (arith, survives.clean, clean)
 
 takes_one : (change : RowChange) → TakesOut change → CanApply change
 takes_one (row.PutEntries tab term docid spots) takes = absurd (let e = takes in cc)

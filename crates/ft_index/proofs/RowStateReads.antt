@@ -1,5 +1,6 @@
 -- Rows of a table as they are read, and how they stand.
 use Rattle.std.proofs.Common.{◌≡◌, ◌≢◌, ℕ, true, false, cond, List, [], ◌∷◌, ◌++◌, map, ℤ, string_bytes, refl, sym, ap, subst, ◌∙◌, arith}
+use Rattle.sqlite_keyed.proofs.KeyedLemmas.{same_int}
 use Rattle.std.specs.Prelude.{IsTrue}
 use Rattle.std.specs.Ordering.{int_eq}
 use Rattle.std.specs.FinMap.Entries.{where_key}
@@ -34,7 +35,6 @@ use Rattle.ft_documents.specs.Terms.{under_term, lists_of_terms}
 use Rattle.ft_rows.specs.Terms.{lists_of_postings, lists_under, lists_by_terms}
 use Rattle.ft_rows.specs.declared.terms.TermLists.{TermLists}
 use Rattle.ft_documents.specs.Tables.{table_rows, table_index}
-use Rattle.ft_documents.proofs.KeyedRows.{same_int}
 use Rattle.ft_documents.proofs.RowKinds.{size_of, sizes_again}
 
 abbrev lists_asked : ℤ → StoreValue → List (ListKey × List StoredSpot)

@@ -1,5 +1,5 @@
 -- What a Select deserves and is answered, out of what was read.
-use Rattle.std.proofs.Common.{◌≡◌, ◌⊎◌, inl, inr, ℕ, Bool, true, false, cond, not, ◌&&◌, ◌||◌, List, [], ◌∷◌, ◌++◌, Option, Some, None, Ok, Err, ℤ, refl, sym, ap, subst, ◌∙◌}
+use Rattle.std.proofs.Common.{option_map, Bor, map, ◌≡◌, ◌⊎◌, inl, inr, ℕ, Bool, true, false, cond, not, ◌&&◌, ◌||◌, List, [], ◌∷◌, ◌++◌, Option, Some, None, Ok, Err, ℤ, refl, sym, ap, subst, ◌∙◌}
 use Rattle.std.specs.List.{list_any, flat_map}
 use Rattle.sqlite.specs.Store.{Ghosts}
 use Rattle.ft_query.specs.Trees.{Tree}
@@ -7,15 +7,15 @@ use Rattle.ft_rows.specs.Store.{StoreValue, AreInOrder}
 use Rattle.ft_store.specs.Kept.{StoreState, value_in, more_rows}
 use Rattle.ft_values.specs.declared.fault.Fault.{Fault}
 use Rattle.ft_values.specs.declared.fault.Fault.TheVariants as faults
-use Rattle.ft_content.specs.Content.{Column, Content, content_rows, names_of, same_name}
+use Rattle.ft_content.specs.Content.{Column, Content, names_of, same_name}
 use Rattle.ft_content.specs.Command.{Filter, All, Docid, Match, Item, AllColumns, Named, OffsetsOf, Items, Counted, Listed, Command, Select, Rows, Grid}
 use Rattle.ft_content.specs.Answer.{reading, column_place, item_headers, answer_names, answer}
 use Rattle.ft_content.specs.Deserved.{TableState, Sound, Table, Contents, table_named, first_of, or_else, has_column, item_unknown, names_unknown, items_in, is_offsets, is_match, reading_fault, query_fault, select_fault, deserved}
 use Rattle.ft_content.specs.Step.{answer_of_held, answer_of_found, after, reply_to, step, step_by}
-use Rattle.ft_content.specs.Views.{TableInfo}
+use Rattle.std.specs.Option.{option_copied}
+use Rattle.ft_values.specs.declared.table.Column as source
+use Rattle.ft_content.specs.Views.{TableInfo, bare_content, column_of}
 use Rattle.ft_query.specs.Reads.{query_of}
-use Rattle.ft_content.specs.Index.{index_rows}
-use Rattle.ft_documents.specs.Tables.{table_rows, table_index}
 use Rattle.ft_documents.specs.Found.{info_named, IsUnfit, IsSoundNamed}
 use Rattle.ft_index.specs.Kept.{FullText, IsUp, AreHeld, Executes, PlansFrom, is_outside, held_columns}
 use Rattle.ft_index.specs.Changed.{with_tables}
@@ -23,7 +23,8 @@ use Rattle.ft_index.specs.DocumentsRead.{Looks}
 use Rattle.ft_documents.specs.Chosen.{ReadsFilterAs}
 use Rattle.ft_index.specs.Selected.{IsAsked}
 use Rattle.ft_index.specs.RowsRead.{rows_asked, CountsHeld, CountsFound, CountsRows, CountsCommand}
-use Rattle.ft_index.proofs.Acting.{executes_read}
+use Rattle.ft_index.proofs.Executing.{executes_read}
+use Rattle.ft_index.proofs.Blaming.{rows_in, index_in}
 use Rattle.ft_index.proofs.PlanAnswers.{plans_nothing}
 use Rattle.ft_index.proofs.KnownLemmas.{IsSoundTable, sound_table, sound_is, unfit_is}
 use Rattle.ft_index.proofs.InsertHolds.{sound_rows}
@@ -60,6 +61,15 @@ pub reads_bare : (columns : List Column) (content : Content) (f : Filter) (query
 reads_bare columns content All query same h = tt
 reads_bare columns content (Docid docid) query same h = tt
 reads_bare columns content (Match name text) query same h = sym (reading_bare columns content name text same) ∙ h
+
+pub passed_tree : {A : Type 0} (tree : A → Tree) (passed : Option (Bor A)) (query : Option A) → option_copied passed ≡ query → option_map (λ (r : Bor A). tree r.now) passed ≡ option_map tree query
+passed_tree tree None query is = ap (option_map tree) is
+passed_tree tree (Some r) query is = ap (option_map tree) is
+
+-- the query as it is passed on
+pub reads_passed : {A : Type 0} (tree : A → Tree) (cols : List source.Column) (content : Content) (f : Filter) (passed : Option (Bor A)) (query : Option A) → option_copied passed ≡ query → content.columns ≡ map column_of cols → ReadsFilterAs (bare_content cols) f (option_map tree query) →
+    ReadsFilterAs content f (option_map (λ q. tree q.now) passed)
+reads_passed tree cols content f passed query is same reads = subst (ReadsFilterAs content f) (sym (passed_tree tree passed query is)) (reads_bare (map column_of cols) content f (option_map tree query) same reads)
 
 pub query_bare : (columns : List Column) (content : Content) (f : Filter) → content.columns ≡ columns → query_fault (bare columns) f ≡ query_fault content f
 query_bare columns content All same = refl
@@ -146,10 +156,7 @@ module _ {S : Type 0} (g : Ghosts S) (old new : StoreState S) (tables : List Tab
           let has = sound_rows (value_in g old) tables first name known t order holds in
           let id : t.table.0 ≡ known.id = ap (λ (k : TableInfo). k.id) t.told in
           record {
-            held = record {
-              rows = record { clean = up.clean; is_open = up.is_open; name = t.table.1.name; is_content = has.is_content; rows = subst (λ (k : ℤ). table_rows k (value_in g old) ≡ content_rows t.content) id has.rows };
-              index = record { clean = up.clean; is_open = up.is_open; name = t.table.1.name; is_content = has.is_content; index = subst (λ (k : ℤ). table_index k (value_in g old) ≡ index_rows t.content) id has.index };
-            };
+            held = record { rows = rows_in g known.id t.table.0 (sym id) old new t.table.1.name t.content has up.clean up.is_open; index = index_in g known.id t.table.0 (sym id) old new t.table.1.name t.content has up.clean up.is_open };
             columns = told_columns first name known t;
             reads = reads_bare known.columns t.content f query (told_columns first name known t) reads;
             offsets = fine_offsets known.name (bare known.columns) items f fine;

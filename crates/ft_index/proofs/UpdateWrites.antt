@@ -1,5 +1,7 @@
 -- What an Update writes.
 use Rattle.std.proofs.Common.{◌≡◌, ℕ, Bool, true, false, cond, not, ◌&&◌, List, [], ◌∷◌, ◌++◌, map, Option, Some, None, ℤ, refl, sym, ap, subst, ◌∙◌}
+use Rattle.std.proofs.lemmas.Float.{T_from_true}
+use Rattle.sqlite_keyed.proofs.KeyedLemmas.{same_int}
 use Rattle.std.specs.Prelude.{slice_get, Contains}
 use Rattle.std.specs.List.{AllByRecursion}
 use Rattle.std.specs.declared.cmp.Ordering.{Ordering}
@@ -8,8 +10,7 @@ use Rattle.std.specs.Ordering.{int_cmp, int_eq, is_lt, is_eq, ordering_reverse}
 use Rattle.std.specs.Cmp.{int_cmp_total, eq_by_cmp_equiv}
 use Rattle.std.specs.FinMap.Entries.{put, find, is_sorted, is_sorted-put, is_sorted-where_key, find-put, find-where_key, same_entries}
 use Rattle.std.proofs.lemmas.Map.Lookups.{exact_signed}
-use Rattle.std.proofs.lemmas.List.Elements.{Contains-append_left}
-use Rattle.ft_query.proofs.OffsetOrder.{contains_head, contains_tail}
+use Rattle.std.proofs.lemmas.List.Elements.{Contains-push, Contains-append_left}
 use Rattle.ft_store.proofs.KeyedLemmas.{put-without_key}
 use Rattle.ft_values.specs.Cells.{Cell}
 use Rattle.ft_values.specs.declared.fault.Fault.TheVariants as faults
@@ -21,7 +22,6 @@ use Rattle.ft_content.specs.Step.{docids_of, docid_if_any, without_docid, moved,
 use Rattle.ft_documents.specs.Rewrite.{Rewrite, under_docids, rewritten}
 use Rattle.ft_documents.specs.Updated.{changing, leaving, coming, moved_from, MayMove}
 use Rattle.ft_index.specs.Written.{LeadsTo}
-use Rattle.ft_documents.proofs.KeyedRows.{tie, of_true}
 use Rattle.ft_documents.proofs.AddLemmas.{own_put}
 use Rattle.ft_documents.proofs.FoundLemmas.{not_some}
 use Rattle.ft_documents.proofs.ChosenLemmas.{all_found}
@@ -34,8 +34,8 @@ use Rattle.ft_documents.proofs.InsertOf.{are_of}
 gone_put : (docid : ℤ) (cells : List Cell) (ds : Documents) → is_sorted int_cmp ds ≡ true → without_docid docid (put int_cmp docid cells ds) ≡ without_docid docid ds
 gone_put docid cells ds sorted =
     same_entries int_cmp int_cmp_total exact_signed (without_docid docid (put int_cmp docid cells ds)) (without_docid docid ds)
-    (is_sorted-where_key int_cmp other (put int_cmp docid cells ds) (is_sorted-put int_cmp int_cmp_total docid cells ds (of_true _ sorted)))
-    (is_sorted-where_key int_cmp other ds (of_true _ sorted))
+    (is_sorted-where_key int_cmp other (put int_cmp docid cells ds) (is_sorted-put int_cmp int_cmp_total docid cells ds (T_from_true _ sorted)))
+    (is_sorted-where_key int_cmp other ds (T_from_true _ sorted))
     (λ q. find-where_key int_cmp other q (alike q) (put int_cmp docid cells ds) ∙ ap (λ o. cond (other q) o None) (find-put int_cmp int_cmp_total q docid cells ds) ∙ go q (int_eq q docid) refl
     ∙ sym (find-where_key int_cmp other q (alike q) ds))
   where
@@ -78,10 +78,10 @@ module _ (docs : Documents) (sorted : is_sorted int_cmp docs ≡ true) (r : Rewr
       pub near : AllByRecursion (λ (x : Rewrite). Contains (r.docid ∷ docid ∷ []) x.docid) rewrites
 
     first : Contains (r.docid ∷ docid ∷ []) r.docid
-    first = contains_head r.docid (docid ∷ [])
+    first = Contains-append_left (r.docid ∷ []) (docid ∷ []) r.docid (Contains-push [] r.docid)
 
     second : Contains (r.docid ∷ docid ∷ []) docid
-    second = contains_tail r.docid docid (docid ∷ []) (contains_head docid [])
+    second = Contains-push (r.docid ∷ []) docid
 
     pub are_moves : AreMoves (cond (is_lt (int_cmp r.docid docid)) (leaving r ∷ coming r docid ∷ []) (coming r docid ∷ leaving r ∷ []))
     are_moves = go (is_lt (int_cmp r.docid docid)) refl
@@ -184,12 +184,12 @@ module _ (sets : List (List ℕ × Cell)) (f : Filter) where
       go : (b : Bool) → int_eq d.0 docid ≡ b → LeadsTo content (put int_cmp docid cells (without_docid d.0 (set_all content))) touched rewrites
       go true same =
           let stays : put int_cmp docid cells (without_docid d.0 (set_all content)) ≡ set_all content =
-          here ∙ ap (λ k. put int_cmp k cells (without_docid d.0 docs)) (sym (exact_signed d.0 docid (tie _ same))) ∙ put-without_key int_cmp int_cmp_total exact_signed d.0 cells docs (of_true _ is.rising) ∙ sym (alone content d is.rising are) in
+          here ∙ ap (λ k. put int_cmp k cells (without_docid d.0 docs)) (sym (same_int d.0 docid same)) ∙ put-without_key int_cmp int_cmp_total exact_signed d.0 cells docs (T_from_true _ is.rising) ∙ sym (alone content d is.rising are) in
           let list : map (changing sets content.columns) (chosen content f) ≡ rewrites = ap (map (changing sets content.columns)) are ∙ sym (moves ∙ ap (λ b. cond b (r ∷ []) parts) same) in
           subst (λ (ds : Documents). LeadsTo content ds touched rewrites) (sym stays)
           (subst (LeadsTo content (set_all content) touched) list
           (stay name content touched is (subst (λ (ds : Documents). IsContent name (record content { documents = ds })) stays makes)
-          (subst (λ (ds : Documents). AllByRecursion (Contains touched) (docids_of ds)) (sym are) (contains_head d.0 (docid ∷ docids), tt))))
+          (subst (λ (ds : Documents). AllByRecursion (Contains touched) (docids_of ds)) (sym are) (Contains-append_left (d.0 ∷ []) (docid ∷ docids) d.0 (Contains-push [] d.0), tt))))
       go false apart =
           let m = are_moves docs is.rising r cells refl docid (found_one content d is.rising are) (free_one docs d docid apart fine) apart in
           let list : parts ≡ rewrites = sym (moves ∙ ap (λ b. cond b (r ∷ []) parts) apart) in

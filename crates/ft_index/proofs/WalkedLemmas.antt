@@ -63,13 +63,19 @@ module _ {S : Type 0} (g : Ghosts S) (tab : ℤ) (old new : StoreState S) (kept 
   same_value h = ap (λ (d : Database). value_of d.trees) (kept h.clean h.is_open).0
 
   -- reads leave what the lists mean
-  pub still_reliable : Survives (shows g old) (shows g new) (λ _. IsTrue (shows g old).is_open → ⊥) → AreReliable g tab new → AreReliable g tab old × (table_documents g tab new ≡ table_documents g tab old)
+  still_reliable : Survives (shows g old) (shows g new) (λ _. IsTrue (shows g old).is_open → ⊥) → AreReliable g tab new → AreReliable g tab old × (table_documents g tab new ≡ table_documents g tab old)
   unfolding table_documents
   still_reliable survives h =
       let same = same_value h in (
         reliable_of g tab old h.name h.content (omega (arith, survives.clean, h.clean)) (kept h.clean h.is_open).2 h.is_content (subst (λ (v : StoreValue). table_index tab v ≡ index_rows h.content) same h.index),
         ap (λ (v : StoreValue). documents_in (table_index tab v).lists) same,
       )
+
+  -- the same, said of lists that stand so
+  pub still_after : {at : ℤ} {store : StoreState S} → Survives (shows g old) (shows g new) (λ _. IsTrue (shows g old).is_open → ⊥) → at ≡ tab → store ≡ new → AreReliable g at store → AreReliable g tab old × (table_documents g at store ≡ table_documents g tab old)
+  still_after {at} {store} survives same_tab same h =
+      let stays = still_reliable survives (subst (AreReliable g tab) same (subst (λ k. AreReliable g k store) same_tab h)) in
+      (stays.0, (λ i. table_documents g (same_tab i) (same i)) ∙ stays.1)
 
   -- the rows of the lists that are asked are what a walk wants
   pub walk_answer : (asks : ListKey → Bool) (test : List ℕ → Bool) → ((k : ListKey) → asks k ≡ (int_eq tab k.0 && test k.1)) → (rows : List ListRow) →

@@ -1,6 +1,5 @@
 -- by the table that is found, its query, and what was read
-use Rattle.std.proofs.Common.{◌≡◌, ℕ, ℤ, List, Option, Some, None, Result, Err, map, option_map, Bor, string_bytes, sym, ap, subst, ◌∙◌, to_z, of_z, w64, to_z-of_z, FitsSigned, rules, refl}
-use Rattle.std.specs.Option.{option_copied}
+use Rattle.std.proofs.Common.{◌≡◌, ℕ, ℤ, List, Option, Result, Err, map, option_map, Bor, string_bytes, sym, subst, ◌∙◌, to_z, of_z, w64, to_z-of_z, FitsSigned, rules, refl}
 use Rattle.ft_query.specs.Trees.{Tree, tree_of}
 use Rattle.ft_values.specs.declared.fault.Fault.{Fault}
 use Rattle.ft_content.specs.declared.command.Reply.{Reply}
@@ -13,11 +12,10 @@ use Rattle.ft_documents.specs.Found.{IsUnfit, IsSoundNamed}
 use Rattle.ft_index.specs.Changed.{with_tables}
 use Rattle.ft_index.specs.Kept.{Executes}
 use Rattle.ft_index.specs.Selected.{IsAsked}
-use Rattle.ft_index.proofs.Acting.{executes_read, fault_answers}
+use Rattle.ft_index.proofs.Executing.{executes_read, fault_answers}
 use Rattle.ft_index.proofs.LookLemmas.{no_look}
-use Rattle.ft_index.proofs.SelectAnswers.{names_bare, reads_bare, select_unplanned, select_fails, select_done, select_counts}
+use Rattle.ft_index.proofs.SelectAnswers.{names_bare, reads_passed, passed_tree, select_unplanned, select_fails, select_done, select_counts}
 use Rattle.ft_store.specs.Kept.{value_in}
-use Rattle.ft_documents.specs.Chosen.{ReadsFilterAs}
 use Rattle.ft_index.proofs.Blaming.{over_sound, has_at}
 use Rattle.ft_index.proofs.select.select_from.Goals as goal
 use Rattle.ft_index.proofs.select.select_from.Goals.{After-selected_rows}
@@ -45,11 +43,6 @@ returns-in_err-query-clause-executes g c =
     (executes_read g.S.Store c.args.store.now c.args.store.now tables (selection_of select) (Err fault) (no_look g.S.Store c.args.store.now) (λ up first held.
     fault_answers first (selection_of select) fault (select_fails first (string_bytes select.table) (items_of select.items) (filter_of select.filter) select.limit select.offset (value_in g.S.Store c.args.store.now) tables held (shown_info info) named fault c.in_err-query.ensures.fault)))
 
--- the query as it was passed
-passed : {A : Type 0} (f : A → Tree) (o : Option (Bor A)) (q : Option A) → option_copied o ≡ q → option_map (λ (r : Bor A). f r.now) o ≡ option_map f q
-passed f None q is = ap (option_map f) is
-passed f (Some r) q is = ap (option_map f) is
-
 -- what is asked for as it was passed
 asked_in : (g : _) (c : After-selected_rows g) (content : Content) → IsAsked g.S.Store c.in_ok-info.info.now.id (map column_of c.in_ok-info.info.now.columns.items) (items_of c.args.select.now.items) (filter_of c.args.select.now.filter) (option_map tree_of c.in_ok-query.query) c.args.store.now c.selected_rows.new.store content →
     IsAsked g.S.Store (to_z w64 (of_z w64 c.in_ok-info.info.now.id)) (map column_of c.as_slice-columns.result.now) (items_of c.args.select.now.items) (filter_of c.args.select.now.filter) (option_map (λ q. tree_of q.now) c.as_ref.result) c.args.store.now c.selected_rows.new.store content
@@ -64,7 +57,7 @@ asked_in g c content asked =
     let fits : FitsSigned w64 info.id = search rules in
     subst (λ (cs : List Column). IsAsked g.S.Store (to_z w64 (of_z w64 info.id)) (map column_of cs) items f query first last content) (sym c.as_slice-columns.ensures.value)
     (subst (λ (k : ℤ). IsAsked g.S.Store k columns items f query first last content) (sym (to_z-of_z fits))
-    (subst (λ (q : Option Tree). IsAsked g.S.Store info.id columns items f q first last content) (sym (passed tree_of c.as_ref.result c.in_ok-query.query c.as_ref.ensures.value)) asked))
+    (subst (λ (q : Option Tree). IsAsked g.S.Store info.id columns items f q first last content) (sym (passed_tree tree_of c.as_ref.result c.in_ok-query.query c.as_ref.ensures.value)) asked))
 
 pub returns-clause-executes : goal.returns-clause-executes
 unfolding answer
@@ -94,12 +87,8 @@ returns-clause-counts g c =
 
 pub returns-in_err-rows-clause-refused : goal.returns-in_err-rows-clause-refused
 returns-in_err-rows-clause-refused g c = λ contents held clean told.
-    let select = c.args.select.now in
-    let f = filter_of select.filter in
     let info : RustTableInfo = c.in_ok-info.info.now in
     let over = over_sound (value_in g.S.Store c.args.store.now) (map shown_info c.args.tables.now) contents c.as_str.result.now (shown_info info) c.is_in_order.ensures.order held c.in_ok-info.ensures in
-    let query : Option Tree = option_map tree_of c.in_ok-query.query in
-    let query_is : option_map {T = Bor _} (λ q. tree_of q.now) c.as_ref.result ≡ query = passed tree_of c.as_ref.result c.in_ok-query.query c.as_ref.ensures.value in
-    let reads = reads_bare (map column_of info.columns.items) over.content f query over.columns_are c.in_ok-query.ensures.query in
+    let reads = reads_passed tree_of info.columns.items over.content (filter_of c.args.select.now.filter) c.as_ref.result c.in_ok-query.query c.as_ref.ensures.value over.columns_are c.in_ok-query.ensures.query in
     let fits : FitsSigned w64 info.id = search rules in
-    c.selected_rows.ensures.refused (string_bytes info.name) over.content (has_at refl (sym (to_z-of_z fits)) over.has) (subst (ReadsFilterAs over.content f) (sym query_is) reads) clean (search rules)
+    c.selected_rows.ensures.refused (string_bytes info.name) over.content (has_at refl (sym (to_z-of_z fits)) over.has) reads clean (search rules)

@@ -8,7 +8,7 @@ use Rattle.ft_content.specs.Views.{shown_info, answer_of}
 use Rattle.ft_index.specs.Kept.{Executes}
 use Rattle.ft_index.specs.Opened.{HasState}
 use Rattle.ft_index.specs.Changed.{with_tables}
-use Rattle.ft_index.proofs.Acting.{executes_read}
+use Rattle.ft_index.proofs.Executing.{executes_read}
 use Rattle.ft_index.proofs.CheckLemmas.{told_here, check_missing, check_right, check_wrong}
 use Rattle.ft_index.proofs.LookLemmas.{no_look}
 use Rattle.ft_store.specs.Calls.{fault_of_read}

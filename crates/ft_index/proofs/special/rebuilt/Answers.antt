@@ -10,7 +10,7 @@ use Rattle.ft_documents.specs.Tables.{table_rows}
 use Rattle.ft_index.specs.DocumentsRead.{HasRows}
 use Rattle.ft_index.specs.Kept.{PlansFrom, AreHeld, IsUp}
 use Rattle.ft_index.specs.Opened.{HasState}
-use Rattle.ft_index.proofs.Acting.{looks_up}
+use Rattle.ft_index.proofs.Executing.{looks_up}
 use Rattle.ft_index.proofs.CheckLemmas.{told_here}
 use Rattle.ft_index.proofs.LookLemmas.{rows_then}
 use Rattle.ft_content.specs.Deserved.{Contents}

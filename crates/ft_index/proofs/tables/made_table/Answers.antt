@@ -1,43 +1,44 @@
 -- the names of the tables are those of the contents
-use Rattle.std.proofs.Common.{◌≡◌, inr, List, String, Global, refl, sym, ap, ◌∙◌, map, string_bytes, None, Some, FitsSigned, w64, to_z-of_z, rules}
+use Rattle.std.proofs.Common.{◌≡◌, inr, List, Option, String, Global, refl, sym, ap, ◌∙◌, map, string_bytes, Some, FitsSigned, w64, to_z-of_z, rules}
+use Rattle.ft_index.specs.Kept.{table_info}
+use Rattle.ft_values.specs.declared.fault.Fault.{Fault}
 use Rattle.std.specs.Prelude.{is_some}
 use Rattle.std.specs.List.{position}
 use Rattle.ft_values.specs.declared.table.TableInfo.{TableInfo as RustTableInfo}
 use Rattle.ft_content.specs.Content.{same_name}
-use Rattle.ft_content.specs.Deserved.{create_fault, made_columns}
+use Rattle.ft_content.specs.Deserved.{Contents, create_fault, deserved, made_columns}
 use Rattle.ft_content.specs.Step.{made_column}
-use Rattle.ft_content.specs.Views.{TableInfo, shown_info, option_of, names_in}
+use Rattle.ft_content.specs.Views.{TableInfo, shown_info, option_of, names_in, creation_of}
 use Rattle.ft_documents.specs.Found.{info_named}
 use Rattle.ft_documents.proofs.FoundLemmas.{found_is, unplaced, not_some}
 use Rattle.ft_index.proofs.KnownLemmas.{same_names, same_ids, create_due, is_named, none_named}
 use Rattle.ft_index.proofs.Blaming.{err_of}
 use Rattle.ft_index.proofs.NoStore.{created_other, names_as, some_contents}
 use Rattle.ft_index.proofs.tables.made_table.Goals as goal
+use Rattle.ft_index.proofs.tables.made_table.Goals.{After-create_fault}
 
-pub returns-in-Some-clause-makes : goal.returns-in-Some-clause-makes
-returns-in-Some-clause-makes c = λ contents told.
+-- what the tests tell, as the definitions have it
+due_in : (c : After-create_fault) (due : Option Fault) → c.create_fault.result ≡ due → (contents : Contents) → map shown_info c.args.tables.now ≡ map table_info contents → deserved contents (creation_of c.args.creation.now) ≡ due
+due_in c due is contents told =
     let t = c.args.creation.now in
     let table = string_bytes t.table in
     let module_name = string_bytes t.module in
     let options = map option_of t.options.items in
     let made : map string_bytes c.in_ok-names.names.items ≡ made_columns (names_in t.columns) = c.in_ok-names.ensures ∙ ap (λ (v : List (String Global)). made_columns (map string_bytes v)) c.as_slice.ensures.value in
-    inr (create_due contents table module_name options (names_in t.columns) (map string_bytes c.in_ok-names.names.items) t.if_new (Some c.in-Some.fault) made
-    (sym c.in-Some.is ∙ c.create_fault.ensures contents (same_names c.args.tables.now contents told)
-    ∙ ap (λ (v : List (String Global)). create_fault contents table module_name options (map string_bytes v) t.if_new) c.as_slice-2.ensures.value))
+    create_due contents table module_name options (names_in t.columns) (map string_bytes c.in_ok-names.names.items) t.if_new due made
+    (sym is ∙ c.create_fault.ensures contents (same_names c.args.tables.now contents told)
+    ∙ ap (λ (v : List (String Global)). create_fault contents table module_name options (map string_bytes v) t.if_new) c.as_slice-2.ensures.value)
+
+pub returns-in-Some-clause-makes : goal.returns-in-Some-clause-makes
+returns-in-Some-clause-makes c = λ contents told. inr (due_in (goal.at.returns-in-Some-clause-makes c).After-create_fault _ c.in-Some.is contents told)
 
 pub returns-then-is_some-clause-makes : goal.returns-then-is_some-clause-makes
 returns-then-is_some-clause-makes c = λ contents told.
-    let t = c.args.creation.now in
     let tables = c.args.tables.now in
-    let table = string_bytes t.table in
-    let module_name = string_bytes t.module in
-    let options = map option_of t.options.items in
-    let made : map string_bytes c.in_ok-names.names.items ≡ made_columns (names_in t.columns) = c.in_ok-names.ensures ∙ ap (λ (v : List (String Global)). made_columns (map string_bytes v)) c.as_slice.ensures.value in
+    let table = string_bytes c.args.creation.now.table in
     let placed : c.table_place.result ≡ position (λ (k : RustTableInfo). same_name (string_bytes k.name) table) tables =
     c.table_place.ensures ∙ ap (λ n. position (λ (k : RustTableInfo). same_name (string_bytes k.name) n) tables) c.as_str.ensures.value in (
-      create_due contents table module_name options (names_in t.columns) (map string_bytes c.in_ok-names.names.items) t.if_new None made
-          (sym c.in_default.is ∙ c.create_fault.ensures contents (same_names tables contents told)
-          ∙ ap (λ (v : List (String Global)). create_fault contents table module_name options (map string_bytes v) t.if_new) c.as_slice-2.ensures.value),
+      due_in (goal.at.returns-then-is_some-clause-makes c).After-create_fault _ c.in_default.is contents told,
       is_named contents table (info_named (map shown_info tables) table) (ap (λ ts. info_named ts table) (sym told))
           ∙ found_is shown_info (λ (k : TableInfo). same_name k.name table) tables
           ∙ ap is_some (sym placed) ∙ sym c.is_some.ensures ∙ c.if-is_some.true,
@@ -48,14 +49,10 @@ returns-clause-makes c = λ contents told.
     let t = c.args.creation.now in
     let tables = c.args.tables.now in
     let table = string_bytes t.table in
-    let module_name = string_bytes t.module in
-    let options = map option_of t.options.items in
     let made : map string_bytes c.in_ok-names.names.items ≡ made_columns (names_in t.columns) = c.in_ok-names.ensures ∙ ap (λ (v : List (String Global)). made_columns (map string_bytes v)) c.as_slice.ensures.value in
     let placed : c.table_place.result ≡ position (λ (k : RustTableInfo). same_name (string_bytes k.name) table) tables =
     c.table_place.ensures ∙ ap (λ n. position (λ (k : RustTableInfo). same_name (string_bytes k.name) n) tables) c.as_str.ensures.value in (
-      create_due contents table module_name options (names_in t.columns) (map string_bytes c.in_ok-names.names.items) t.if_new None made
-          (sym c.in_default.is ∙ c.create_fault.ensures contents (same_names tables contents told)
-          ∙ ap (λ (v : List (String Global)). create_fault contents table module_name options (map string_bytes v) t.if_new) c.as_slice-2.ensures.value),
+      due_in (goal.at.returns-clause-makes c).After-create_fault _ c.in_default.is contents told,
       none_named contents table (ap (λ ts. info_named ts table) (sym told) ∙ unplaced shown_info (λ (k : TableInfo). same_name k.name table) tables (sym placed ∙ not_some c.table_place.result (sym c.is_some.ensures ∙ c.if-is_some.false))),
       record {
         id = (let fits : FitsSigned w64 c.free_id.result = search rules in to_z-of_z fits) ∙ c.free_id.ensures.id contents (same_ids tables contents told);

@@ -8,12 +8,12 @@ use Rattle.ft_content.specs.Command.{Command}
 use Rattle.ft_content.specs.Views.{filter_of, deletion_of, shown_info, column_of}
 use Rattle.ft_documents.specs.Rewrite.{shown_rewrite}
 use Rattle.ft_index.specs.Changed.{Does, with_tables}
-use Rattle.ft_index.proofs.Acting.{told_kept}
+use Rattle.ft_index.proofs.Executing.{told_kept}
 use Rattle.ft_index.proofs.Anew.{delete_reaches}
 use Rattle.ft_index.proofs.DeleteWrites.{due, made, gone, leaves, replies, is_write, writes_table}
 use Rattle.ft_index.proofs.Doing.{does_failed, does_undone, does_made, done_blamed}
 use Rattle.ft_index.proofs.LookLemmas.{no_look}
-use Rattle.ft_index.proofs.Planning.{plans_unfit}
+use Rattle.ft_index.proofs.Writing.{plans_unfit}
 use Rattle.ft_index.specs.Refused.{BlamesDone}
 use Rattle.ft_index.proofs.Blaming.{err_of}
 use Rattle.ft_index.proofs.GroupLemmas.{none_written}

@@ -1,28 +1,25 @@
 -- by the table, the tests, and the documents that are chosen
-use Rattle.std.proofs.Common.{rules, ℕ, List, ◌≡◌, ◌≢◌, inl, inr, map, string_bytes, option_map, Err, Some, None, Result, refl, sym, ap, subst, ◌∙◌, to_z-of_z, to_z, of_z, w64, FitsSigned}
+use Rattle.std.proofs.Common.{rules, ℕ, List, ◌≡◌, ◌≢◌, inl, inr, map, string_bytes, Err, Some, None, Result, refl, sym, ap, subst, ◌∙◌, to_z-of_z, to_z, of_z, w64, FitsSigned}
 use Rattle.ft_query.specs.Trees.{tree_of}
 use Rattle.ft_values.specs.declared.fault.Fault.{Fault}
 use Rattle.ft_values.specs.declared.fault.Fault.TheVariants as faults
 use Rattle.ft_values.specs.declared.table.TableInfo.{TableInfo as RustTableInfo}
 use Rattle.ft_content.specs.Deserved.{delete_tests, query_fault}
 use Rattle.ft_content.specs.Views.{TableInfo, bare_content, column_of, filter_of, deletion_of, shown_info}
-use Rattle.ft_documents.specs.Chosen.{ReadsFilterAs}
 use Rattle.ft_documents.specs.Found.{IsSoundNamed, IsUnfit}
 use Rattle.ft_documents.specs.Rewrite.{removal}
 use Rattle.ft_index.specs.declared.written.Written.{Written}
 use Rattle.ft_index.specs.Written.{HasAll, WritesDocuments, WritesIn, LeadsTo}
 use Rattle.ft_index.proofs.DeleteWrites.{due, made, gone, is_write, leads, tested_due, text_due, none_due}
-use Rattle.ft_index.proofs.Planning.{plans_unfit, plans_failed, writes_do}
-use Rattle.ft_index.proofs.SelectAnswers.{reads_bare}
-use Rattle.ft_index.proofs.WholeReads.{rows_of, index_of}
+use Rattle.ft_index.proofs.Writing.{plans_unfit, plans_failed, writes_do}
+use Rattle.ft_index.proofs.SelectAnswers.{reads_passed}
 use Rattle.sqlite.specs.Store.{Ghosts}
 use Rattle.ft_rows.specs.Store.{AreInOrder}
 use Rattle.ft_store.specs.Kept.{StoreState, value_in}
 use Rattle.ft_content.specs.Content.{Content}
 use Rattle.ft_content.specs.declared.command.Deletion.{Deletion}
-use Rattle.ft_index.proofs.Blaming.{over_sound, has_at}
+use Rattle.ft_index.proofs.Blaming.{rows_in, index_in, over_sound, has_at}
 use Rattle.ft_index.proofs.written.delete_written.Goals as goal
-use Rattle.ft_index.proofs.written.delete_written.Goals.{After-chosen_documents}
 
 pub returns-in_err-table-clause-told : goal.returns-in_err-table-clause-told
 returns-in_err-table-clause-told g c =
@@ -43,15 +40,6 @@ fails g w info tables old new order text is named fault found failed writes =
     let f = filter_of w.filter in
     let name = string_bytes w.table in
     plans_failed g (deletion_of w) name (due f) (made f) (gone f) (is_write f name) old new tables (shown_info info) order (subst (λ n. IsSoundNamed tables n (shown_info info)) is named) fault found failed writes
-
--- the text of a MATCH is read as over the content
-reads_in : (g : _) (c : After-chosen_documents g) (content : Content) → content.columns ≡ map column_of c.in_ok-table.table.now.columns.items → ReadsFilterAs content (filter_of c.args.deletion.now.filter) (option_map (λ q. tree_of q.now) c.as_ref.result)
-reads_in g c content columns_are =
-    let f = filter_of c.args.deletion.now.filter in
-    let cols = c.as_slice-columns.result.now in
-    let reads : ReadsFilterAs (bare_content cols) f (option_map tree_of c.in_ok-query.query) = search rules in
-    let shown : option_map (λ q. tree_of q.now) c.as_ref.result ≡ option_map tree_of c.in_ok-query.query = search rules in
-    subst (ReadsFilterAs content f) (sym shown) (reads_bare (map column_of cols) content f (option_map tree_of c.in_ok-query.query) (columns_are ∙ ap (map column_of) (sym c.as_slice-columns.ensures.value)) reads)
 
 pub returns-in-Some-clause-told : goal.returns-in-Some-clause-told
 returns-in-Some-clause-told g c = fails g.S.Store c.args.deletion.now c.in_ok-table.table.now (map shown_info c.args.tables.now) c.args.store.now c.args.store.now c.is_in_order.ensures.order _ c.as_str.ensures.value c.in_ok-table.ensures c.in-Some.fault (Err c.in-Some.fault) refl (λ content has.
@@ -93,9 +81,9 @@ returns-clause-told g c =
     let fine : query_fault (bare_content cols) f ≡ None = search rules in
     let fits : FitsSigned w64 info.id = search rules in
     let tab = to_z w64 (of_z w64 info.id) in
-    let rows = rows_of g.S.Store tab info.id (to_z-of_z fits) (string_bytes info.name) (map column_of info.columns.items) c.args.store.now c.chosen_documents.new.store content has in
-    let index = index_of g.S.Store tab info.id (to_z-of_z fits) (string_bytes info.name) (map column_of info.columns.items) c.args.store.now c.chosen_documents.new.store content has in
-    let found = c.in_ok-documents.ensures.told content rows index (reads_in g (goal.at.returns-clause-told g c).After-chosen_documents content has.columns_are) in (
+    let rows = rows_in g.S.Store tab info.id (to_z-of_z fits) c.args.store.now c.chosen_documents.new.store (string_bytes info.name) content has.has has.clean has.is_open in
+    let index = index_in g.S.Store tab info.id (to_z-of_z fits) c.args.store.now c.chosen_documents.new.store (string_bytes info.name) content has.has has.clean has.is_open in
+    let found = c.in_ok-documents.ensures.told content rows index (reads_passed tree_of cols content f c.as_ref.result c.in_ok-query.query c.as_ref.ensures.value columns_are (search rules)) in (
       subst (λ n. due f n content ≡ None) c.as_str-2.ensures.value (none_due f content cols columns_are c.as_str-2.result.now tested fine),
       subst (LeadsTo content (made f content) (gone f content)) (sym (c.in_ok-rewrites.ensures ∙ ap (map removal) found)) (leads f (string_bytes info.name) content has.has.is_content),
     ))
@@ -105,4 +93,6 @@ returns-in_err-documents-clause-refused g c = λ contents held clean told.
     let info : RustTableInfo = c.in_ok-table.table.now in
     let over = over_sound (value_in g.S.Store c.args.store.now) (map shown_info c.args.tables.now) contents c.as_str.result.now (shown_info info) c.is_in_order.ensures.order held c.in_ok-table.ensures in
     let fits : FitsSigned w64 info.id = search rules in
-    c.chosen_documents.ensures.refused (string_bytes info.name) over.content (has_at refl (sym (to_z-of_z fits)) over.has) (reads_in g (goal.at.returns-in_err-documents-clause-refused g c).After-chosen_documents over.content over.columns_are) clean (search rules)
+    let cols = c.as_slice-columns.result.now in
+    let reads = reads_passed tree_of cols over.content (filter_of c.args.deletion.now.filter) c.as_ref.result c.in_ok-query.query c.as_ref.ensures.value (over.columns_are ∙ ap (map column_of) (sym c.as_slice-columns.ensures.value)) (search rules) in
+    c.chosen_documents.ensures.refused (string_bytes info.name) over.content (has_at refl (sym (to_z-of_z fits)) over.has) reads clean (search rules)

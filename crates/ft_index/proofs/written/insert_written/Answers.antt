@@ -27,10 +27,9 @@ use Rattle.ft_index.specs.Written.{HasAll, WritesDocuments, PlansTo, WritesIn}
 use Rattle.ft_index.proofs.InsertWrites.{due, made, news, is_write, tested_writes, tests_are, rows_are, writes}
 use Rattle.ft_index.specs.DocumentsRead.{Looks}
 use Rattle.ft_index.proofs.LookLemmas.{rows_first, rows_then}
-use Rattle.ft_index.proofs.WholeReads.{rows_of}
 use Rattle.ft_index.proofs.Pinging.{outside_of}
-use Rattle.ft_index.proofs.Planning.{plans_unfit, plans_failed, writes_do}
-use Rattle.ft_index.proofs.Blaming.{err_of, over_sound}
+use Rattle.ft_index.proofs.Writing.{plans_unfit, plans_failed, writes_do}
+use Rattle.ft_index.proofs.Blaming.{rows_in, err_of, over_sound}
 use Rattle.ft_index.proofs.NoStore.{rows_other}
 use Rattle.ft_index.proofs.written.insert_written.Goals as goal
 use Rattle.ft_index.proofs.written.insert_written.Goals.{After-made_documents}
@@ -120,7 +119,7 @@ known_in g c content has =
     let new = c.stored_docids.new.store in
     let one : Looks g.S.Store old mid = record { kept = c.in_ok-last.ensures.read.kept; survives = c.in_ok-last.ensures.read.survives } in
     let two = c.in_ok-stored.ensures.looks live in
-    let rows = rows_of g.S.Store tab info.id (to_z-of_z fits) (string_bytes info.name) (map column_of info.columns.items) old new content has in
+    let rows = rows_in g.S.Store tab info.id (to_z-of_z fits) old new (string_bytes info.name) content has.has has.clean has.is_open in
     let first = rows_first g.S.Store old mid new one two tab content rows in
     let stored = c.in_ok-stored.ensures.found live content (rows_then g.S.Store old mid new one two tab content rows) in (
       last_read tab (value_in g.S.Store old) first.name content first.is_content first.rows ∙ sym (c.in_ok-last.ensures.last first.clean),

@@ -1,5 +1,5 @@
 -- by the table, the tests, the documents that are chosen, and where one may go
-use Rattle.std.proofs.Common.{rules, ℕ, String, Bool, false, ◌≡◌, ◌≢◌, inl, inr, ℤ, List, map, string_bytes, option_map, Ok, Err, Some, None, Result, Vec, Global, refl, sym, ap, subst, ◌∙◌, to_z-of_z, to_z, of_z, w64, FitsSigned}
+use Rattle.std.proofs.Common.{rules, ℕ, String, Bool, false, ◌≡◌, ◌≢◌, inl, inr, ℤ, List, map, string_bytes, Ok, Err, Some, None, Result, Vec, Global, refl, sym, ap, subst, ◌∙◌, to_z-of_z, to_z, of_z, w64, FitsSigned}
 use Rattle.sqlite_keyed.proofs.ListLemmas.{map-map}
 use Rattle.std.specs.Prelude.{slice_get, IfOk, IfSome}
 use Rattle.std.specs.declared.alloc.AllocError.{AllocError}
@@ -26,20 +26,18 @@ use Rattle.ft_documents.specs.Found.{IsSoundNamed, IsUnfit}
 use Rattle.ft_documents.specs.Gathered.{shown_document}
 use Rattle.ft_documents.specs.Rewrite.{shown_rewrite}
 use Rattle.ft_documents.specs.Updated.{changing, MayMove}
-use Rattle.ft_documents.specs.Chosen.{ReadsFilterAs}
 use Rattle.ft_documents.proofs.InsertRows.{given_is}
 use Rattle.ft_index.specs.declared.written.Written.{Written}
 use Rattle.ft_index.specs.Written.{HasAll, WritesDocuments, PlansTo, WritesIn}
 use Rattle.ft_index.proofs.LookLemmas.{looks_then, rows_first, rows_then, index_first}
-use Rattle.ft_index.proofs.Planning.{plans_unfit, plans_failed, writes_do}
-use Rattle.ft_index.proofs.SelectAnswers.{reads_bare}
-use Rattle.ft_index.proofs.WholeReads.{rows_of, index_of}
+use Rattle.ft_index.proofs.Writing.{plans_unfit, plans_failed, writes_do}
+use Rattle.ft_index.proofs.SelectAnswers.{reads_passed}
 use Rattle.ft_index.proofs.UpdateDue.{due, made, touches, is_write, repeats_due, tested_due, text_due, moves_due}
 use Rattle.ft_index.proofs.UpdateWrites.{leads}
-use Rattle.ft_index.proofs.Blaming.{err_of, over_sound, has_at}
+use Rattle.ft_index.proofs.Blaming.{rows_in, index_in, err_of, over_sound, has_at}
 use Rattle.ft_index.proofs.NoStore.{moved_other}
 use Rattle.ft_index.proofs.written.update_written.Goals as goal
-use Rattle.ft_index.proofs.written.update_written.Goals.{After-chosen_documents, After-moves_fault}
+use Rattle.ft_index.proofs.written.update_written.Goals.{After-moves_fault}
 
 pub returns-then-repeats_set-clause-told : goal.returns-then-repeats_set-clause-told
 returns-then-repeats_set-clause-told g c =
@@ -113,15 +111,6 @@ returns-in_err-is_taken-clause-told g c = fails g.S.Store c.args.modification.no
 pub returns-in_err-is_taken-clause-looks : goal.returns-in_err-is_taken-clause-looks
 returns-in_err-is_taken-clause-looks g c = record { only = looks_then g.S.Store c.args.store.now c.chosen_documents.new.store c.has_document.new.store c.in_ok-documents.ensures.looks.only c.has_document.ensures.looks c.in_ok-documents.ensures.looks.live; live = search rules }
 
--- the text of a MATCH is read as over the content
-reads_in : (g : _) (c : After-chosen_documents g) (content : Content) → content.columns ≡ map column_of c.in_ok-table.table.now.columns.items → ReadsFilterAs content (filter_of c.args.modification.now.filter) (option_map (λ q. tree_of q.now) c.as_ref.result)
-reads_in g c content columns_are =
-    let f = filter_of c.args.modification.now.filter in
-    let cols = c.as_slice-columns.result.now in
-    let reads : ReadsFilterAs (bare_content cols) f (option_map tree_of c.in_ok-query.query) = search rules in
-    let shown : option_map (λ q. tree_of q.now) c.as_ref.result ≡ option_map tree_of c.in_ok-query.query = search rules in
-    subst (ReadsFilterAs content f) (sym shown) (reads_bare (map column_of cols) content f (option_map tree_of c.in_ok-query.query) (columns_are ∙ ap (map column_of) (sym c.as_slice-columns.ensures.value)) reads)
-
 -- the documents that are chosen, and what their moves deserve
 moves_in : (g : _) (c : After-moves_fault g) (content : Content) → HasAll g.S.Store c.in_ok-table.table.now.id (string_bytes c.in_ok-table.table.now.name) (map column_of c.in_ok-table.table.now.columns.items) c.args.store.now c.has_document.new.store content →
     (map shown_document c.in_ok-documents.documents.items ≡ chosen content (filter_of c.args.modification.now.filter))
@@ -142,12 +131,12 @@ moves_in g c content has =
     let old = c.args.store.now in
     let mid = c.chosen_documents.new.store in
     let new = c.has_document.new.store in
-    let rows = rows_of g.S.Store tab info.id same (string_bytes info.name) (map column_of info.columns.items) old new content has in
-    let index = index_of g.S.Store tab info.id same (string_bytes info.name) (map column_of info.columns.items) old new content has in
+    let rows = rows_in g.S.Store tab info.id same old new (string_bytes info.name) content has.has has.clean has.is_open in
+    let index = index_in g.S.Store tab info.id same old new (string_bytes info.name) content has.has has.clean has.is_open in
     let one = c.in_ok-documents.ensures.looks.only in
     let two = c.has_document.ensures.looks in
     let documents = c.in_ok-documents.documents.items in
-    let found = c.in_ok-documents.ensures.told content (rows_first g.S.Store old mid new one two tab content rows) (index_first g.S.Store old mid new one two tab content index) (reads_in g (goal.at.After-moves_fault g c).After-chosen_documents content has.columns_are) in
+    let found = c.in_ok-documents.ensures.told content (rows_first g.S.Store old mid new one two tab content rows) (index_first g.S.Store old mid new one two tab content index) (reads_passed tree_of cols content f c.as_ref.result c.in_ok-query.query c.as_ref.ensures.value columns_are (search rules)) in
     let given : slice_get (docids_named sets) 0 ≡ c.set_docid-given.result = sym c.set_docid-given.ensures in
     let taken = c.in_ok-is_taken.ensures.found content (rows_then g.S.Store old mid new one two tab content rows) in
     let ok : c.collect.result ≡ Ok c.in_ok-docids.docids = search rules in
@@ -207,7 +196,9 @@ returns-in_err-documents-clause-refused g c = λ contents held clean told.
     let info : RustTableInfo = c.in_ok-table.table.now in
     let over = over_sound (value_in g.S.Store c.args.store.now) (map shown_info c.args.tables.now) contents c.as_str.result.now (shown_info info) c.is_in_order.ensures.order held c.in_ok-table.ensures in
     let fits : FitsSigned w64 info.id = search rules in
-    c.chosen_documents.ensures.refused (string_bytes info.name) over.content (has_at refl (sym (to_z-of_z fits)) over.has) (reads_in g (goal.at.returns-in_err-documents-clause-refused g c).After-chosen_documents over.content over.columns_are) clean (search rules)
+    let cols = c.as_slice-columns.result.now in
+    let reads = reads_passed tree_of cols over.content (filter_of c.args.modification.now.filter) c.as_ref.result c.in_ok-query.query c.as_ref.ensures.value (over.columns_are ∙ ap (map column_of) (sym c.as_slice-columns.ensures.value)) (search rules) in
+    c.chosen_documents.ensures.refused (string_bytes info.name) over.content (has_at refl (sym (to_z-of_z fits)) over.has) reads clean (search rules)
 
 pub returns-in-Some-moves_fault-clause-refused : goal.returns-in-Some-moves_fault-clause-refused
 returns-in-Some-moves_fault-clause-refused g c = λ contents held clean told.

@@ -5,9 +5,8 @@ use Rattle.ft_store.specs.Kept.{shows, value_in}
 use Rattle.ft_values.specs.declared.fault.Fault.{Fault}
 use Rattle.ft_index.specs.declared.written.Written.{Written}
 use Rattle.ft_index.specs.Written.{WritesIn}
-use Rattle.ft_index.proofs.Acting.{told_kept}
+use Rattle.ft_index.proofs.Executing.{told_kept, reached}
 use Rattle.ft_index.proofs.Doing.{does_failed, does_undone, does_made, done_blamed}
-use Rattle.ft_index.proofs.Executing.{reached}
 use Rattle.ft_index.specs.Refused.{alone}
 use Rattle.ft_index.proofs.Blaming.{err_of}
 use Rattle.ft_index.proofs.written.write_found.Goals as goal

@@ -9,7 +9,7 @@ use Rattle.ft_index.specs.Kept.{FullText, Executes, AreHeld}
 use Rattle.ft_index.specs.Crashes.{LeavesCommand}
 use Rattle.ft_index.specs.Changed.{with_tables}
 use Rattle.ft_index.specs.RowsRead.{CountsRows}
-use Rattle.ft_index.proofs.Acting.{looks_up}
+use Rattle.ft_index.proofs.Executing.{looks_up}
 use Rattle.sqlite.specs.Effect.{Database}
 use Rattle.ft_store.specs.Rows.{value_of as rows_of}
 use Rattle.ft_index.specs.Refused.{CantDo}

@@ -10,7 +10,7 @@ use Rattle.sqlite.specs.State.{HasCleanDisk}
 use Rattle.ft_store.specs.Blame.{IsBlamed}
 use Rattle.ft_store.specs.Kept.{shows, value_in}
 use Rattle.ft_index.proofs.Blaming.{none_damaged, read_failed}
-use Rattle.ft_index.proofs.WalkedLemmas.{still_reliable, walk_answer, asks_term}
+use Rattle.ft_index.proofs.WalkedLemmas.{still_after, walk_answer, asks_term}
 use Rattle.ft_index.proofs.table_lists.TableListsLists.word.Goals as goal
 
 pub returns-in_ok-answered-in-Ok-clause-answer : goal.returns-in_ok-answered-in-Ok-clause-answer
@@ -25,10 +25,7 @@ returns-in_ok-answered-in-Ok-clause-answer g c reliable =
     answer ∙ sym (ap (λ l. lists_with (λ t. bytes_eq t c.args.term.now) (table_documents g.S.Store l.tab l.store.now)) same)
 
 pub returns-in_ok-answered-in-Ok-clause-clean : goal.returns-in_ok-answered-in-Ok-clause-clean
-returns-in_ok-answered-in-Ok-clause-clean g c reliable =
-    let same = c.in_ok-answered-in-Ok.ensures.counted in
-    let stays = still_reliable g.S.Store c.args.self.now.tab c.args.self.now.store.now c.term_lists.new.self c.in-Ok.ensures.read.kept c.in-Ok.ensures.read.survives (rw same at reliable) in
-    (stays.0, ap (λ l. table_documents g.S.Store l.tab l.store.now) same ∙ stays.1)
+returns-in_ok-answered-in-Ok-clause-clean g c = still_after g.S.Store c.args.self.now.tab c.args.self.now.store.now c.term_lists.new.self c.in-Ok.ensures.read.kept c.in-Ok.ensures.read.survives (ap (λ l. l.tab) c.in_ok-answered-in-Ok.ensures.counted) (ap (λ l. l.store.now) c.in_ok-answered-in-Ok.ensures.counted)
 
 pub returns-in_ok-answered-in-Ok-clause-given : goal.returns-in_ok-answered-in-Ok-clause-given
 returns-in_ok-answered-in-Ok-clause-given g c =
@@ -36,16 +33,10 @@ returns-in_ok-answered-in-Ok-clause-given g c =
     ∙ ap (λ n. min (c.args.self.now.given + n) (2 ^ 64 - 1)) (sym (rows_count c.in-Ok.rows.items (map plain_list c.in_ok-answered-in-Ok.field-0.items) c.in_ok-answered-in-Ok.ensures.lists))
 
 pub returns-in_err-answered-in-Ok-clause-clean : goal.returns-in_err-answered-in-Ok-clause-clean
-returns-in_err-answered-in-Ok-clause-clean g c reliable =
-    let same = c.in_err-answered-in-Ok.ensures.err in
-    let stays = still_reliable g.S.Store c.args.self.now.tab c.args.self.now.store.now c.term_lists.new.self c.in-Ok.ensures.read.kept c.in-Ok.ensures.read.survives (rw same at reliable) in
-    (stays.0, ap (λ l. table_documents g.S.Store l.tab l.store.now) same ∙ stays.1)
+returns-in_err-answered-in-Ok-clause-clean g c = still_after g.S.Store c.args.self.now.tab c.args.self.now.store.now c.term_lists.new.self c.in-Ok.ensures.read.kept c.in-Ok.ensures.read.survives (ap (λ l. l.tab) c.in_err-answered-in-Ok.ensures.err) (ap (λ l. l.store.now) c.in_err-answered-in-Ok.ensures.err)
 
 pub returns-in-Err-clause-clean : goal.returns-in-Err-clause-clean
-returns-in-Err-clause-clean g c reliable =
-    let same = c.refused.ensures.noted in
-    let stays = still_reliable g.S.Store c.args.self.now.tab c.args.self.now.store.now c.term_lists.new.self c.in-Err.ensures.read.kept c.in-Err.ensures.read.survives (rw same at reliable) in
-    (stays.0, ap (λ l. table_documents g.S.Store l.tab l.store.now) same ∙ stays.1)
+returns-in-Err-clause-clean g c = still_after g.S.Store c.args.self.now.tab c.args.self.now.store.now c.term_lists.new.self c.in-Err.ensures.read.kept c.in-Err.ensures.read.survives (ap (λ l. l.tab) c.refused.ensures.noted) (ap (λ l. l.store.now) c.refused.ensures.noted)
 
 pub returns-in-Err-clause-becomes : goal.returns-in-Err-clause-becomes
 returns-in-Err-clause-becomes g c =
