@@ -42,8 +42,7 @@ use Rattle.ft_content.specs.declared.command.Reply.{Reply}
 use Rattle.ft_content.specs.Views.{TableInfo, answer_of}
 use Rattle.ft_documents.specs.Found.{IsSoundNamed, info_named}
 use Rattle.ft_index.specs.Kept.{AreHeld, BlamesStore, held_columns}
-use Rattle.ft_index.proofs.InsertHolds.{sound_rows}
-use Rattle.ft_index.proofs.KnownLemmas.{sound_table}
+use Rattle.ft_index.proofs.KnownLemmas.{sound_rows, sound_table}
 use Rattle.ft_index.specs.Walked.{IsIndexed, ReadsStore, Fails, FailsIf}
 use Rattle.ft_index.proofs.Pinging.{is_refused}
 use Rattle.ft_index.proofs.ReadsLemmas.{all_read}

@@ -80,7 +80,7 @@ module _ {S : Type 0} (g : Ghosts S) where
   runs_split start end (call ∷ xs) ys runs = let it = runs_split runs.0 end xs ys runs.2 in (it.0, (runs.0, runs.1, it.1), it.2)
 
   -- a note changes no table
-  note_holds : (old new : FullText S) (name : List ℕ) (is_done : Bool) (contents : Contents) →
+  pub note_holds : (old new : FullText S) (name : List ℕ) (is_done : Bool) (contents : Contents) →
       store_value g new ≡ cond is_done (applied (Note name) (store_value g old)) (store_value g old) → new.tables ≡ old.tables → Holds g old contents → Holds g new contents
   note_holds old new name is_done contents value tables h = record {
     named_once = h.named_once;

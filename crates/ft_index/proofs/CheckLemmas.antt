@@ -18,8 +18,7 @@ use Rattle.ft_index.specs.Kept.{AreHeld, StoreHolds, Stands, AreSound, is_sound,
 use Rattle.ft_index.specs.Opened.{IsNamed, AreMarked}
 use Rattle.ft_documents.specs.Tables.{table_rows, table_index}
 use Rattle.ft_index.proofs.HeldLemmas.{holds_one_contents}
-use Rattle.ft_index.proofs.InsertHolds.{found_stands}
-use Rattle.ft_index.proofs.KnownLemmas.{none_named, some_named}
+use Rattle.ft_index.proofs.KnownLemmas.{found_stands, none_named, some_named}
 use Rattle.ft_index.proofs.OneTable.{IsOne, one_named, ids_sorted, AreHeldIn}
 use Rattle.ft_index.proofs.OpenedTables.{marked_contents}
 
@@ -66,17 +65,9 @@ told_here store tables contents name known order held named =
 
 -- ---- what a Check is answered
 
-check_due : (contents : Contents) (name : List ℕ) (found : Option (ℤ × Table)) → table_named contents name ≡ found → deserved contents (Check name) ≡ on_found found check_fault
-unfolding deserved
-check_due contents name found is = ap (λ f. on_found f check_fault) is
-
-checked : (contents : Contents) (name : List ℕ) (due : Option Fault) → deserved contents (Check name) ≡ due → step contents (Check name) ≡ step_by due contents (Check name)
-unfolding step
-checked contents name due is = ap (λ d. step_by d contents (Check name)) is
-
-check_done : (contents : Contents) (name : List ℕ) → step_by None contents (Check name) ≡ (Ok Done, contents)
-unfolding reply_to after
-check_done contents name = refl
+checked : (contents : Contents) (name : List ℕ) (found : Option (ℤ × Table)) (due : Option Fault) → table_named contents name ≡ found → on_found found check_fault ≡ due → step contents (Check name) ≡ step_by due contents (Check name)
+unfolding deserved step
+checked contents name found due is fault = ap (λ d. step_by d contents (Check name)) (ap (λ f. on_found f check_fault) is ∙ fault)
 
 sound_due : (name : List ℕ) (held : TableState) → is_sound held ≡ true → check_fault name held ≡ None
 sound_due name (Sound content) h = refl
@@ -89,13 +80,14 @@ unsound_due name (Stale content) h = refl
 unsound_due name (Loose rows) h = refl
 
 pub check_missing : (contents : Contents) (tables : List TableInfo) (name : List ℕ) → tables ≡ map table_info contents → info_named tables name ≡ None → step contents (Check name) ≡ (Err faults.NoSuchTable, contents)
-check_missing contents tables name told none = checked contents name (Some faults.NoSuchTable) (check_due contents name None (none_named contents name (ap (λ ts. info_named ts name) (sym told) ∙ none)))
+check_missing contents tables name told none = checked contents name None (Some faults.NoSuchTable) (none_named contents name (ap (λ ts. info_named ts name) (sym told) ∙ none)) refl
 
 pub check_right : (contents : Contents) (name : List ℕ) (t : ℤ × Table) → table_named contents name ≡ Some t → is_sound t.1.held ≡ true → step contents (Check name) ≡ (Ok Done, contents)
-check_right contents name t found sound = checked contents name None (check_due contents name (Some t) found ∙ sound_due t.1.name t.1.held sound) ∙ check_done contents name
+unfolding reply_to after
+check_right contents name t found sound = checked contents name (Some t) None found (sound_due t.1.name t.1.held sound)
 
 pub check_wrong : (contents : Contents) (name : List ℕ) (t : ℤ × Table) → table_named contents name ≡ Some t → is_sound t.1.held ≡ false → step contents (Check name) ≡ (Err faults.Corrupt, contents)
-check_wrong contents name t found unsound = checked contents name (Some faults.Corrupt) (check_due contents name (Some t) found ∙ unsound_due t.1.name t.1.held unsound)
+check_wrong contents name t found unsound = checked contents name (Some t) (Some faults.Corrupt) found (unsound_due t.1.name t.1.held unsound)
 
 -- ---- whether all tables are sound
 

@@ -27,7 +27,7 @@ use Rattle.ft_index.specs.DocumentsRead.{Looks}
 use Rattle.ft_index.specs.Kept.{FullText, IsUp, IsOutside, AreHeld, Executes, KeepsOthers, OnlyLooks, store_value}
 use Rattle.ft_index.specs.Crashes.{HoldsAfter, SurvivesCrash, LeavesRead}
 use Rattle.ft_index.specs.Changed.{with_tables, Does, DoesAsked, LooksAsked, MakesAsked, MakesRows}
-use Rattle.ft_index.specs.RowsRead.{CountsFound, CountsHeld, CountsIfRows, CountsRows}
+use Rattle.ft_index.specs.RowsRead.{CountsFound, CountsHeld, CountsIfRows, CountsRows, CountsCommand}
 use Rattle.ft_index.proofs.Executing.{executes_read, looks_same, looks_up, then_changed, is_outside_of}
 use Rattle.ft_index.proofs.ReadsLemmas.{nothing_done}
 
@@ -54,6 +54,12 @@ module _ {S : Type 0} (one other new : FullText S) (same : one.store.rows_read �
   counts_same first (Optimize table) (Ok (Rows grid)) it = tt
   counts_same first command (Ok Done) it = tt
   counts_same first command (Err fault) it = tt
+
+-- of no other command anything is said
+pub counts_other : {S : Type 0} (g : Ghosts S) (old new : FullText S) (command : Command) (answer : Result Reply Fault) → ((contents : Contents) → CountsCommand contents old new command) → CountsRows g old command answer new
+counts_other g old new command (Ok Done) none up first holds = tt
+counts_other g old new command (Ok (Rows grid)) none up first holds = none first
+counts_other g old new command (Err fault) none up first holds = tt
 
 -- what is done of an answer where it leads to more
 on_ok : {X E A : Type 0} (B : Type 0) (r : Result X E) → OnOk r (A → B) → A → OnOk r B

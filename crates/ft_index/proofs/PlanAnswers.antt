@@ -1,12 +1,13 @@
 -- Plans of commands that change no document.
 use Rattle.std.proofs.Common.{◌≡◌, ◌⊎◌, inl, inr, ℕ, List, [], ◌∷◌, Option, Some, None, Result, Ok, Err, refl, sym, ap, subst}
 use Rattle.std.specs.Prelude.{IsTrue}
-use Rattle.ft_rows.specs.Store.{StoreValue, AreInOrder}
+use Rattle.ft_rows.specs.Store.{StoreValue, AreInOrder, Change}
 use Rattle.ft_values.specs.declared.fault.Fault.{Fault}
 use Rattle.ft_values.specs.declared.table.TableInfo.{TableInfo as RustTableInfo}
 use Rattle.ft_content.specs.declared.command.Creation.{Creation}
 use Rattle.ft_content.specs.Command.{Command, Check, Optimize, Reply}
-use Rattle.ft_content.specs.Views.{TableInfo, creation_of}
+use Rattle.ft_content.specs.declared.command.Reply.{Reply as RustReply}
+use Rattle.ft_content.specs.Views.{TableInfo, creation_of, answer_of, reply_of}
 use Rattle.ft_content.specs.Deserved.{Contents, deserved}
 use Rattle.ft_content.specs.Step.{after, step, step_by}
 use Rattle.ft_index.specs.Planned.{PlansTable, table_change}
@@ -34,7 +35,7 @@ module _ (contents : Contents) (creation : Creation) (store : StoreValue) (table
 -- ---- commands that were answered
 
 -- what was done deserved no fault
-pub answered_fine : (contents last : Contents) (command : Command) (reply : Reply) → Answers contents command (Ok reply) last → deserved contents command ≡ None
+answered_fine : (contents last : Contents) (command : Command) (reply : Reply) → Answers contents command (Ok reply) last → deserved contents command ≡ None
 unfolding step
 answered_fine contents last command reply (inl outside) = absurd (let no = outside.0 in cc)
 answered_fine contents last command reply (inr stepped) = go (deserved contents command) stepped
@@ -44,7 +45,7 @@ answered_fine contents last command reply (inr stepped) = go (deserved contents 
     go (Some fault) is = absurd (let no = ap (λ (p : Result Reply Fault × Contents). p.0) is in cc)
 
 -- and what was refused deserved it, but for a refusal from outside
-pub answered_fault : (contents last : Contents) (command : Command) (fault : Fault) → Answers contents command (Err fault) last → IsTrue (is_outside (Err fault)) ⊎ (deserved contents command ≡ Some fault)
+answered_fault : (contents last : Contents) (command : Command) (fault : Fault) → Answers contents command (Err fault) last → IsTrue (is_outside (Err fault)) ⊎ (deserved contents command ≡ Some fault)
 unfolding step
 answered_fault contents last command fault (inl outside) = inl outside.0
 answered_fault contents last command fault (inr stepped) = go (deserved contents command) stepped
@@ -57,10 +58,18 @@ answered_fault contents last command fault (inr stepped) = go (deserved contents
     go None is = absurd (let no = ap (λ (p : Result Reply Fault × Contents). p.0) is in cc)
     go (Some other) is = inr (ap (λ (p : Result Reply Fault × Contents). Some (fault_in p.0)) is)
 
-pub check_plans : (contents : Contents) (name : List ℕ) (store : StoreValue) (tables : List TableInfo) → AreHeld store tables contents → deserved contents (Check name) ≡ None → PlansFrom contents (Check name) store (Ok [])
-unfolding after
-check_plans contents name store tables held fine = plans_nothing contents (Check name) store tables held refl refl fine
+-- a plan of no row changes, or the fault
+abbrev pub none_of : Result RustReply Fault → Result (List Change) Fault
+none_of (Ok reply) = Ok []
+none_of (Err fault) = Err fault
 
-pub optimize_plans : (contents : Contents) (name : List ℕ) (store : StoreValue) (tables : List TableInfo) → AreHeld store tables contents → deserved contents (Optimize name) ≡ None → PlansFrom contents (Optimize name) store (Ok [])
-unfolding after
-optimize_plans contents name store tables held fine = plans_nothing contents (Optimize name) store tables held refl refl fine
+module _ (contents last : Contents) (name : List ℕ) (store : StoreValue) (tables : List TableInfo) (held : AreHeld store tables contents) where
+  pub check_plans : (answer : Result RustReply Fault) → Answers contents (Check name) (answer_of answer) last → PlansFrom contents (Check name) store (none_of answer)
+  unfolding after
+  check_plans (Ok reply) answers = plans_nothing contents (Check name) store tables held refl refl (answered_fine contents last (Check name) (reply_of reply) answers)
+  check_plans (Err fault) answers = answered_fault contents last (Check name) fault answers
+
+  pub optimize_plans : (answer : Result RustReply Fault) → Answers contents (Optimize name) (answer_of answer) last → PlansFrom contents (Optimize name) store (none_of answer)
+  unfolding after
+  optimize_plans (Ok reply) answers = plans_nothing contents (Optimize name) store tables held refl refl (answered_fine contents last (Optimize name) (reply_of reply) answers)
+  optimize_plans (Err fault) answers = answered_fault contents last (Optimize name) fault answers

@@ -26,8 +26,7 @@ use Rattle.ft_index.specs.RowsRead.{rows_asked, CountsHeld, CountsFound, CountsR
 use Rattle.ft_index.proofs.Executing.{executes_read}
 use Rattle.ft_index.proofs.Blaming.{rows_in, index_in}
 use Rattle.ft_index.proofs.PlanAnswers.{plans_nothing}
-use Rattle.ft_index.proofs.KnownLemmas.{IsSoundTable, sound_table, sound_is, unfit_is}
-use Rattle.ft_index.proofs.InsertHolds.{sound_rows}
+use Rattle.ft_index.proofs.KnownLemmas.{IsSoundTable, sound_table, sound_is, unfit_is, sound_rows}
 use Rattle.ft_documents.proofs.AddLemmas.{bare}
 
 -- ---- only the columns of a content matter before it is read

@@ -16,8 +16,7 @@ use Rattle.ft_documents.specs.Rewrite.{Rewrite, AreRight, rewritten_docids, rewr
 use Rattle.ft_index.specs.Kept.{AreHeld, StoreHolds, AreOfFound, StaysNear, PlansFrom, is_outside, IsUp, held_columns}
 use Rattle.ft_documents.specs.Tables.{IsOfDocids}
 use Rattle.ft_index.specs.Written.{LeadsTo, HasAll, WritesDocuments, WritesIn, PlansTo}
-use Rattle.ft_index.proofs.KnownLemmas.{IsSoundTable, sound_table, sound_is, unfit_is}
-use Rattle.ft_index.proofs.InsertHolds.{sound_rows}
+use Rattle.ft_index.proofs.KnownLemmas.{IsSoundTable, sound_table, sound_is, unfit_is, sound_rows}
 use Rattle.ft_index.proofs.Lifting.{leaves_rest, lifts}
 use Rattle.ft_index.proofs.OtherRows.{keeps_changed, names_held}
 use Rattle.std.specs.declared.alloc.Global.{Global}

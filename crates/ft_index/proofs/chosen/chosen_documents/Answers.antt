@@ -24,9 +24,8 @@ use Rattle.ft_documents.specs.Chosen.{ReadsFilterAs, document_at}
 use Rattle.ft_documents.specs.Matched.{chosen_hits, as_wanted}
 use Rattle.ft_documents.proofs.ChosenLemmas.{chosen_all, chosen_one, of_hits}
 use Rattle.ft_store.specs.Kept.{more_rows}
-use Rattle.ft_index.proofs.LookLemmas.{rows_then, index_first}
-use Rattle.ft_index.proofs.ReadsLemmas.{on_ok_from}
-use Rattle.ft_index.proofs.RowCounts.{one_rows}
+use Rattle.ft_index.proofs.ReadsLemmas.{rows_then, index_first, on_ok_from}
+use Rattle.ft_index.proofs.SelectRows.{one_rows}
 use Rattle.ft_index.specs.Refused.{AreThere}
 use Rattle.ft_index.proofs.Blaming.{then_blamed, has_at, index_in, hits_there}
 use Rattle.ft_index.proofs.chosen.chosen_documents.Goals as goal

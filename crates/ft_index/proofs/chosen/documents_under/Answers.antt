@@ -9,7 +9,7 @@ use Rattle.ft_content.specs.Views.{cells_of}
 use Rattle.ft_index.specs.DocumentsRead.{HasRows}
 use Rattle.ft_documents.specs.Gathered.{shown_document}
 use Rattle.ft_documents.specs.Chosen.{document_at}
-use Rattle.ft_index.proofs.LookLemmas.{looks_then, rows_first, rows_then}
+use Rattle.ft_index.proofs.ReadsLemmas.{looks_then, rows_first, rows_then}
 use Rattle.ft_index.proofs.Blaming.{then_blamed, has_at}
 use Rattle.ft_index.proofs.chosen.documents_under.Goals as goal
 

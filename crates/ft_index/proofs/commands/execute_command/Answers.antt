@@ -6,9 +6,9 @@ use Rattle.ft_content.specs.Command as plain
 use Rattle.ft_content.specs.Views.{shown_info, names_in, rows_of, set_of, filter_of, command_of, insertion_of, modification_of, answer_of}
 use Rattle.ft_index.specs.Changed.{Does, with_tables}
 use Rattle.ft_index.specs.RowsRead.{CountsRows}
-use Rattle.ft_index.proofs.Counting.{counts_other}
+use Rattle.ft_index.proofs.Pinging.{counts_other}
 use Rattle.ft_index.proofs.InsertWrites as inserts
-use Rattle.ft_index.proofs.UpdateDue as updates
+use Rattle.ft_index.proofs.UpdateWrites as updates
 use Rattle.ft_index.specs.Refused.{BlamesDone}
 use Rattle.ft_index.proofs.commands.execute_command.Goals as goal
 

@@ -8,7 +8,7 @@ use Rattle.ft_index.specs.Kept.{Stands}
 use Rattle.ft_index.specs.Opened.{IsListed, state_of}
 use Rattle.ft_documents.specs.Tables.{table_rows, table_index}
 use Rattle.ft_index.proofs.HeldLemmas.{held_once}
-use Rattle.ft_index.proofs.LookLemmas.{looks_then}
+use Rattle.ft_index.proofs.ReadsLemmas.{looks_then}
 use Rattle.ft_index.proofs.RowStateReads.{blamed_after, looked}
 use Rattle.ft_index.proofs.row_state.known_state.Goals as goal
 

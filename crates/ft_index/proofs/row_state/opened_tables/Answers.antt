@@ -9,7 +9,7 @@ use Rattle.ft_rows.specs.Shown.{shown_table}
 use Rattle.ft_values.specs.declared.rows.TabRow.{TabRow}
 use Rattle.ft_values.specs.declared.table.TableInfo.{TableInfo as RustTableInfo}
 use Rattle.ft_content.specs.Views.{shown_info}
-use Rattle.ft_index.proofs.LookLemmas.{looks_then}
+use Rattle.ft_index.proofs.ReadsLemmas.{looks_then}
 use Rattle.ft_index.proofs.RowStateReads.{looked, marked, blamed_after}
 use Rattle.ft_index.proofs.OpenedTables.{IsMarkedRow, AreMarkedRows, one_marked_more, are_marked}
 use Rattle.ft_index.proofs.row_state.opened_tables.Goals as goal

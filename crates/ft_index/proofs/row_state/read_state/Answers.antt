@@ -10,7 +10,7 @@ use Rattle.ft_index.specs.Opened.{IsListed}
 use Rattle.ft_store.specs.declared.fault.StoreFault.{StoreFault}
 use Rattle.ft_documents.specs.Standing.{AreContent, HaveContent, shown_row, listed_rows}
 use Rattle.ft_documents.specs.Tables.{table_rows, table_index}
-use Rattle.ft_index.proofs.LookLemmas.{looks_then}
+use Rattle.ft_index.proofs.ReadsLemmas.{looks_then}
 use Rattle.ft_index.proofs.RowStateReads.{looked, CellsRead, listed, stands_loose, stands_sound, stands_stale, have_content, are_listed, are_named, blamed_after}
 use Rattle.ft_index.proofs.row_state.read_state.Goals as goal
 use Rattle.ft_index.proofs.row_state.read_state.Goals.{After-has_right_index}

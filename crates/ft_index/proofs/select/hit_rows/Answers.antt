@@ -18,7 +18,7 @@ use Rattle.ft_index.specs.DocumentsRead.{HasRows, Looks}
 use Rattle.ft_documents.specs.Chosen.{cells_at}
 use Rattle.ft_index.specs.RowsRead.{reads_document}
 use Rattle.ft_index.specs.Selected.{hit_cells}
-use Rattle.ft_index.proofs.LookLemmas.{looks_then, rows_first, rows_then}
+use Rattle.ft_index.proofs.ReadsLemmas.{looks_then, rows_first, rows_then}
 use Rattle.ft_index.proofs.SelectRows.{row_unread, found_wide, counted_more}
 use Rattle.ft_index.proofs.Blaming.{then_blamed, has_at, there_of}
 use Rattle.ft_index.proofs.select.hit_rows.Goals as goal

@@ -13,7 +13,7 @@ use Rattle.ft_index.specs.Changed.{with_tables}
 use Rattle.ft_index.specs.Kept.{Executes}
 use Rattle.ft_index.specs.Selected.{IsAsked}
 use Rattle.ft_index.proofs.Executing.{executes_read, fault_answers}
-use Rattle.ft_index.proofs.LookLemmas.{no_look}
+use Rattle.ft_index.proofs.ReadsLemmas.{no_look}
 use Rattle.ft_index.proofs.SelectAnswers.{names_bare, reads_passed, passed_tree, select_unplanned, select_fails, select_done, select_counts}
 use Rattle.ft_store.specs.Kept.{value_in}
 use Rattle.ft_index.proofs.Blaming.{over_sound, has_at}

@@ -22,11 +22,9 @@ use Rattle.ft_index.specs.DocumentsRead.{HasRows}
 use Rattle.ft_index.specs.RowsRead.{reads_document, rows_asked}
 use Rattle.ft_index.specs.Selected.{IsOf}
 use Rattle.ft_index.specs.Walked.{IsIndexed}
-use Rattle.ft_index.proofs.LookLemmas.{held_first, held_then}
-use Rattle.ft_index.proofs.ReadsLemmas.{on_ok_from}
-use Rattle.ft_index.proofs.SelectRows.{hit_rows, hits_answered, as_many, counted_both, asked_items, bare_hit_rows, listed_rows_are, documents_again, document_rows_are, no_offsets}
+use Rattle.ft_index.proofs.ReadsLemmas.{held_first, held_then, on_ok_from}
+use Rattle.ft_index.proofs.SelectRows.{hit_rows, hits_answered, as_many, counted_both, asked_items, bare_hit_rows, listed_rows_are, documents_again, document_rows_are, no_offsets, asked_count, asked_all, asked_whole}
 use Rattle.ft_content.proofs.AnswerLemmas.{cut_of_map}
-use Rattle.ft_index.proofs.RowCounts.{asked_count, asked_all, asked_whole}
 use Rattle.ft_index.specs.Refused.{AreThere}
 use Rattle.ft_content.specs.declared.command.Filter.{Filter}
 use Rattle.ft_index.proofs.Blaming.{then_blamed, has_at, rows_in, index_in, hits_there, docids_there, bare_docids}

@@ -10,7 +10,7 @@ use Rattle.ft_index.specs.Opened.{HasState}
 use Rattle.ft_index.specs.Changed.{with_tables}
 use Rattle.ft_index.proofs.Executing.{executes_read}
 use Rattle.ft_index.proofs.CheckLemmas.{told_here, check_missing, check_right, check_wrong}
-use Rattle.ft_index.proofs.LookLemmas.{no_look}
+use Rattle.ft_index.proofs.ReadsLemmas.{no_look}
 use Rattle.ft_store.specs.Calls.{fault_of_read}
 use Rattle.ft_store.specs.declared.fault.StoreFault.TheVariants as causes
 use Rattle.ft_index.proofs.Pinging.{is_refused}

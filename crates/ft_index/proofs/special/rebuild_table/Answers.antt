@@ -14,7 +14,7 @@ use Rattle.ft_index.specs.Written.{RebuildsIn}
 use Rattle.ft_index.proofs.CheckLemmas.{told_here}
 use Rattle.ft_index.proofs.Doing.{does_failed, does_undone, does_made, done_blamed}
 use Rattle.ft_index.proofs.Executing.{reached}
-use Rattle.ft_index.proofs.LookLemmas.{no_look}
+use Rattle.ft_index.proofs.ReadsLemmas.{no_look}
 use Rattle.ft_index.proofs.RebuildPlans.{plan_missing, told_after, rebuild_reply}
 use Rattle.ft_index.proofs.Blaming.{err_of}
 use Rattle.ft_index.proofs.special.rebuild_table.Goals as goal

@@ -12,7 +12,7 @@ use Rattle.ft_index.specs.Kept.{PlansFrom, AreHeld, IsUp}
 use Rattle.ft_index.specs.Opened.{HasState}
 use Rattle.ft_index.proofs.Executing.{looks_up}
 use Rattle.ft_index.proofs.CheckLemmas.{told_here}
-use Rattle.ft_index.proofs.LookLemmas.{rows_then}
+use Rattle.ft_index.proofs.ReadsLemmas.{rows_then}
 use Rattle.ft_content.specs.Deserved.{Contents}
 use Rattle.ft_index.specs.Changed.{with_tables}
 use Rattle.ft_index.proofs.RebuildPlans.{IsPutAnew, plan_right, plan_stale, plan_loose, stale_content}

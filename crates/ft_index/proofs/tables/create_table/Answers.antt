@@ -16,7 +16,7 @@ use Rattle.ft_index.proofs.Blaming.{no_rewrites}
 use Rattle.ft_index.proofs.CreateLemmas.{made_is_held, create_kept, create_reply}
 use Rattle.ft_index.proofs.Doing.{does_read, does_failed, does_undone, does_made, done_blamed}
 use Rattle.ft_index.proofs.Executing.{reached}
-use Rattle.ft_index.proofs.LookLemmas.{no_look}
+use Rattle.ft_index.proofs.ReadsLemmas.{no_look}
 use Rattle.ft_index.proofs.PlanAnswers.{create_refused, create_makes}
 use Rattle.ft_index.proofs.tables.create_table.Goals as goal
 use Rattle.ft_index.proofs.tables.create_table.Goals.{After-made_table, in-Some+in_ok-add_table, in_default}

@@ -21,7 +21,7 @@ use Rattle.ft_index.specs.Planned.{changes_of}
 use Rattle.ft_index.specs.Changed.{Does, with_tables}
 use Rattle.ft_index.proofs.Doing.{does_failed, does_undone, does_made}
 use Rattle.ft_index.proofs.Executing.{reached}
-use Rattle.ft_index.proofs.LookLemmas.{no_look}
+use Rattle.ft_index.proofs.ReadsLemmas.{no_look}
 use Rattle.ft_index.proofs.Pinging.{takes_can}
 use Rattle.ft_index.proofs.TablePlans.{told_dropped, told_spared, drop_done}
 use Rattle.ft_index.proofs.tables.drop_table.Goals as goal

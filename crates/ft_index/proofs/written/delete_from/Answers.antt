@@ -12,7 +12,7 @@ use Rattle.ft_index.proofs.Executing.{told_kept}
 use Rattle.ft_index.proofs.Anew.{delete_reaches}
 use Rattle.ft_index.proofs.DeleteWrites.{due, made, gone, leaves, replies, is_write, writes_table}
 use Rattle.ft_index.proofs.Doing.{does_failed, does_undone, does_made, done_blamed}
-use Rattle.ft_index.proofs.LookLemmas.{no_look}
+use Rattle.ft_index.proofs.ReadsLemmas.{no_look}
 use Rattle.ft_index.proofs.Writing.{plans_unfit}
 use Rattle.ft_index.specs.Refused.{BlamesDone}
 use Rattle.ft_index.proofs.Blaming.{err_of}

@@ -26,7 +26,7 @@ use Rattle.ft_index.specs.declared.written.Written.{Written}
 use Rattle.ft_index.specs.Written.{HasAll, WritesDocuments, PlansTo, WritesIn}
 use Rattle.ft_index.proofs.InsertWrites.{due, made, news, is_write, tested_writes, tests_are, rows_are, writes}
 use Rattle.ft_index.specs.DocumentsRead.{Looks}
-use Rattle.ft_index.proofs.LookLemmas.{rows_first, rows_then}
+use Rattle.ft_index.proofs.ReadsLemmas.{rows_first, rows_then}
 use Rattle.ft_index.proofs.Pinging.{outside_of}
 use Rattle.ft_index.proofs.Writing.{plans_unfit, plans_failed, writes_do}
 use Rattle.ft_index.proofs.Blaming.{rows_in, err_of, over_sound}

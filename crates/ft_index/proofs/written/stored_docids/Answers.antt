@@ -8,7 +8,7 @@ use Rattle.ft_content.specs.Deserved.{docids_named}
 use Rattle.ft_content.specs.Views.{cells_of}
 use Rattle.ft_index.specs.DocumentsRead.{HasRows}
 use Rattle.ft_documents.specs.Gathered.{has_given}
-use Rattle.ft_index.proofs.LookLemmas.{looks_then, rows_first, rows_then}
+use Rattle.ft_index.proofs.ReadsLemmas.{looks_then, rows_first, rows_then}
 use Rattle.ft_index.proofs.written.stored_docids.Goals as goal
 
 pub loop-row-preserved : goal.loop-row-preserved

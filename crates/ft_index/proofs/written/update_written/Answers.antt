@@ -29,11 +29,10 @@ use Rattle.ft_documents.specs.Updated.{changing, MayMove}
 use Rattle.ft_documents.proofs.InsertRows.{given_is}
 use Rattle.ft_index.specs.declared.written.Written.{Written}
 use Rattle.ft_index.specs.Written.{HasAll, WritesDocuments, PlansTo, WritesIn}
-use Rattle.ft_index.proofs.LookLemmas.{looks_then, rows_first, rows_then, index_first}
+use Rattle.ft_index.proofs.ReadsLemmas.{looks_then, rows_first, rows_then, index_first}
 use Rattle.ft_index.proofs.Writing.{plans_unfit, plans_failed, writes_do}
 use Rattle.ft_index.proofs.SelectAnswers.{reads_passed}
-use Rattle.ft_index.proofs.UpdateDue.{due, made, touches, is_write, repeats_due, tested_due, text_due, moves_due}
-use Rattle.ft_index.proofs.UpdateWrites.{leads}
+use Rattle.ft_index.proofs.UpdateWrites.{due, made, touches, is_write, repeats_due, tested_due, text_due, moves_due, leads}
 use Rattle.ft_index.proofs.Blaming.{rows_in, index_in, err_of, over_sound, has_at}
 use Rattle.ft_index.proofs.NoStore.{moved_other}
 use Rattle.ft_index.proofs.written.update_written.Goals as goal

@@ -6,14 +6,18 @@ use Rattle.ft_content.specs.Views.{shown_info}
 use Rattle.ft_index.specs.Kept.{FullText, Notes}
 use Rattle.ft_index.specs.Crashes.{LeavesNote}
 use Rattle.ft_index.specs.Changed.{with_tables}
-use Rattle.ft_index.proofs.Changing.{note_upheld}
+use Rattle.ft_index.proofs.Calls.{note_holds}
 use Rattle.ft_index.proofs.Pinging.{ok_then}
 use Rattle.ft_store.specs.Kept.{shows}
 use Rattle.ft_index.proofs.full_text.FullText.note.Goals as goal
 
 pub invariant_of-self : goal.invariant_of-self
-invariant_of-self g c =
-    note_upheld g.S.Store c.self.inside.store c.note_name-result.new.store (map shown_info c.self.inside.tables.items) c.args.name.now (is_ok c.note_name-result.result) c.note_name-result.ensures.makes.changed c.self.invariant
+invariant_of-self g c = λ up.
+    let old = c.self.inside.store in
+    let tables = map shown_info c.self.inside.tables.items in
+    let changed = c.note_name-result.ensures.makes.changed in
+    let before = c.self.invariant (changed.was_up tables tables up) in
+    (before.0, note_holds g.S.Store (with_tables old tables) (with_tables c.note_name-result.new.store tables) c.args.name.now (is_ok c.note_name-result.result) before.0 (changed.value tables up) refl before.1)
 
 pub returns : goal.returns
 returns g c =
