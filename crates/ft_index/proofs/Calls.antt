@@ -62,8 +62,7 @@ module _ {S : Type 0} (g : Ghosts S) where
 
   call_leaves : (old new : FullText S) (call : Call) → DoesCall g old call new → CallLeaves old new call
   call_leaves old new (Executed command answer) does = record { clean = λ c. omega (arith, does.1.survives.clean, c); up = λ u. does.0.was_up u; live = λ done c. record { clean = c; is_open = does.1.live c done }; settled = does.1.settled }
-  call_leaves old new (Noted name is_done) does = record { clean = λ c. omega (arith, does.1.survives.clean, c); up = λ u. does.0.was_up u; live = λ done c. record { clean = c; is_open = does.1.live c done }; settled = does.1.settled }
-  call_leaves old new (Looked is_done) does = record { clean = λ c. omega (arith, does.1.survives.clean, c); up = λ u. does.0.was_up u; live = λ done c. record { clean = c; is_open = does.1.live c done }; settled = does.1.settled }
+  call_leaves old new _ does = record { clean = λ c. omega (arith, does.1.survives.clean, c); up = λ u. does.0.was_up u; live = λ done c. record { clean = c; is_open = does.1.live c done }; settled = does.1.settled }
 
   -- the disk did what it was told at each call
   pub clean_before : (start end : FullText S) (calls : List Call) → Runs g start calls end → IsCleanAt end → IsCleanAt start
@@ -121,19 +120,16 @@ module _ {S : Type 0} (g : Ghosts S) where
 
   left_after : (first : Contents) (call : Call) (calls : List Call) → left_by (contents_next first call) (accepted calls) ≡ left_by first (accepted (call ∷ calls))
   left_after first (Executed command answer) calls = left_next first command (accepted calls) answer
-  left_after first (Noted name is_done) calls = refl
-  left_after first (Looked is_done) calls = refl
+  left_after first _ calls = refl
 
   names_after : (names : List Name) (call : Call) (calls : List Call) → noted_by (names_next names call) calls ≡ noted_by names (call ∷ calls)
   names_after names (Executed command answer) calls = refl
-  names_after names (Noted name is_done) calls = refl
-  names_after names (Looked is_done) calls = refl
+  names_after names _ calls = refl
 
   answered_more : (first : Contents) (old new : FullText S) (call : Call) (calls : List Call) → DoesCall g old call new → IsUp g new → Holds g old first → AreAnswered (contents_next first call) calls → AreAnswered first (call ∷ calls)
   unfolding AreAnswered
   answered_more first old new (Executed command answer) calls does up holds rest = let stepped = does.0.steps up first holds in (is_answered_by first stepped.0 command answer stepped.2, rest)
-  answered_more first old new (Noted name is_done) calls does up holds rest = rest
-  answered_more first old new (Looked is_done) calls does up holds rest = rest
+  answered_more first old new _ calls does up holds rest = rest
 
   -- what stands after calls, where the store is up
   stands_up : (start end : FullText S) (calls : List Call) (first : Contents) → IsUp g end → Holds g start first → Runs g start calls end → StandsAfter g first (store_value g start).noted calls end
@@ -175,8 +171,7 @@ module _ {S : Type 0} (g : Ghosts S) where
 
   shut_call : (old new : FullText S) (call : Call) → DoesCall g old call new → (IsUp g old → ⊥) → IsCleanAt new → (db : Trees) → (shows g new.store).may_leave db → (shows g old.store).may_leave db
   shut_call old new (Executed command answer) does shut clean db may = kept_only old shut (does.1.survives.crash clean db may)
-  shut_call old new (Noted name is_done) does shut clean db may = kept_only old shut (does.1.survives.crash clean db may)
-  shut_call old new (Looked is_done) does shut clean db may = kept_only old shut (does.1.survives.crash clean db may)
+  shut_call old new _ does shut clean db may = kept_only old shut (does.1.survives.crash clean db may)
 
   -- what calls leave that found it so, and that none of them was answered
   shut_calls : (start end : FullText S) (calls : List Call) → Runs g start calls end → (IsUp g start → ⊥) → IsCleanAt end → (db : Trees) → (shows g end.store).may_leave db → (shows g start.store).may_leave db

@@ -1,5 +1,5 @@
 -- Docids as a store reads them, and rows of documents without their cells.
-use Rattle.std.proofs.Common.{◌≡◌, ℕ, ◌+◌, Bool, true, false, cond, ◌&&◌, List, [], ◌∷◌, ◌++◌, map, Option, Some, None, ℤ, pos, negsuc, refl, ap, ◌∙◌, arith}
+use Rattle.std.proofs.Common.{◌≡◌, ℕ, ◌+◌, Bool, true, false, cond, ◌&&◌, List, [], ◌∷◌, ◌++◌, map, Option, Some, None, ℤ, pos, refl, ap, ◌∙◌, arith}
 use Rattle.sqlite_keyed.proofs.KeyedLemmas.{same_int}
 use Rattle.std.specs.Prelude.{filter, slice_get, is_some, unwrap_or}
 use Rattle.std.specs.List.{flat_map, enumerate_from}
@@ -43,13 +43,9 @@ asked_firsts tab (e ∷ es) =
 firsts-append : (xs ys : List CellRow) → firsts (xs ++ ys) ≡ firsts xs ++ firsts ys
 firsts-append xs ys = ap (map (λ (r : CellRow). r.docid)) (filter-append is_first xs ys) ∙ map-append (λ (r : CellRow). r.docid) (filter is_first xs) (filter is_first ys)
 
-abbrev number_of : ℤ → ℕ
-number_of (pos n) = n
-number_of (negsuc n) = 0
-
 behind_first : (n : ℕ) (b : Bool) → int_eq (pos 0) (pos (n + 1)) ≡ b → b ≡ false
 behind_first n false is = refl
-behind_first n true is = absurd (let same : 0 ≡ n + 1 = ap number_of (same_int (pos 0) (pos (n + 1)) is) in omega (arith, same))
+behind_first n true is = absurd (let e = same_int (pos 0) (pos (n + 1)) is in let same : 0 ≡ n + 1 = cc in omega (arith, same))
 
 no_firsts : (docid : ℤ) (n : ℕ) (cells : List Cell) → firsts (map (λ (c : ℕ × Cell). record { docid = docid; column = pos c.0; value = c.1 }) (enumerate_from (n + 1) cells)) ≡ []
 no_firsts docid n [] = refl

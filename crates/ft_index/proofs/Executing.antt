@@ -7,7 +7,7 @@ use Rattle.ft_store.specs.Kept.{StoreState, value_in, shows}
 use Rattle.ft_values.specs.declared.fault.Fault.{Fault}
 use Rattle.ft_content.specs.Command.{Command, Done, Reply}
 use Rattle.ft_content.specs.Views.{TableInfo}
-use Rattle.ft_content.specs.Deserved.{Contents, deserved, TableState, Sound, Stale, Loose, Table}
+use Rattle.ft_content.specs.Deserved.{Contents, deserved, TableState, Sound, Table}
 use Rattle.ft_content.specs.Step.{after, reply_to, step, step_by, with_documents, on_table}
 use Rattle.ft_index.specs.Changed.{Changed, with_tables}
 use Rattle.ft_index.specs.Kept.{ReachesStep, IsUp, IsOutside, KeepsOthers, PlansFrom, AreHeld, Executes, is_outside, table_info, Answers, StoreHolds}
@@ -73,8 +73,7 @@ executes_planned g old new tables after_tables changes command reaches changed t
 
 same_told : (t : ℤ × Table) (change : Content → Documents) (held : TableState) → t.1.held ≡ held → table_info (t.0, record { name = t.1.name; held = with_documents change held }) ≡ table_info (t.0, record { name = t.1.name; held = held })
 same_told t change (Sound content) is = refl
-same_told t change (Stale content) is = refl
-same_told t change (Loose rows) is = refl
+same_told t change _ is = refl
 
 told_written : (name : List ℕ) (change : Content → Documents) (contents : Contents) → map table_info (on_table contents name (with_documents change)) ≡ map table_info contents
 told_written name change [] = refl

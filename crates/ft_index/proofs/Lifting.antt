@@ -4,7 +4,7 @@ use Rattle.std.specs.Prelude.{unwrap_or}
 use Rattle.std.specs.List.{AllByRecursion}
 use Rattle.std.specs.Ordering.{int_eq}
 use Rattle.std.specs.Cmp.{int_cmp_total, eq_by_cmp_equiv}
-use Rattle.ft_rows.specs.Store.{StoreValue, AreInOrder, Change, AddTable, DropTable, PutCell, DropCells, PutEntries, DropEntries, PutSize, DropSize, ClearIndex, Note, applied, all_applied}
+use Rattle.ft_rows.specs.Store.{StoreValue, AreInOrder, Change, AddTable, DropTable, ClearIndex, Note, applied, all_applied}
 use Rattle.ft_content.specs.Content.{Content, Documents, IsContent, content_rows}
 use Rattle.ft_content.specs.Index.{index_rows}
 use Rattle.ft_content.specs.Views.{TableInfo}
@@ -32,14 +32,9 @@ one_spares id change store is = record { rows = λ other apart. (others other ap
 one_leaves : (id : ℤ) (docids : List ℤ) (change : Change) (store : StoreValue) → IsOfDocids id docids change → (changed_table change ≡ Some id) × ((applied change store).tables ≡ store.tables) × ((applied change store).noted ≡ store.noted)
 one_leaves id docids (AddTable tab name columns skipped) store h = absurd h
 one_leaves id docids (DropTable tab) store h = absurd h
-one_leaves id docids (PutCell tab docid column value) store h = (ap Some h.0, refl, refl)
-one_leaves id docids (DropCells tab docid) store h = (ap Some h.0, refl, refl)
-one_leaves id docids (PutEntries tab term docid spots) store h = (ap Some h.0, refl, refl)
-one_leaves id docids (DropEntries tab term docid) store h = (ap Some h.0, refl, refl)
-one_leaves id docids (PutSize tab docid column n) store h = (ap Some h.0, refl, refl)
-one_leaves id docids (DropSize tab docid column) store h = (ap Some h.0, refl, refl)
 one_leaves id docids (ClearIndex tab) store h = absurd h
 one_leaves id docids (Note name) store h = absurd h
+one_leaves id docids _ store h = (ap Some h.0, refl, refl)
 
 pub leaves_rest : (id : ℤ) (docids : List ℤ) (changes : List Change) (store : StoreValue) → AllByRecursion (IsOfDocids id docids) changes → LeavesRest id store (all_applied changes store)
 leaves_rest id docids [] store near = record { others = record { rows = λ other apart. refl; index = λ other apart. refl }; tables = refl; noted = refl }

@@ -9,7 +9,7 @@ use Rattle.std.specs.Ordering.{int_cmp}
 use Rattle.std.specs.Cmp.Lexicographic.{nat_list_eq_equiv}
 use Rattle.std.specs.FinMap.Entries.{by_order, put}
 use Rattle.ft_content.specs.Content.{same_name, repeats_name}
-use Rattle.ft_content.specs.Command.{Command, Create, Drop, Insert, Update, Delete, Select, Rebuild, Check, Optimize}
+use Rattle.ft_content.specs.Command.{Command, Create, Drop, Insert, Update, Delete, Rebuild}
 use Rattle.ft_content.specs.Deserved.{TableState, Table, Contents, table_named, made_columns}
 use Rattle.ft_content.specs.Step.{free_id_from, new_table, inserted, updated, deleted, with_documents, rebuilt, on_table, after}
 use Rattle.ft_content.specs.Views.{table_names}
@@ -98,10 +98,8 @@ apart_after contents (Drop table if_there) h = apart_kept (λ (t : ℤ × Table)
 apart_after contents (Insert table columns rows) h = apart_changed table (with_documents (λ content. inserted content columns rows)) contents h
 apart_after contents (Update table sets f) h = apart_changed table (with_documents (λ content. updated content sets f)) contents h
 apart_after contents (Delete table f) h = apart_changed table (with_documents (λ content. deleted content f)) contents h
-apart_after contents (Select table items f limit offset) h = h
 apart_after contents (Rebuild table) h = apart_changed table rebuilt contents h
-apart_after contents (Check table) h = h
-apart_after contents (Optimize table) h = h
+apart_after contents _ h = h
 
 pub names_stay_apart : NamesStayApart
 unfolding left_by

@@ -20,7 +20,7 @@ use Rattle.ft_rows.specs.Store.{StoreValue, Change, AddTable, PutEntries, Note, 
 use Rattle.ft_values.specs.declared.fault.Fault.{Fault}
 use Rattle.ft_values.specs.declared.fault.Fault.TheVariants as faults
 use Rattle.ft_content.specs.declared.command.Reply.{Reply as RustReply}
-use Rattle.ft_content.specs.Command.{Command, Create, Drop, Insert, Update, Delete, Select, Rebuild, Check, Optimize, Filter, Items, Reply, Done, Rows}
+use Rattle.ft_content.specs.Command.{Command, Select, Filter, Items, Reply, Done, Rows}
 use Rattle.ft_content.specs.Deserved.{TableState, Sound, Stale, Loose, Table, Contents, table_named}
 use Rattle.ft_content.specs.Views.{TableInfo, answer_of}
 use Rattle.ft_index.specs.DocumentsRead.{Looks}
@@ -44,14 +44,7 @@ module _ {S : Type 0} (one other new : FullText S) (same : one.store.rows_read �
 
   counts_same : (first : Contents) (command : Command) (answer : Result Reply Fault) → CountsIfRows first one new command answer → CountsIfRows first other new command answer
   counts_same first (Select table items f limit offset) (Ok (Rows grid)) it = counts_found offset items f limit (table_named first table) it
-  counts_same first (Create table module_name options columns if_new) (Ok (Rows grid)) it = tt
-  counts_same first (Drop table if_there) (Ok (Rows grid)) it = tt
-  counts_same first (Insert table columns rows) (Ok (Rows grid)) it = tt
-  counts_same first (Update table sets f) (Ok (Rows grid)) it = tt
-  counts_same first (Delete table f) (Ok (Rows grid)) it = tt
-  counts_same first (Rebuild table) (Ok (Rows grid)) it = tt
-  counts_same first (Check table) (Ok (Rows grid)) it = tt
-  counts_same first (Optimize table) (Ok (Rows grid)) it = tt
+  counts_same first _ (Ok (Rows grid)) it = tt
   counts_same first command (Ok Done) it = tt
   counts_same first command (Err fault) it = tt
 
@@ -73,10 +66,7 @@ ok_then (Err e) a done = absurd (let wrong = done in cc)
 -- a fault of the store is one from outside
 pub outside_of : (e : StoreFault) → IsOutside (fault_of_read e)
 outside_of causes.Memory = inr refl
-outside_of causes.Refused = inl refl
-outside_of causes.NotAStore = inl refl
-outside_of (causes.Version n) = inl refl
-outside_of causes.Damaged = inl refl
+outside_of _ = inl refl
 
 pub clean_before : (a b : State) {C : _} → Survives a b C → HasCleanDisk b → HasCleanDisk a
 clean_before a b survives clean = omega (arith, survives.clean, clean)

@@ -50,13 +50,9 @@ unfolding step
 answered_fault contents last command fault (inl outside) = inl outside.0
 answered_fault contents last command fault (inr stepped) = go (deserved contents command) stepped
   where
-    fault_in : Result Reply Fault → Fault
-    fault_in (Ok reply) = fault
-    fault_in (Err other) = other
-
     go : (due : Option Fault) → step_by due contents command ≡ (Err fault, last) → IsTrue (is_outside (Err fault)) ⊎ (due ≡ Some fault)
     go None is = absurd (let no = ap (λ (p : Result Reply Fault × Contents). p.0) is in cc)
-    go (Some other) is = inr (ap (λ (p : Result Reply Fault × Contents). Some (fault_in p.0)) is)
+    go (Some other) is = let fails : Err other ≡ Err fault = ap (λ (p : Result Reply Fault × Contents). p.0) is in inr (let same : Some other ≡ Some fault = cc in same)
 
 -- a plan of no row changes, or the fault
 abbrev pub none_of : Result RustReply Fault → Result (List Change) Fault

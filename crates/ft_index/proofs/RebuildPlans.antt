@@ -87,8 +87,7 @@ module _ (store : StoreValue) (tables : List TableInfo) (contents : Contents) (n
         keeps_same store,
         tt,
       )
-      go (Stale content) e is = absurd (let no = is in cc)
-      go (Loose rows) e is = absurd (let no = is in cc)
+      go _ e is = absurd (let no = is in cc)
 
   -- the documents of rows that are others, as they are put into a table without any
   put_anew : (content : Content) (rewrites : List Rewrite) → t.table.1.held ≡ Stale content → IsAll t rewrites → (map new_rewrite content.documents ≡ rewrites) × AreOf (bare content.columns) (map new_rewrite content.documents)
@@ -104,11 +103,10 @@ module _ (store : StoreValue) (tables : List TableInfo) (contents : Contents) (n
   stale_content rewrites is all = go t.table.1.held refl is
     where
       go : (state : TableState) → t.table.1.held ≡ state → states.Stale ≡ state_of state → (content : Content) × (content.columns ≡ known.columns) × AreOf content rewrites
-      go (Sound content) e is = absurd (let no = is in cc)
-      go (Loose rows) e is = absurd (let no = is in cc)
       go (Stale content) e is =
           let put = put_anew content rewrites e all in
           (bare content.columns, ap held_columns (sym e) ∙ ap (λ (k : TableInfo). k.columns) t.told, subst (AreOf (bare content.columns)) put.0 put.1)
+      go _ e is = absurd (let no = is in cc)
 
   -- others are put into the table anew
   pub plan_stale : (rewrites : List Rewrite) (changes : List Change) → states.Stale ≡ state_of t.table.1.held → IsAll t rewrites →
@@ -116,8 +114,6 @@ module _ (store : StoreValue) (tables : List TableInfo) (contents : Contents) (n
   plan_stale rewrites changes is all right near = go t.table.1.held refl is
     where
       go : (state : TableState) → t.table.1.held ≡ state → states.Stale ≡ state_of state → PlansFrom contents (Rebuild name) store (Ok (anew_change known ∷ changes))
-      go (Sound content) e is = absurd (let no = is in cc)
-      go (Loose rows) e is = absurd (let no = is in cc)
       go (Stale content) e is =
           let stands = stands_at (Stale content) e in
           let made = all_put_back t.table.1.name content stands.0 in
@@ -131,15 +127,15 @@ module _ (store : StoreValue) (tables : List TableInfo) (contents : Contents) (n
             done.1,
             tt,
           )
+      go _ e is = absurd (let no = is in cc)
 
   -- rows that are no content can't be
   pub plan_loose : states.Loose ≡ state_of t.table.1.held → PlansFrom contents (Rebuild name) store (Err faults.Corrupt)
   plan_loose is = go t.table.1.held refl is
     where
       go : (state : TableState) → t.table.1.held ≡ state → states.Loose ≡ state_of state → PlansFrom contents (Rebuild name) store (Err faults.Corrupt)
-      go (Sound content) e is = absurd (let no = is in cc)
-      go (Stale content) e is = absurd (let no = is in cc)
       go (Loose rows) e is = inr (due_at (Loose rows) e)
+      go _ e is = absurd (let no = is in cc)
 
 -- ---- the tables that are told after it
 

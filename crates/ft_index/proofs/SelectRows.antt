@@ -95,17 +95,9 @@ row_unread columns items content cells h none = cells_unread (Text (offsets_text
 same_each : {D X : Type 0} (again : D → D) (F : D → D → X) (ds : List D) → map again ds ≡ ds → map (λ d. F d (again d)) ds ≡ map (λ d. F d d) ds
 same_each again F [] h = refl
 same_each {D} again F (d ∷ ds) h =
-    let one : again d ≡ d = ap first h in
-    let more : map again ds ≡ ds = ap rest h in
+    let one : again d ≡ d = cc in
+    let more : map again ds ≡ ds = cc in
     λ i. F d (one i) ∷ same_each again F ds more i
-  where
-    first : List D → D
-    first [] = d
-    first (x ∷ xs) = x
-
-    rest : List D → List D
-    rest [] = []
-    rest (x ∷ xs) = xs
 
 -- the row of a hit whose document has these cells
 abbrev row_with : Content → List Item → (ℤ → List Cell) → PlainHit → List Cell

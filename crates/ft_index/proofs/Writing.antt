@@ -3,7 +3,7 @@ use Rattle.std.proofs.Common.{◌≡◌, ◌⊎◌, inl, inr, ℕ, zero, suc, �
 use Rattle.std.specs.Prelude.{IsTrue, All, Contains, slice_index_or, Vec}
 use Rattle.std.specs.List.{AllByRecursion}
 use Rattle.std.proofs.lemmas.List.Elements.{recursion_from_All, All-from_recursion}
-use Rattle.ft_rows.specs.Store.{StoreValue, AreInOrder, Change, AddTable, DropTable, PutCell, DropCells, PutEntries, DropEntries, PutSize, DropSize, ClearIndex, Note, all_applied}
+use Rattle.ft_rows.specs.Store.{StoreValue, AreInOrder, Change, AddTable, DropTable, ClearIndex, Note, all_applied}
 use Rattle.ft_values.specs.declared.fault.Fault.{Fault}
 use Rattle.ft_content.specs.Content.{Content, Documents, IsContent, content_rows, Column}
 use Rattle.ft_content.specs.Index.{index_rows}
@@ -47,14 +47,9 @@ contained touched (r ∷ rs) near docid (suc k) inside is = contained touched rs
 widened : (id : ℤ) (few many : List ℤ) → ((docid : ℤ) → Contains few docid → Contains many docid) → (change : Change) → IsOfDocids id few change → IsOfDocids id many change
 widened id few many more (AddTable tab name columns skipped) h = absurd h
 widened id few many more (DropTable tab) h = absurd h
-widened id few many more (PutCell tab docid column value) h = (h.0, more docid h.1)
-widened id few many more (DropCells tab docid) h = (h.0, more docid h.1)
-widened id few many more (PutEntries tab term docid spots) h = (h.0, more docid h.1)
-widened id few many more (DropEntries tab term docid) h = (h.0, more docid h.1)
-widened id few many more (PutSize tab docid column n) h = (h.0, more docid h.1)
-widened id few many more (DropSize tab docid column) h = (h.0, more docid h.1)
 widened id few many more (ClearIndex tab) h = absurd h
 widened id few many more (Note name) h = absurd h
+widened id few many more _ h = (h.0, more _ h.1)
 
 all_widened : (id : ℤ) (few many : List ℤ) → ((docid : ℤ) → Contains few docid → Contains many docid) → (changes : List Change) → AllByRecursion (IsOfDocids id few) changes → AllByRecursion (IsOfDocids id many) changes
 all_widened id few many more [] h = tt
