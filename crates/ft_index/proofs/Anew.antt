@@ -34,7 +34,7 @@ use Rattle.ft_index.proofs.KnownLemmas.{sound_held, sound_is}
 use Rattle.ft_index.proofs.Lifting.{LeavesRest, leaves_rest}
 use Rattle.ft_index.proofs.OneTable.{AreHeldIn, changes_one}
 use Rattle.ft_index.proofs.OtherRows.{keeps_changed}
-use Rattle.ft_index.proofs.TableChanges.{add_spares}
+use Rattle.ft_index.proofs.TableChanges.{one_spares}
 
 -- ---- the tables that the store names stay
 
@@ -103,7 +103,7 @@ module _ (name : List ℕ) (columns : List Column) (id : ℤ) (store : StoreValu
   anew_right rewrites changes is are right near =
       let has : HasContent name (bare columns) id first = record { order = first_order; is_content = is; rows = added_rows id name columns store order; index = added_index id name columns store } in
       let done = right name (bare columns) first has refl are in
-      let spares = add_spares id name (names_of columns) (skipped_from 0 columns) store in
+      let spares = one_spares id (AddTable id name (names_of columns) (skipped_from 0 columns)) store refl in
       let rest = leaves_rest id (rewritten_docids rewrites) changes first (recursion_from_All (IsOfDocids id (rewritten_docids rewrites)) changes near) in (
         record {
           others = record { rows = λ other apart. rest.others.rows other apart ∙ spares.rows other apart; index = λ other apart. rest.others.index other apart ∙ spares.index other apart };

@@ -11,15 +11,15 @@ use Rattle.ft_values.specs.declared.fault.Fault.TheVariants as faults
 use Rattle.ft_values.specs.declared.table.TableInfo.{TableInfo as RustTableInfo}
 use Rattle.ft_content.specs.Command.{Check, Done}
 use Rattle.ft_content.specs.Views.{TableInfo, shown_info}
-use Rattle.ft_content.specs.Deserved.{TableState, Sound, Stale, Loose, Table, Contents, table_named, on_found, check_fault, deserved}
+use Rattle.ft_content.specs.Deserved.{TableState, Sound, Table, Contents, table_named, on_found, check_fault, deserved}
 use Rattle.ft_content.specs.Step.{step, step_by, reply_to, after}
 use Rattle.ft_documents.specs.Found.{info_named}
 use Rattle.ft_index.specs.Kept.{AreHeld, StoreHolds, Stands, AreSound, is_sound, table_info}
 use Rattle.ft_index.specs.Opened.{IsNamed, AreMarked}
 use Rattle.ft_documents.specs.Tables.{table_rows, table_index}
 use Rattle.ft_index.proofs.HeldLemmas.{holds_one_contents}
-use Rattle.ft_index.proofs.KnownLemmas.{found_stands, none_named, some_named}
-use Rattle.ft_index.proofs.OneTable.{IsOne, one_named, ids_sorted, AreHeldIn}
+use Rattle.ft_index.proofs.KnownLemmas.{none_named, some_named}
+use Rattle.ft_index.proofs.OneTable.{IsOne, one_named, ids_sorted, AreHeldIn, held_named}
 use Rattle.ft_index.proofs.OpenedTables.{marked_contents}
 
 -- ---- the table of a name
@@ -60,7 +60,7 @@ told_here store tables contents name known order held named =
       told = it.2;
       one = one;
       named = ap (λ (k : TableInfo). find (λ (n : ℤ × List ℕ). int_eq k.id n.0) store.tables) (sym it.2) ∙ named_under store name it.0 store.tables contents one held.held it.1;
-      stands = found_stands store name it.0 store.tables contents held.held it.1;
+      stands = (held_named store name it.0 store.tables contents held.held it.1).0;
     }
 
 -- ---- what a Check is answered
@@ -71,13 +71,11 @@ checked contents name found due is fault = ap (λ d. step_by d contents (Check n
 
 sound_due : (name : List ℕ) (held : TableState) → is_sound held ≡ true → check_fault name held ≡ None
 sound_due name (Sound content) h = refl
-sound_due name (Stale content) h = absurd (let no = h in cc)
-sound_due name (Loose rows) h = absurd (let no = h in cc)
+sound_due name _ h = absurd (let no = h in cc)
 
 unsound_due : (name : List ℕ) (held : TableState) → is_sound held ≡ false → check_fault name held ≡ Some faults.Corrupt
 unsound_due name (Sound content) h = absurd (let no = h in cc)
-unsound_due name (Stale content) h = refl
-unsound_due name (Loose rows) h = refl
+unsound_due name _ h = refl
 
 pub check_missing : (contents : Contents) (tables : List TableInfo) (name : List ℕ) → tables ≡ map table_info contents → info_named tables name ≡ None → step contents (Check name) ≡ (Err faults.NoSuchTable, contents)
 check_missing contents tables name told none = checked contents name None (Some faults.NoSuchTable) (none_named contents name (ap (λ ts. info_named ts name) (sym told) ∙ none)) refl

@@ -1,10 +1,10 @@
 -- Documents that are written group by group.
 use Rattle.std.proofs.Common.{◌≡◌, inr, Ok, Err, Result, List, [], ◌∷◌, ◌++◌, map, Option, Some, None, ℤ, pos, refl, sym, ap, subst, ◌∙◌, append-nil}
+use Rattle.sqlite_keyed.proofs.ListLemmas.{flat_map-map, map-flat_map}
 use Rattle.std.specs.Prelude.{All, Vec}
 use Rattle.std.specs.declared.alloc.Global.{Global}
 use Rattle.std.specs.List.{flat_map}
 use Rattle.std.specs.Vec.{vec_items}
-use Rattle.std.proofs.lemmas.List.{map-append}
 use Rattle.std.proofs.lemmas.List.Elements.{All-nil}
 use Rattle.sqlite.specs.Store.{Ghosts}
 use Rattle.ft_rows.specs.Store.{Change}
@@ -34,8 +34,7 @@ abbrev shown : Groups → List (List Rewrite)
 shown groups = map (λ (group : Vec source.Rewrite Global). map shown_rewrite group.items) groups
 
 joined : (groups : Groups) → flat_map (λ group. group) (shown groups) ≡ map shown_rewrite (flat_map vec_items groups)
-joined [] = refl
-joined (group ∷ groups) = ap (λ l. map shown_rewrite group.items ++ l) (joined groups) ∙ sym (map-append shown_rewrite group.items (flat_map vec_items groups))
+joined groups = flat_map-map (λ (g : List Rewrite). g) (λ (group : Vec source.Rewrite Global). map shown_rewrite group.items) groups ∙ sym (map-flat_map shown_rewrite vec_items groups)
 
 -- the part of each group
 abbrev pub parts_of : ℤ → List Column → Groups → List (List Change)

@@ -1,20 +1,20 @@
 -- The tables that are told of contents, by their names.
 use Rattle.std.proofs.Common.{Ok, inl, inr, ◌≡◌, ℕ, Bool, true, false, cond, List, [], ◌∷◌, map, Option, Some, None, ℤ, refl, sym, ap, subst, ◌∙◌}
 use Rattle.sqlite_keyed.proofs.ListLemmas.{map-map}
-use Rattle.std.specs.Prelude.{option_map, IsTrue, is_some, unwrap_or}
+use Rattle.std.specs.Prelude.{option_map, IsTrue, is_some}
 use Rattle.ft_values.specs.declared.fault.Fault.{Fault}
 use Rattle.ft_values.specs.declared.table.TableInfo.{TableInfo as RustTableInfo}
 use Rattle.ft_content.specs.Content.{Content, same_name}
 use Rattle.ft_content.specs.Views.{TableInfo, shown_info, table_names, table_ids, info_names, info_ids}
-use Rattle.ft_content.specs.Deserved.{TableState, Sound, Stale, Loose, Table, Contents, table_named, on_sound, on_found, on_held, made_columns, create_fault, deserved}
+use Rattle.ft_content.specs.Deserved.{TableState, Sound, Table, Contents, table_named, on_sound, on_found, on_held, made_columns, create_fault, deserved}
 use Rattle.ft_content.specs.Command.{Create, Optimize, Done}
 use Rattle.ft_content.specs.Step.{after, reply_to, step, step_by}
-use Rattle.ft_index.specs.Kept.{table_info, is_sound, AreHeld, HoldsTable, Stands}
+use Rattle.ft_index.specs.Kept.{table_info, is_sound, AreHeld, Stands}
 use Rattle.ft_documents.specs.Found.{info_named, IsUnfit}
 use Rattle.ft_rows.specs.Store.{StoreValue, AreInOrder}
 use Rattle.ft_documents.specs.Tables.{table_rows, table_index}
 use Rattle.ft_documents.specs.Rewrite.{HasContent}
-use Rattle.ft_index.proofs.OneTable.{AreHeldIn}
+use Rattle.ft_index.proofs.OneTable.{held_named}
 use Rattle.ft_values.specs.declared.fault.Fault.TheVariants as faults
 
 pub told_named : (contents : Contents) (name : List ℕ) → info_named (map table_info contents) name ≡ option_map table_info (table_named contents name)
@@ -59,8 +59,7 @@ pub record IsSoundTable (contents : Contents) (name : List ℕ) (known : TableIn
 
 pub sound_held : (held : TableState) → is_sound held ≡ true → (content : Content) × (held ≡ Sound content)
 sound_held (Sound content) h = (content, refl)
-sound_held (Stale content) h = absurd (let no = h in cc)
-sound_held (Loose rows) h = absurd (let no = h in cc)
+sound_held _ h = absurd (let no = h in cc)
 
 pub sound_table : (contents : Contents) (name : List ℕ) (known : TableInfo) → info_named (map table_info contents) name ≡ Some known → IsTrue known.sound → IsSoundTable contents name known
 sound_table contents name known named sound =
@@ -74,8 +73,7 @@ on_it found test = on_found found (λ table held. on_held held (test table))
 
 unsound_is : (t : ℤ × Table) (test : List ℕ → Content → Option Fault) (held : TableState) → t.1.held ≡ held → is_sound held ≡ false → on_held held (test t.1.name) ≡ Some faults.Unsound
 unsound_is t test (Sound content) e h = absurd (let no = h in cc)
-unsound_is t test (Stale content) e h = refl
-unsound_is t test (Loose rows) e h = refl
+unsound_is t test _ e h = refl
 
 pub unfit_is : (contents : Contents) (name : List ℕ) (fault : Fault) (test : List ℕ → Content → Option Fault) → IsUnfit (map table_info contents) name fault → on_sound contents name test ≡ Some fault
 unfit_is contents name fault test (inl missing) = ap (λ found. on_it found test) (none_named contents name missing.1) ∙ ap Some (sym missing.0)
@@ -110,23 +108,8 @@ pub optimize_keeps : (contents : Contents) (name : List ℕ) → deserved conten
 unfolding step reply_to after
 optimize_keeps contents name fine = ap (λ due. step_by due contents (Optimize name)) fine
 
--- a table that is found among the contents stands so in the store
-pub found_stands : (store : StoreValue) (name : List ℕ) (t : ℤ × Table) (tables : List (ℤ × List ℕ)) (contents : Contents) → AreHeldIn store tables contents → table_named contents name ≡ Some t →
-    Stands t.1.name (table_rows t.0 store) (table_index t.0 store) t.1.held
-found_stands store name t [] [] held found = absurd (let no = found in cc)
-found_stands store name t [] (c ∷ cs) held found = absurd held
-found_stands store name t (n ∷ ns) [] held found = absurd held
-found_stands store name t (n ∷ ns) (c ∷ cs) held found = go (same_name c.1.name name) found (found_stands store name t ns cs held.1)
-  where
-    here : HoldsTable n (table_rows n.0 store) (table_index n.0 store) c → Stands c.1.name (table_rows c.0 store) (table_index c.0 store) c.1.held
-    here h = subst (λ m. Stands m (table_rows c.0 store) (table_index c.0 store) c.1.held) (sym h.name) (subst (λ k. Stands n.1 (table_rows k store) (table_index k store) c.1.held) (sym h.id) h.stands)
-
-    go : (b : Bool) → cond b (Some c) (table_named cs name) ≡ Some t → (table_named cs name ≡ Some t → Stands t.1.name (table_rows t.0 store) (table_index t.0 store) t.1.held) → Stands t.1.name (table_rows t.0 store) (table_index t.0 store) t.1.held
-    go true is rest = subst (λ (x : ℤ × Table). Stands x.1.name (table_rows x.0 store) (table_index x.0 store) x.1.held) (ap (λ o. unwrap_or o c) is) (here held.0)
-    go false is rest = rest is
-
 -- a sound table's rows are its content's, with exactly the index rows made from scratch
 pub sound_rows : (store : StoreValue) (tables : List TableInfo) (contents : Contents) (name : List ℕ) (known : TableInfo) (t : IsSoundTable contents name known) → AreInOrder store → AreHeld store tables contents → HasContent t.table.1.name t.content t.table.0 store
 sound_rows store tables contents name known t order held =
-    let stands = subst (λ h. Stands t.table.1.name (table_rows t.table.0 store) (table_index t.table.0 store) h) t.held (found_stands store name t.table store.tables contents held.held t.found) in
+    let stands = subst (λ h. Stands t.table.1.name (table_rows t.table.0 store) (table_index t.table.0 store) h) t.held (held_named store name t.table store.tables contents held.held t.found).0 in
     record { order = order; is_content = stands.0; rows = stands.1; index = stands.2 }

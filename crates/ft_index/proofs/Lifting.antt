@@ -1,9 +1,7 @@
 -- From the rows of one table to the contents of all.
-use Rattle.std.proofs.Common.{◌≡◌, ℕ, false, List, [], ◌∷◌, Some, ℤ, refl, sym, ap, subst, ◌∙◌}
-use Rattle.std.specs.Prelude.{unwrap_or}
+use Rattle.std.proofs.Common.{◌≡◌, ℕ, List, [], ◌∷◌, Some, ℤ, refl, sym, ap, subst, ◌∙◌}
+use Rattle.ft_index.proofs.TableChanges.{one_spares}
 use Rattle.std.specs.List.{AllByRecursion}
-use Rattle.std.specs.Ordering.{int_eq}
-use Rattle.std.specs.Cmp.{int_cmp_total, eq_by_cmp_equiv}
 use Rattle.ft_rows.specs.Store.{StoreValue, AreInOrder, Change, AddTable, DropTable, ClearIndex, Note, applied, all_applied}
 use Rattle.ft_content.specs.Content.{Content, Documents, IsContent, content_rows}
 use Rattle.ft_content.specs.Index.{index_rows}
@@ -13,7 +11,6 @@ use Rattle.ft_content.specs.Step.{with_documents, on_table}
 use Rattle.ft_documents.specs.Tables.{table_rows, table_index, IsOfDocids}
 use Rattle.ft_documents.specs.RowLaws.{changed_table}
 use Rattle.ft_index.specs.Kept.{AreHeld, StoreHolds, Stands}
-use Rattle.ft_documents.proofs.ChangeLemmas.{spares_others}
 use Rattle.ft_index.proofs.OneTable.{SparesAllBut, one_named, ids_sorted, changes_one, AreHeldIn}
 use Rattle.ft_index.proofs.KnownLemmas.{IsSoundTable}
 
@@ -22,12 +19,6 @@ pub record LeavesRest (id : ℤ) (old new : StoreValue) : Type 0 where
   pub others : SparesAllBut id old new
   pub tables : new.tables ≡ old.tables
   pub noted : new.noted ≡ old.noted
-
-one_spares : (id : ℤ) (change : Change) (store : StoreValue) → changed_table change ≡ Some id → SparesAllBut id store (applied change store)
-one_spares id change store is = record { rows = λ other apart. (others other apart).0; index = λ other apart. (others other apart).1 }
-  where
-    others : (other : ℤ) → int_eq id other ≡ false → (table_rows other (applied change store) ≡ table_rows other store) × (table_index other (applied change store) ≡ table_index other store)
-    others other apart = spares_others change other store (λ tab here. ap (λ o. int_eq other (unwrap_or o tab)) (sym here ∙ is) ∙ (eq_by_cmp_equiv int_cmp_total).symm other id ∙ apart)
 
 one_leaves : (id : ℤ) (docids : List ℤ) (change : Change) (store : StoreValue) → IsOfDocids id docids change → (changed_table change ≡ Some id) × ((applied change store).tables ≡ store.tables) × ((applied change store).noted ≡ store.noted)
 one_leaves id docids (AddTable tab name columns skipped) store h = absurd h

@@ -1,12 +1,12 @@
 -- The one table of a name, and what a change of its rows leaves.
 use Rattle.std.proofs.Common.{◌≡◌, ℕ, Bool, true, false, cond, ◌&&◌, List, [], ◌∷◌, map, Some, ℤ, refl, sym, ap, subst, ◌∙◌}
-use Rattle.std.specs.Prelude.{unwrap_or}
+use Rattle.std.specs.Prelude.{unwrap_or, is_some}
 use Rattle.std.specs.List.{AllZip, AllByRecursion, list_any}
 use Rattle.std.specs.Ordering.{int_cmp, int_eq, is_lt, is_eq}
 use Rattle.std.specs.Str.{str_to_ascii_lowercase}
 use Rattle.std.specs.Cmp.{int_cmp_total, eq_by_cmp_equiv, tied_itself}
 use Rattle.std.specs.Cmp.Lexicographic.{nat_list_eq_equiv}
-use Rattle.std.specs.FinMap.Entries.{below_all, is_sorted}
+use Rattle.std.specs.FinMap.Entries.{below_all, is_sorted, find}
 use Rattle.std.proofs.lemmas.Bool.{or_parts, and_parts}
 use Rattle.ft_rows.specs.Store.{StoreValue}
 use Rattle.ft_content.specs.Content.{same_name, repeats_name}
@@ -132,3 +132,24 @@ changes_one name t old new change (n ∷ ns) (x ∷ xs) spares stands one h = (
               (subst (λ k. Stands n.1 (table_rows k new) (table_index k new) (change t.1.held)) id (subst (λ m. Stands m (table_rows t.0 new) (table_index t.0 new) (change t.1.held)) named stands));
         }
     go false e h = spared t.0 old new n x spares e h
+
+-- a table of this name stands so in the store, which names it
+pub held_named : (store : StoreValue) (name : List ℕ) (t : ℤ × Table) (tables : List (ℤ × List ℕ)) (contents : Contents) → AreHeldIn store tables contents → table_named contents name ≡ Some t →
+    Stands t.1.name (table_rows t.0 store) (table_index t.0 store) t.1.held × (is_some (find int_cmp t.0 tables) ≡ true)
+held_named store name t [] [] h found = absurd (let no = found in cc)
+held_named store name t [] (x ∷ xs) h found = absurd h
+held_named store name t (n ∷ ns) [] h found = absurd h
+held_named store name t (n ∷ ns) (x ∷ xs) h found = go (same_name x.1.name name) found (held_named store name t ns xs h.1)
+  where
+    Is : ℤ × Table → Type 0
+    Is y = Stands y.1.name (table_rows y.0 store) (table_index y.0 store) y.1.held × (is_some (cond (int_eq y.0 n.0) (Some n.1) (find int_cmp y.0 ns)) ≡ true)
+
+    here : Is x
+    here = (
+      subst (λ m. Stands m (table_rows x.0 store) (table_index x.0 store) x.1.held) (sym h.0.name) (subst (λ k. Stands n.1 (table_rows k store) (table_index k store) x.1.held) (sym h.0.id) h.0.stands),
+      ap (λ b. is_some (cond b (Some n.1) (find int_cmp x.0 ns))) (ap (int_eq x.0) (sym h.0.id) ∙ ap is_eq (tied_itself int_cmp_total x.0)),
+    )
+
+    go : (b : Bool) → cond b (Some x) (table_named xs name) ≡ Some t → (table_named xs name ≡ Some t → Stands t.1.name (table_rows t.0 store) (table_index t.0 store) t.1.held × (is_some (find int_cmp t.0 ns) ≡ true)) → Is t
+    go true found rest = subst Is (ap (λ o. unwrap_or o x) found) here
+    go false found rest = ((rest found).0, elim (int_eq t.0 n.0) as (λ b. is_some (cond b (Some n.1) (find int_cmp t.0 ns)) ≡ true) [ true ↦ refl | false ↦ (rest found).1 ])

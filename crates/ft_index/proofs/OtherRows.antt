@@ -1,7 +1,7 @@
 -- What commands leave under ids that no table has.
-use Rattle.std.proofs.Common.{◌≡◌, ℕ, Bool, true, false, cond, not, List, [], ◌∷◌, map, Some, None, ℤ, string_bytes, refl, sym, ap, ◌∙◌}
+use Rattle.std.proofs.Common.{◌≡◌, ℕ, Bool, true, false, cond, not, List, [], ◌∷◌, map, Some, None, ℤ, string_bytes, refl, sym, ap, ◌∙◌, subst}
 use Rattle.sqlite_keyed.proofs.KeyedLemmas.{same_int}
-use Rattle.std.specs.Prelude.{is_some, unwrap_or}
+use Rattle.std.specs.Prelude.{is_some}
 use Rattle.std.specs.declared.cmp.Ordering.{Ordering}
 use Rattle.std.specs.Ordering.{int_cmp, int_eq, is_eq}
 use Rattle.std.specs.Cmp.{int_cmp_total, eq_by_cmp_equiv, tied_itself}
@@ -10,16 +10,15 @@ use Rattle.std.proofs.lemmas.Map.Lookups.{exact_signed}
 use Rattle.ft_values.specs.Cells.{Cell}
 use Rattle.ft_rows.specs.Store.{StoreValue, CellKey, ColumnKey, ListKey, cell_key_cmp, list_key_cmp, column_key_cmp, AddTable, DropTable, applied}
 use Rattle.ft_values.specs.declared.table.TableInfo.{TableInfo as RustTableInfo}
-use Rattle.ft_content.specs.Content.{names_of, same_name, skipped_from}
+use Rattle.ft_content.specs.Content.{names_of, skipped_from}
 use Rattle.ft_content.specs.Views.{column_of}
-use Rattle.ft_content.specs.Deserved.{Table, Contents, table_named}
 use Rattle.ft_content.specs.Index.{StoredSpot}
 use Rattle.ft_documents.specs.Tables.{table_rows, table_index}
 use Rattle.ft_index.specs.Kept.{KeepsOthers, has_table_id, no_index, no_rows}
 use Rattle.ft_index.specs.Planned.{table_change}
 use Rattle.ft_index.proofs.Lifting.{LeavesRest}
-use Rattle.ft_index.proofs.OneTable.{AreHeldIn, SparesAllBut}
-use Rattle.ft_index.proofs.TableChanges.{add_spares, drop_spares}
+use Rattle.ft_index.proofs.OneTable.{SparesAllBut}
+use Rattle.ft_index.proofs.TableChanges.{one_spares}
 
 pub keeps_same : (store : StoreValue) → KeepsOthers store store
 keeps_same store = record {
@@ -28,41 +27,23 @@ keeps_same store = record {
   index = λ id none. ap (λ b. cond b no_index (table_index id store)) (sym none);
 }
 
--- a table that contents have is named by their store
-pub names_held : (name : List ℕ) (t : ℤ × Table) (store : StoreValue) (tables : List (ℤ × List ℕ)) (contents : Contents) → AreHeldIn store tables contents → table_named contents name ≡ Some t → is_some (find int_cmp t.0 tables) ≡ true
-names_held name t store [] [] h found = absurd (let no = found in cc)
-names_held name t store [] (x ∷ xs) h found = absurd h
-names_held name t store (n ∷ ns) [] h found = absurd h
-names_held name t store (n ∷ ns) (x ∷ xs) h found = go (same_name x.1.name name) found (names_held name t store ns xs h.1)
+-- of each id, as it is of one and of all others
+at_each_id : (P : ℤ → Type 0) (id : ℤ) → P id → ((other : ℤ) → int_eq id other ≡ false → P other) → (other : ℤ) → P other
+at_each_id P id here there other = go (int_eq id other) refl
   where
-    here : x ≡ t → is_some (cond (int_eq t.0 n.0) (Some n.1) (find int_cmp t.0 ns)) ≡ true
-    here same =
-        let id : t.0 ≡ n.0 = ap (λ (y : ℤ × Table). y.0) (sym same) ∙ h.0.id in
-        let tied : int_eq t.0 n.0 ≡ true = ap (int_eq t.0) (sym id) ∙ ap is_eq (tied_itself int_cmp_total t.0) in
-        ap (λ b. is_some (cond b (Some n.1) (find int_cmp t.0 ns))) tied
-
-    later : (b : Bool) → is_some (find int_cmp t.0 ns) ≡ true → is_some (cond b (Some n.1) (find int_cmp t.0 ns)) ≡ true
-    later true rest = refl
-    later false rest = rest
-
-    go : (b : Bool) → cond b (Some x) (table_named xs name) ≡ Some t → (table_named xs name ≡ Some t → is_some (find int_cmp t.0 ns) ≡ true) → is_some (cond (int_eq t.0 n.0) (Some n.1) (find int_cmp t.0 ns)) ≡ true
-    go true found rest = here (ap (λ o. unwrap_or o x) found)
-    go false found rest = later (int_eq t.0 n.0) (rest found)
+    go : (b : Bool) → int_eq id other ≡ b → P other
+    go true same = subst P (same_int id other same) here
+    go false apart = there other apart
 
 -- where the rows of all tables but one stay, and this one is named afterwards
 keeps_spared : (id : ℤ) (old new : StoreValue) → SparesAllBut id old new → new.noted ≡ old.noted → has_table_id new id ≡ true → ((other : ℤ) → int_eq id other ≡ false → has_table_id new other ≡ has_table_id old other) → KeepsOthers old new
 keeps_spared id old new spares noted named others = record {
   noted = noted;
-  rows = λ other none. by (table_rows other new ≡ cond (has_table_id old other) no_rows (table_rows other old)) other none (λ apart. spares.rows other apart ∙ ap (λ b. cond b no_rows (table_rows other old)) (sym none ∙ others other apart));
-  index = λ other none. by (table_index other new ≡ cond (has_table_id old other) no_index (table_index other old)) other none (λ apart. spares.index other apart ∙ ap (λ b. cond b no_index (table_index other old)) (sym none ∙ others other apart));
+  rows = at_each_id (λ k. has_table_id new k ≡ false → table_rows k new ≡ cond (has_table_id old k) no_rows (table_rows k old)) id (λ none. absurd (let no = sym named ∙ none in cc))
+      (λ other apart none. spares.rows other apart ∙ ap (λ b. cond b no_rows (table_rows other old)) (sym none ∙ others other apart));
+  index = at_each_id (λ k. has_table_id new k ≡ false → table_index k new ≡ cond (has_table_id old k) no_index (table_index k old)) id (λ none. absurd (let no = sym named ∙ none in cc))
+      (λ other apart none. spares.index other apart ∙ ap (λ b. cond b no_index (table_index other old)) (sym none ∙ others other apart));
 }
-  where
-    by : (Goal : Type 0) (other : ℤ) → has_table_id new other ≡ false → (int_eq id other ≡ false → Goal) → Goal
-    by Goal other none apart = go (int_eq id other) refl
-      where
-        go : (b : Bool) → int_eq id other ≡ b → Goal
-        go true same = absurd (let no = sym named ∙ ap (has_table_id new) (same_int id other same) ∙ none in cc)
-        go false e = apart e
 
 -- changes of documents of a table
 pub keeps_changed : (id : ℤ) (old new : StoreValue) → LeavesRest id old new → has_table_id old id ≡ true → KeepsOthers old new
@@ -77,7 +58,7 @@ named_without id other tables apart =
 -- a table that is made
 keeps_added : (id : ℤ) (name : List ℕ) (columns : List (List ℕ)) (skipped : List ℤ) (store : StoreValue) → KeepsOthers store (applied (AddTable id name columns skipped) store)
 keeps_added id name columns skipped store =
-    keeps_spared id store (applied (AddTable id name columns skipped) store) (add_spares id name columns skipped store) refl
+    keeps_spared id store (applied (AddTable id name columns skipped) store) (one_spares id (AddTable id name columns skipped) store refl) refl
     (ap is_some (put_found id) ∙ ap (λ b. is_some (cond b (Some name) (find int_cmp id others))) (ap is_eq (tied_itself int_cmp_total id)))
     (λ other apart. ap is_some (put_found other ∙ ap (λ b. cond b (Some name) (find int_cmp other others)) ((eq_by_cmp_equiv int_cmp_total).symm other id ∙ apart) ∙ named_without id other store.tables apart))
   where
@@ -104,18 +85,17 @@ none_twice R p (row ∷ rows) = go (p row.0) refl (none_twice R p rows)
 pub keeps_dropped : (id : ℤ) (store : StoreValue) → has_table_id store id ≡ true → KeepsOthers store (applied (DropTable id) store)
 keeps_dropped id store named = record {
   noted = refl;
-  rows = λ other none. go_rows other (int_eq id other) refl none;
-  index = λ other none. go_index other (int_eq id other) refl none;
+  rows = at_each_id (λ k. has_table_id new k ≡ false → table_rows k new ≡ cond (has_table_id store k) no_rows (table_rows k store)) id (λ none. rows_gone ∙ ap (λ b. cond b no_rows (table_rows id store)) (sym named))
+      (λ other apart none. spares.rows other apart ∙ ap (λ b. cond b no_rows (table_rows other store)) (sym none ∙ names other apart));
+  index = at_each_id (λ k. has_table_id new k ≡ false → table_index k new ≡ cond (has_table_id store k) no_index (table_index k store)) id (λ none. index_gone ∙ ap (λ b. cond b no_index (table_index id store)) (sym named))
+      (λ other apart none. spares.index other apart ∙ ap (λ b. cond b no_index (table_index other store)) (sym none ∙ names other apart));
 }
   where
     new : StoreValue
     new = applied (DropTable id) store
 
     spares : SparesAllBut id store new
-    spares = drop_spares id store
-
-    there : (other : ℤ) → int_eq id other ≡ true → has_table_id store other ≡ true
-    there other same = ap (has_table_id store) (sym (same_int id other same)) ∙ named
+    spares = one_spares id (DropTable id) store refl
 
     names : (other : ℤ) → int_eq id other ≡ false → has_table_id new other ≡ has_table_id store other
     names other apart = ap is_some (named_without id other store.tables apart)
@@ -132,11 +112,3 @@ keeps_dropped id store named = record {
       lists = map (λ (l : ListKey × List StoredSpot). ((l.0.1, l.0.2), l.1)) (none_twice list_key_cmp (λ k. int_eq id k.0) store.lists i);
       sizes = map (λ (z : CellKey × ℤ). record { docid = z.0.1; column = z.0.2; n = z.1 }) (none_twice cell_key_cmp (λ k. int_eq id k.0) store.sizes i);
     }
-
-    go_rows : (other : ℤ) (b : Bool) → int_eq id other ≡ b → has_table_id new other ≡ false → table_rows other new ≡ cond (has_table_id store other) no_rows (table_rows other store)
-    go_rows other true same none = ap (λ k. table_rows k new) (sym (same_int id other same)) ∙ rows_gone ∙ ap (λ b. cond b no_rows (table_rows other store)) (sym (there other same))
-    go_rows other false apart none = spares.rows other apart ∙ ap (λ b. cond b no_rows (table_rows other store)) (sym none ∙ names other apart)
-
-    go_index : (other : ℤ) (b : Bool) → int_eq id other ≡ b → has_table_id new other ≡ false → table_index other new ≡ cond (has_table_id store other) no_index (table_index other store)
-    go_index other true same none = ap (λ k. table_index k new) (sym (same_int id other same)) ∙ index_gone ∙ ap (λ b. cond b no_index (table_index other store)) (sym (there other same))
-    go_index other false apart none = spares.index other apart ∙ ap (λ b. cond b no_index (table_index other store)) (sym none ∙ names other apart)

@@ -140,9 +140,8 @@ module _ (store : StoreValue) (tables : List TableInfo) (contents : Contents) (n
 -- ---- the tables that are told after it
 
 told_sound : (id : ℤ) (name : List ℕ) (held : TableState) → rebuild_fault name held ≡ None → record (table_info (id, record { name = name; held = held })) { sound = true } ≡ table_info (id, record { name = name; held = rebuilt held })
-told_sound id name (Sound content) fine = refl
-told_sound id name (Stale content) fine = refl
 told_sound id name (Loose rows) fine = absurd (let no = fine in cc)
+told_sound id name _ fine = refl
 
 told_rebuilt : (name : List ℕ) (t : ℤ × Table) (contents : Contents) → AllByRecursion (IsOne name t) contents → rebuild_fault t.1.name t.1.held ≡ None → with_sound t.0 (map table_info contents) ≡ map table_info (on_table contents name rebuilt)
 told_rebuilt name t [] one fine = refl

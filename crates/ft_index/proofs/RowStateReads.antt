@@ -69,23 +69,15 @@ asked_given tab (l ∷ ls) =
       | false ↦ λ _. asked_given tab ls
     ] refl
 
-term_given : (tab : ℤ) (term : List ℕ) (ls : List (ℤ × List StoredSpot)) → map (given tab) (under_term term ls) ≡ map (λ (l : ℤ × List StoredSpot). ((tab, term, l.0), l.1)) ls
-term_given tab term [] = refl
-term_given tab term (l ∷ ls) = ap (λ xs. ((tab, term, l.0), l.1) ∷ xs) (term_given tab term ls)
-
 terms_given : (tab : ℤ) (terms : List TermLists) → map (given tab) (lists_of_terms terms) ≡ lists_by_terms tab terms
 terms_given tab [] = refl
 terms_given tab (t ∷ ts) =
     let lists = lists_of_postings t.postings.items in
-    map-append (given tab) (under_term (string_bytes t.term) lists) (lists_of_terms ts) ∙ (λ i. term_given tab (string_bytes t.term) lists i ++ terms_given tab ts i)
-
-term_own : (tab : ℤ) (term : List ℕ) (ls : List (ℤ × List StoredSpot)) → map own_list (map (λ (l : ℤ × List StoredSpot). ((tab, term, l.0), l.1)) ls) ≡ under_term term ls
-term_own tab term [] = refl
-term_own tab term (l ∷ ls) = ap (λ xs. ((term, l.0), l.1) ∷ xs) (term_own tab term ls)
+    map-append (given tab) (under_term (string_bytes t.term) lists) (lists_of_terms ts) ∙ (λ i. map-map (given tab) (λ (l : ℤ × List StoredSpot). ((string_bytes t.term, l.0), l.1)) lists i ++ terms_given tab ts i)
 
 terms_own : (tab : ℤ) (terms : List TermLists) → map own_list (lists_by_terms tab terms) ≡ lists_of_terms terms
 terms_own tab [] = refl
-terms_own tab (t ∷ ts) = map-append own_list (lists_under tab t) (lists_by_terms tab ts) ∙ (λ i. term_own tab (string_bytes t.term) (lists_of_postings t.postings.items) i ++ terms_own tab ts i)
+terms_own tab (t ∷ ts) = map-append own_list (lists_under tab t) (lists_by_terms tab ts) ∙ (λ i. map-map own_list (λ (l : ℤ × List StoredSpot). ((tab, string_bytes t.term, l.0), l.1)) (lists_of_postings t.postings.items) i ++ terms_own tab ts i)
 
 -- A table's index rows are those of a content where its sizes and lists are.
 pub rows_same : (tab : ℤ) (store : StoreValue) (content : Content) (ss : List stored_size.SizeRow) (terms : List TermLists) → SizesRead tab store ss → (map size_under_key ss ≡ sized (index_rows content).sizes) × (lists_of_terms terms ≡ (index_rows content).lists) →

@@ -104,8 +104,8 @@ abbrev row_with : Content → List Item → (ℤ → List Cell) → PlainHit →
 row_with content items cells h = flat_map (cells_with (Text (offsets_text h.offsets)) content (h.docid, cells h.docid)) items
 
 plain_rows : (columns : List Column) (content : Content) (items : List Item) (cells : ℤ → List Cell) (hits : List Hit) → content.columns ≡ columns → map (hit_cells columns items cells) hits ≡ map (row_with content items cells) (map plain_hit hits)
-plain_rows columns content items cells [] same = refl
-plain_rows columns content items cells (h ∷ hs) same = λ i. cells_bare (Text (offsets_text h.offsets.items)) columns content (h.docid, cells h.docid) items same i ∷ plain_rows columns content items cells hs same i
+plain_rows columns content items cells hits same =
+    (λ i. map (λ (h : Hit). cells_bare (Text (offsets_text h.offsets.items)) columns content (h.docid, cells h.docid) items same i) hits) ∙ sym (map-map (row_with content items cells) plain_hit hits)
 
 -- The rows of the documents that hits are of, which are told with their offsets where an item asks
 -- for them.
@@ -122,19 +122,10 @@ module _ (name : List ℕ) (content : Content) (f : Filter) (columns : List Colu
   abbrev row_of : ℤ × List Cell → ℤ × List Cell → List Cell
   row_of d e = flat_map (cells_with (offsets_cell query content d) content e) items
 
-  by_documents : (ds : Documents) → map (row_with content items (cells_at content)) (map (hit_read content query) ds) ≡ map (λ d. row_of d (document_at content d.0)) ds
-  by_documents [] = refl
-  by_documents (d ∷ ds) = ap (λ l. row_of d (document_at content d.0) ∷ l) (by_documents ds)
-
-  rows_are : (ds : Documents) → map (λ d. row_of d d) ds ≡ item_rows query content items ds
-  rows_are [] = refl
-  rows_are (d ∷ ds) = λ i. sym (item_cells_are query content d items) i ∷ rows_are ds i
-
   as_told : (cells : ℤ → List Cell) (hits : List PlainHit) → map (row_with content items cells) (map (as_wanted wanted) hits) ≡ map (row_with content items cells) hits
-  as_told cells [] = refl
-  as_told cells (h ∷ hs) =
-      let one = offsets_if_asked (offsets_text (cond wanted h.offsets [])) (offsets_text h.offsets) content (h.docid, cells h.docid) items (λ asked. ap (λ b. offsets_text (cond b h.offsets [])) (asks ∙ asked)) in
-      λ i. one i ∷ as_told cells hs i
+  as_told cells hits =
+      map-map (row_with content items cells) (as_wanted wanted) hits
+      ∙ (λ i. map (λ (h : PlainHit). offsets_if_asked (offsets_text (cond wanted h.offsets [])) (offsets_text h.offsets) content (h.docid, cells h.docid) items (λ asked. ap (λ b. offsets_text (cond b h.offsets [])) (asks ∙ asked)) i) hits)
 
   -- the hits that are answered, before they are told
   answered_hits : cut limit offset (map (as_wanted wanted) (chosen_hits content f)) ≡ map (as_wanted wanted) (map (hit_read content query) answered_here)
@@ -145,7 +136,8 @@ module _ (name : List ℕ) (content : Content) (f : Filter) (columns : List Colu
       plain_rows columns content items (cells_at content) hits same
       ∙ ap (map (row_with content items (cells_at content))) (are ∙ answered_hits)
       ∙ as_told (cells_at content) (map (hit_read content query) answered_here)
-      ∙ by_documents answered_here ∙ same_each (λ (d : ℤ × List Cell). document_at content d.0) row_of answered_here again ∙ rows_are answered_here
+      ∙ map-map (row_with content items (cells_at content)) (hit_read content query) answered_here ∙ same_each (λ (d : ℤ × List Cell). document_at content d.0) row_of answered_here again
+      ∙ (λ i. map (λ (d : ℤ × List Cell). sym (item_cells_are query content d items) i) answered_here)
       ∙ sym (cut_of_map (λ (d : ℤ × List Cell). flat_map (item_cells query content d) items) limit offset (chosen content f))
 
   pub as_many : (hits : List Hit) → map plain_hit hits ≡ cut limit offset (map (as_wanted wanted) (chosen_hits content f)) → length hits ≡ length answered_here
@@ -221,8 +213,7 @@ item_cells_bare columns content document items same =
     item_cells_are None (record { columns = columns; documents = [] }) document items ∙ cells_bare (Text (offsets_text [])) columns content document items same ∙ sym (item_cells_are None content document items)
 
 rows_bare : (columns : List Column) (content : Content) (items : List Item) (ds : Documents) → content.columns ≡ columns → item_rows None (record { columns = columns; documents = [] }) items ds ≡ item_rows None content items ds
-rows_bare columns content items [] same = refl
-rows_bare columns content items (d ∷ ds) same = λ i. item_cells_bare columns content d items same i ∷ rows_bare columns content items ds same i
+rows_bare columns content items ds same = λ i. map (λ (d : ℤ × List Cell). item_cells_bare columns content d items same i) ds
 
 pub document_rows_are : (content : Content) (f : Filter) (columns : List Column) (items : List Item) (limit : Option ℕ) (offset : ℕ) → is_match f ≡ false → content.columns ≡ columns → (documents answered : List Document) → map shown_document documents ≡ chosen content f → answered ≡ cut limit offset documents →
     item_rows None (record { columns = columns; documents = [] }) items (map shown_document answered) ≡ cut limit offset (item_rows (query_in content f) content items (chosen content f))
@@ -244,11 +235,11 @@ listed_rows_are content columns items limit offset same ds is =
 pub bare_hit_rows : (columns : List Column) (content : Content) (items : List Item) (hits : List Hit) (docids : List ℤ) → map plain_hit hits ≡ map (λ (k : ℤ). record { docid = k; offsets = [] }) docids →
     map (hit_cells columns items (cells_at content)) hits ≡ item_rows None (record { columns = columns; documents = [] }) items (map (document_at content) docids)
 bare_hit_rows columns content items hits docids are =
-    plain_rows columns (record { columns = columns; documents = [] }) items (cells_at content) hits refl ∙ ap (map (row_with (record { columns = columns; documents = [] }) items (cells_at content))) are ∙ each docids
-  where
-    each : (ks : List ℤ) → map (row_with (record { columns = columns; documents = [] }) items (cells_at content)) (map (λ (k : ℤ). record { docid = k; offsets = [] }) ks) ≡ item_rows None (record { columns = columns; documents = [] }) items (map (document_at content) ks)
-    each [] = refl
-    each (k ∷ ks) = λ i. sym (item_cells_are None (record { columns = columns; documents = [] }) (document_at content k) items) i ∷ each ks i
+    let none : Content = record { columns = columns; documents = [] } in
+    let row = row_with none items (cells_at content) in
+    let bare : ℤ → PlainHit = λ k. record { docid = k; offsets = [] } in
+    plain_rows columns none items (cells_at content) hits refl ∙ ap (map row) are ∙ map-map row bare docids
+    ∙ (λ i. map (λ (k : ℤ). sym (item_cells_are None none (document_at content k) items) i) docids) ∙ sym (map-map (λ (d : ℤ × List Cell). flat_map (item_cells None none d) items) (document_at content) docids)
 
 -- the documents of docids that are answered
 pub documents_again : (name : List ℕ) (content : Content) (limit : Option ℕ) (offset : ℕ) → IsContent name content → (docids : List ℤ) → docids ≡ cut limit offset (map (λ (d : ℤ × List Cell). d.0) content.documents) →

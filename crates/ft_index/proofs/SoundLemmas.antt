@@ -6,7 +6,7 @@ use Rattle.std.specs.declared.cmp.Ordering.TheVariants.{Less, Equal, Greater}
 use Rattle.std.specs.Ordering.{int_cmp, int_eq}
 use Rattle.std.specs.FinMap.Entries.{by_order, put}
 use Rattle.ft_content.specs.Content.{Content, Documents, same_name}
-use Rattle.ft_content.specs.Command.{Command, Create, Drop, Insert, Update, Delete, Select, Rebuild, Check, Optimize}
+use Rattle.ft_content.specs.Command.{Command, Create, Drop, Insert, Update, Delete, Rebuild}
 use Rattle.ft_content.specs.Deserved.{TableState, Sound, Stale, Loose, Table, Contents, table_named, made_columns}
 use Rattle.ft_content.specs.Step.{free_id_from, new_table, inserted, updated, deleted, with_documents, rebuilt, on_table, after}
 use Rattle.ft_index.specs.Kept.{is_sound}
@@ -84,10 +84,8 @@ after_one contents (Drop table if_there) id h = any_kept id (λ (t : ℤ × Tabl
 after_one contents (Insert table columns rows) id h = any_changed id table _ (documents_keep (λ content. inserted content columns rows)) contents h
 after_one contents (Update table sets f) id h = any_changed id table _ (documents_keep (λ content. updated content sets f)) contents h
 after_one contents (Delete table f) id h = any_changed id table _ (documents_keep (λ content. deleted content f)) contents h
-after_one contents (Select table items f limit offset) id h = h
 after_one contents (Rebuild table) id h = any_changed id table rebuilt rebuilt_keeps contents h
-after_one contents (Check table) id h = h
-after_one contents (Optimize table) id h = h
+after_one contents _ id h = h
 
 pub none_gets_unsound : NoneGetsUnsound
 unfolding left_by

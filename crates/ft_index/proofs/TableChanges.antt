@@ -1,5 +1,5 @@
 -- What the making and the removal of a table leave.
-use Rattle.std.proofs.Common.{◌≡◌, ℕ, ◌+◌, Bool, true, false, cond, not, List, [], ◌∷◌, ℤ, pos, refl, sym, ap, subst, ◌∙◌, ◌<◌, ◌≤◌, arith, nat_lt, ltb-true, ltb-false}
+use Rattle.std.proofs.Common.{◌≡◌, ℕ, ◌+◌, Bool, true, false, cond, not, List, [], ◌∷◌, ℤ, pos, refl, sym, ap, subst, ◌∙◌, ◌<◌, ◌≤◌, arith, nat_lt, ltb-true, ltb-false, Some}
 use Rattle.std.specs.Prelude.{unwrap_or}
 use Rattle.std.specs.List.{AllByRecursion}
 use Rattle.std.specs.declared.cmp.Ordering.{Ordering}
@@ -10,7 +10,7 @@ use Rattle.std.specs.FinMap.Entries.{put, by_order, where_key, below_all, is_sor
 use Rattle.std.proofs.lemmas.Int.{ints}
 use Rattle.std.proofs.lemmas.Bool.{and_parts, and_from}
 use Rattle.std.proofs.lemmas.Map.Lookups.{exact_signed}
-use Rattle.ft_rows.specs.Store.{StoreValue, AreInOrder, AddTable, DropTable, applied}
+use Rattle.ft_rows.specs.Store.{StoreValue, AreInOrder, AddTable, applied, Change}
 use Rattle.ft_content.specs.Content.{Column, IsContent, same_name, names_of, skipped_from}
 use Rattle.ft_content.specs.Deserved.{Sound, Table, Contents}
 use Rattle.ft_content.specs.Step.{dropped, free_id_from}
@@ -19,15 +19,17 @@ use Rattle.ft_index.specs.Kept.{HoldsTable, StoreHolds}
 use Rattle.ft_documents.proofs.AddLemmas.{added_rows, added_index, bare}
 use Rattle.ft_index.proofs.OneTable.{IsOne, AreHeldIn, SparesAllBut, spared}
 use Rattle.ft_documents.proofs.ChangeLemmas.{spares_others}
+use Rattle.ft_documents.specs.RowLaws.{changed_table}
 use Rattle.ft_documents.proofs.KeyedRows.{less}
 
 -- ---- a table goes
 
-pub drop_spares : (id : ℤ) (old : StoreValue) → SparesAllBut id old (applied (DropTable id) old)
-drop_spares id old = record { rows = λ other apart. (others other apart).0; index = λ other apart. (others other apart).1 }
+-- a change of one table spares the others
+pub one_spares : (id : ℤ) (change : Change) (store : StoreValue) → changed_table change ≡ Some id → SparesAllBut id store (applied change store)
+one_spares id change store is = record { rows = λ other apart. (others other apart).0; index = λ other apart. (others other apart).1 }
   where
-    others : (other : ℤ) → int_eq id other ≡ false → (table_rows other (applied (DropTable id) old) ≡ table_rows other old) × (table_index other (applied (DropTable id) old) ≡ table_index other old)
-    others other apart = spares_others (DropTable id) other old (λ tab is. ap (λ o. int_eq other (unwrap_or o tab)) (sym is) ∙ (eq_by_cmp_equiv int_cmp_total).symm other id ∙ apart)
+    others : (other : ℤ) → int_eq id other ≡ false → (table_rows other (applied change store) ≡ table_rows other store) × (table_index other (applied change store) ≡ table_index other store)
+    others other apart = spares_others change other store (λ tab here. ap (λ o. int_eq other (unwrap_or o tab)) (sym here ∙ is) ∙ (eq_by_cmp_equiv int_cmp_total).symm other id ∙ apart)
 
 pub drops_one : (name : List ℕ) (t : ℤ × Table) (old new : StoreValue) (tables : List (ℤ × List ℕ)) (contents : Contents) → SparesAllBut t.0 old new → AllByRecursion (IsOne name t) contents → AreHeldIn old tables contents →
     AreHeldIn new (where_key int_cmp (λ k. not (int_eq t.0 k)) tables) (dropped contents name)
@@ -141,12 +143,6 @@ joins id name table new (n ∷ ns) (c ∷ cs) own free h =
     go Equal is rest = absurd (let no = sym free.0 ∙ ap is_eq is in cc)
     go Greater is rest = (h.0, rest)
 
-pub add_spares : (id : ℤ) (name : List ℕ) (columns : List (List ℕ)) (skipped : List ℤ) (old : StoreValue) → SparesAllBut id old (applied (AddTable id name columns skipped) old)
-add_spares id name columns skipped old = record { rows = λ other apart. (others other apart).0; index = λ other apart. (others other apart).1 }
-  where
-    others : (other : ℤ) → int_eq id other ≡ false → (table_rows other (applied (AddTable id name columns skipped) old) ≡ table_rows other old) × (table_index other (applied (AddTable id name columns skipped) old) ≡ table_index other old)
-    others other apart = spares_others (AddTable id name columns skipped) other old (λ tab is. ap (λ o. int_eq other (unwrap_or o tab)) (sym is) ∙ (eq_by_cmp_equiv int_cmp_total).symm other id ∙ apart)
-
 -- So the store holds a table that is made.
 pub adds_one : (id : ℤ) (name : List ℕ) (columns : List Column) (old : StoreValue) (contents : Contents) → AreInOrder old → IsContent name (bare columns) → AllByRecursion (λ (c : ℤ × Table). int_eq id c.0 ≡ false) contents → AreHeldIn old old.tables contents →
     StoreHolds (applied (AddTable id name (names_of columns) (skipped_from 0 columns)) old) (put int_cmp id (record { name = name; held = Sound (bare columns) }) contents)
@@ -156,4 +152,4 @@ adds_one id name columns old contents order is free h =
     subst (λ tables. AreHeldIn new (put int_cmp id name tables) (put int_cmp id (record { name = name; held = Sound (bare columns) }) contents)) (sym (none_without id old.tables apart))
     (joins id name (record { name = name; held = Sound (bare columns) }) new old.tables contents
     (record { id = refl; name = refl; stands = (is, added_rows id name columns old order, added_index id name columns old) })
-    apart (all_spared id old new old.tables contents (add_spares id name (names_of columns) (skipped_from 0 columns) old) apart h))
+    apart (all_spared id old new old.tables contents (one_spares id (AddTable id name (names_of columns) (skipped_from 0 columns)) old refl) apart h))

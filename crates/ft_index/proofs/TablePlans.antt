@@ -12,10 +12,10 @@ use Rattle.ft_content.specs.Deserved.{Table, Contents, table_named, first_of, de
 use Rattle.ft_content.specs.Step.{dropped, after, reply_to}
 use Rattle.ft_documents.specs.Found.{info_named, without_info}
 use Rattle.ft_index.specs.Kept.{AreHeld, KeepsOthers, StoreHolds, PlansFrom, table_info}
-use Rattle.ft_index.proofs.OneTable.{IsOne, one_named, ids_sorted}
-use Rattle.ft_index.proofs.TableChanges.{drop_spares, drops_one}
+use Rattle.ft_index.proofs.OneTable.{IsOne, one_named, ids_sorted, held_named}
+use Rattle.ft_index.proofs.TableChanges.{one_spares, drops_one}
 use Rattle.ft_index.proofs.KnownLemmas.{none_named, some_named}
-use Rattle.ft_index.proofs.OtherRows.{keeps_dropped, keeps_same, names_held}
+use Rattle.ft_index.proofs.OtherRows.{keeps_dropped, keeps_same}
 
 -- ---- Drop
 
@@ -58,8 +58,8 @@ drop_planned store tables contents name if_there known order held named =
     let one = one_named name t contents (ids_sorted store store.tables contents held.held order.tables) held.named_once it.1 in
     let id : t.0 ≡ known.id = ap (λ (k : TableInfo). k.id) it.2 in (
       found_due (table_named contents name) t if_there it.1,
-      subst (λ k. StoreHolds (applied (DropTable k) store) (dropped contents name)) id (drops_one name t store (applied (DropTable t.0) store) store.tables contents (drop_spares t.0 store) one held.held),
-      subst (λ k. KeepsOthers store (applied (DropTable k) store)) id (keeps_dropped t.0 store (names_held name t store store.tables contents held.held it.1)),
+      subst (λ k. StoreHolds (applied (DropTable k) store) (dropped contents name)) id (drops_one name t store (applied (DropTable t.0) store) store.tables contents (one_spares t.0 (DropTable t.0) store refl) one held.held),
+      subst (λ k. KeepsOthers store (applied (DropTable k) store)) id (keeps_dropped t.0 store ((held_named store name t store.tables contents held.held it.1).1)),
       tt,
     )
 

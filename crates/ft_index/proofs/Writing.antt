@@ -1,5 +1,6 @@
 -- From rewrites of one table's documents to a plan of the command that writes them.
 use Rattle.std.proofs.Common.{◌≡◌, ◌⊎◌, inl, inr, ℕ, zero, suc, ◌<◌, List, [], ◌∷◌, length, Option, Some, None, Ok, Err, ℤ, refl, sym, ap, subst, ◌∙◌, arith, map, Result, string_bytes}
+use Rattle.ft_index.proofs.OneTable.{held_named}
 use Rattle.std.specs.Prelude.{IsTrue, All, Contains, slice_index_or, Vec}
 use Rattle.std.specs.List.{AllByRecursion}
 use Rattle.std.proofs.lemmas.List.Elements.{recursion_from_All, All-from_recursion}
@@ -18,7 +19,7 @@ use Rattle.ft_documents.specs.Tables.{IsOfDocids}
 use Rattle.ft_index.specs.Written.{LeadsTo, HasAll, WritesDocuments, WritesIn, PlansTo}
 use Rattle.ft_index.proofs.KnownLemmas.{IsSoundTable, sound_table, sound_is, unfit_is, sound_rows}
 use Rattle.ft_index.proofs.Lifting.{leaves_rest, lifts}
-use Rattle.ft_index.proofs.OtherRows.{keeps_changed, names_held}
+use Rattle.ft_index.proofs.OtherRows.{keeps_changed}
 use Rattle.std.specs.declared.alloc.Global.{Global}
 use Rattle.sqlite.specs.Store.{Ghosts}
 use Rattle.ft_store.specs.Kept.{StoreState, value_in}
@@ -86,7 +87,7 @@ module _ (command : Command) (name : List ℕ) (due : List ℕ → Content → O
         is.deserves contents ∙ sound_is contents name known t due ∙ fine,
         subst (StoreHolds (all_applied changes store)) (sym (is.leaves contents))
             (lifts store (all_applied changes store) tables contents name known t change order held leaves (is.keeps t.table.1.name t.content has.is_content fine) (done.0 ∙ ap content_rows same) (done.1 ∙ ap index_rows same)),
-        keeps_changed t.table.0 store (all_applied changes store) leaves (names_held name t.table store store.tables contents held.held t.found),
+        keeps_changed t.table.0 store (all_applied changes store) leaves ((held_named store name t.table store.tables contents held.held t.found).1),
         is.near contents changes (subst (λ docids. AreOfFound (table_named contents name) docids changes) (sym touches)
             (subst (λ found. AreOfFound found (touch t.content) changes) (sym t.found) (All-from_recursion (IsOfDocids t.table.0 (touch t.content)) changes many))),
       )

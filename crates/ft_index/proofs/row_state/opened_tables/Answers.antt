@@ -1,6 +1,6 @@
 -- one table more
-use Rattle.std.proofs.Common.{◌≡◌, ◌++◌, ◌∷◌, [], List, map, refl, sym, ap, subst, ◌∙◌, rules, arith, to_z, of_z, w64, to_z-of_z, FitsSigned}
-use Rattle.std.proofs.lemmas.List.{map-append}
+use Rattle.std.proofs.Common.{◌≡◌, ◌++◌, ◌∷◌, [], map, refl, sym, ap, subst, ◌∙◌, rules, arith, to_z, of_z, w64, to_z-of_z, FitsSigned}
+use Rattle.std.proofs.lemmas.List.{map-append, map-id}
 use Rattle.std.proofs.lemmas.Iterator.Adapters.{YieldsList-from_vec}
 use Rattle.std.proofs.lemmas.Iterator.Consumers.{YieldsList-end}
 use Rattle.sqlite.specs.State.{HasCleanDisk}
@@ -13,10 +13,6 @@ use Rattle.ft_index.proofs.ReadsLemmas.{looks_then}
 use Rattle.ft_index.proofs.RowStateReads.{looked, marked, blamed_after}
 use Rattle.ft_index.proofs.OpenedTables.{IsMarkedRow, AreMarkedRows, one_marked_more, are_marked}
 use Rattle.ft_index.proofs.row_state.opened_tables.Goals as goal
-
-as_they_are : {X : Type 0} (xs : List X) → map (λ (x : X). x) xs ≡ xs
-as_they_are [] = refl
-as_they_are (x ∷ xs) = ap (λ ys. x ∷ ys) (as_they_are xs)
 
 pub loop-row-preserved : goal.loop-row-preserved
 loop-row-preserved g c =
@@ -46,7 +42,7 @@ returns-clause-told g c = λ clean.
     let so_far = c.loop-row.invariant in
     let v = value_in g.S.Store c.args.store.now in
     let ended = YieldsList-end (YieldsList-from_vec {s = c.into_iter-row-iterator.result} c.in_ok-rows.rows.items (search rules) (search rules)) c.loop-row.yielded c.loop-row.row-iterator c.loop-row.yielded_by _ c.next.new.self c.in-None.is c.next.ensures.steps in
-    let all : c.loop-row.yielded ≡ c.in_ok-rows.rows.items = sym (as_they_are c.loop-row.yielded) ∙ ended.0 in
+    let all : c.loop-row.yielded ≡ c.in_ok-rows.rows.items = sym (map-id c.loop-row.yielded) ∙ ended.0 in
     are_marked v c.loop-row.yielded v.tables (map shown_info c.loop-row.tables.items) (so_far.3 clean) (ap (map shown_table) all ∙ c.in_ok-rows.ensures.rows (so_far.2 clean))
 
 pub returns-in_err-read_state-clause-refused : goal.returns-in_err-read_state-clause-refused

@@ -1,5 +1,6 @@
 -- by the table, the tests, and what the rows make where docids are read
 use Rattle.std.proofs.Common.{rules, ℕ, false, zip, ◌≡◌, inl, inr, List, [], Bor, String, Option, None, Some, map, option_map, string_bytes, Err, Ok, Result, Vec, Global, refl, sym, ap, subst, ◌∙◌, arith, to_z-of_z, to_z, of_z, w64, FitsSigned}
+use Rattle.ft_documents.specs.declared.rewrite.Rewrite.{Rewrite}
 use Rattle.std.specs.Prelude.{unwrap_or}
 use Rattle.sqlite.specs.State.{HasCleanDisk}
 use Rattle.sqlite.specs.Store.{Ghosts}
@@ -126,22 +127,25 @@ known_in g c content has =
       subst (AreKnown content.documents (map (zip names) (map cells_of c.as_slice-rows.result.now))) (sym (c.as_slice.ensures.value ∙ stored)) (known_from content.documents names cells_of c.as_slice-rows.result.now),
     )
 
-pub returns-in_err-new-clause-told : goal.returns-in_err-new-clause-told
-returns-in_err-new-clause-told g c = fails g.S.Store c.args.insertion.now c.as_deref-listed.result _ c.as_slice-rows.result.now c.in_ok-table.table.now (map shown_info c.args.tables.now) c.args.store.now c.stored_docids.new.store c.is_in_order.ensures.order c.as_deref-listed.ensures.value c.as_slice-rows.ensures.value refl (sym (c.repeats_name.ensures ∙ ap (λ (r : Bor (List (String Global))). repeats_name (map string_bytes r.now)) c.unwrap_or.ensures) ∙ c.if-repeats_name.false) _ c.as_str.ensures.value c.in_ok-table.ensures c.in_err-new.field-0.0 c.from_residual-in_err-new.result (search rules) (λ content has.
+-- what the rows make is what the command writes
+written_in : (g : _) (c : After-made_documents g) (content : Content) → HasAll g.S.Store c.in_ok-table.table.now.id (string_bytes c.in_ok-table.table.now.name) (map column_of c.in_ok-table.table.now.columns.items) c.args.store.now c.stored_docids.new.store content → (result : Result (Vec Rewrite Global) Fault) →
+    Inserts content.documents (inserted_rows (map column_of c.as_slice-columns.result.now) (map (zip (map (λ n. n.now) c.as_slice-names.result.now)) (map cells_of c.as_slice-rows.result.now)) content.documents) result →
+    WritesDocuments content (due (option_map (λ n. map string_bytes n.now) c.as_deref-listed.result) (map cells_of c.as_slice-rows.result.now) content) (made (option_map (λ n. map string_bytes n.now) c.as_deref-listed.result) (map cells_of c.as_slice-rows.result.now) content) (news (option_map (λ n. map string_bytes n.now) c.as_deref-listed.result) (map cells_of c.as_slice-rows.result.now) content) result
+written_in g c content has result made_of =
     let columns = option_map (λ n. map string_bytes n.now) c.as_deref-listed.result in
     let rows = map cells_of c.as_slice-rows.result.now in
-    let info : RustTableInfo = c.in_ok-table.table.now in
-    let fault : Fault = c.in_err-new.field-0.0 in
     let names = map (λ n. n.now) c.as_slice-names.result.now in
     let cols = c.as_slice-columns.result.now in
     let columns_are : content.columns ≡ map column_of cols = has.columns_are ∙ ap (map column_of) (sym c.as_slice-columns.ensures.value) in
     let those : names ≡ listed_columns (bare_content cols) columns = search rules in
-    let values = map (zip names) rows in
     let tested = tests_are columns rows content cols names None columns_are those (search rules) in
-    let known = known_in g (goal.at.returns-in_err-new-clause-told g c).After-made_documents content has in
-    let made_of : Inserts content.documents (inserted_rows (map column_of cols) values content.documents) (Err fault) =
-    elim (c.in_err-new.ensures content.documents has.has.is_content.rising known.0 known.1) [ inl memory ↦ inl (inr memory) | inr failed ↦ inr failed ] in
-    writes columns rows (string_bytes info.name) content (Err fault) has.has.is_content tested (rows_are columns rows content cols names (Err fault) columns_are those made_of))
+    writes columns rows (string_bytes c.in_ok-table.table.now.name) content result has.has.is_content tested (rows_are columns rows content cols names result columns_are those made_of)
+
+pub returns-in_err-new-clause-told : goal.returns-in_err-new-clause-told
+returns-in_err-new-clause-told g c = fails g.S.Store c.args.insertion.now c.as_deref-listed.result _ c.as_slice-rows.result.now c.in_ok-table.table.now (map shown_info c.args.tables.now) c.args.store.now c.stored_docids.new.store c.is_in_order.ensures.order c.as_deref-listed.ensures.value c.as_slice-rows.ensures.value refl (sym (c.repeats_name.ensures ∙ ap (λ (r : Bor (List (String Global))). repeats_name (map string_bytes r.now)) c.unwrap_or.ensures) ∙ c.if-repeats_name.false) _ c.as_str.ensures.value c.in_ok-table.ensures c.in_err-new.field-0.0 c.from_residual-in_err-new.result (search rules) (λ content has.
+    let at = (goal.at.returns-in_err-new-clause-told g c).After-made_documents in
+    let known = known_in g at content has in
+    written_in g at content has (Err c.in_err-new.field-0.0) (elim (c.in_err-new.ensures content.documents has.has.is_content.rising known.0 known.1) [ inl memory ↦ inl (inr memory) | inr failed ↦ inr failed ]))
 
 pub returns-in_err-rewrites-clause-told : goal.returns-in_err-rewrites-clause-told
 returns-in_err-rewrites-clause-told g c = fails g.S.Store c.args.insertion.now c.as_deref-listed.result _ c.as_slice-rows.result.now c.in_ok-table.table.now (map shown_info c.args.tables.now) c.args.store.now c.stored_docids.new.store c.is_in_order.ensures.order c.as_deref-listed.ensures.value c.as_slice-rows.ensures.value refl (sym (c.repeats_name.ensures ∙ ap (λ (r : Bor (List (String Global))). repeats_name (map string_bytes r.now)) c.unwrap_or.ensures) ∙ c.if-repeats_name.false) _ c.as_str.ensures.value c.in_ok-table.ensures faults.Memory c.from_residual-in_err-rewrites.result (search rules) (λ content has.
@@ -165,16 +169,11 @@ returns-clause-told g c =
     let written : Written = record { table = c.in_ok-table.table; rewrites = rewrites } in
     subst (λ (x : Command). WritesIn g.S.Store tables c.args.store.now c.stored_docids.new.store x (Ok written)) (λ i. plain.Insert name (listed_are c.as_deref-listed.result w.columns c.as_deref-listed.ensures.value i) (map cells_of (c.as_slice-rows.ensures.value i)))
     (writes_do g.S.Store command name (λ table content. due columns rows content) (made columns rows) (news columns rows) (is_write columns rows name apart) c.args.store.now c.stored_docids.new.store tables written c.is_in_order.ensures.order named (λ content has.
-    let names = map (λ n. n.now) c.as_slice-names.result.now in
-    let cols = c.as_slice-columns.result.now in
-    let columns_are : content.columns ≡ map column_of cols = has.columns_are ∙ ap (map column_of) (sym c.as_slice-columns.ensures.value) in
-    let those : names ≡ listed_columns (bare_content cols) columns = search rules in
-    let values = map (zip names) rows in
-    let tested = tests_are columns rows content cols names None columns_are those (search rules) in
-    let known = known_in g (goal.at.returns-clause-told g c).After-made_documents content has in
+    let at = (goal.at.returns-clause-told g c).After-made_documents in
+    let known = known_in g at content has in
     let new = c.in_ok-new.ensures content.documents has.has.is_content.rising known.0 known.1 in
-    let made_of = new_are_inserts content.documents c.in_ok-new.new (map shown_rewrite rewrites.items) (inserted_rows (map column_of cols) values content.documents) c.in_ok-rewrites.ensures new.0 new.1 in
-    writes columns rows (string_bytes info.name) content (Ok rewrites) has.has.is_content tested (rows_are columns rows content cols names (Ok rewrites) columns_are those made_of)))
+    let values = map (zip (map (λ n. n.now) c.as_slice-names.result.now)) rows in
+    written_in g at content has (Ok rewrites) (new_are_inserts content.documents c.in_ok-new.new (map shown_rewrite rewrites.items) (inserted_rows (map column_of c.as_slice-columns.result.now) values content.documents) c.in_ok-rewrites.ensures new.0 new.1)))
 
 pub returns-clause-looks : goal.returns-clause-looks
 returns-clause-looks g c = record { only = search rules; live = search rules }
