@@ -55,7 +55,6 @@ module _ (f : Filter) where
     touches = λ contents. refl;
     near = λ contents changes h. h;
     keeps = λ table content is fine. delete_keeps_content table content f is;
-    replies = replies name;
   }
 
   -- removals of the chosen documents

@@ -1,14 +1,17 @@
 -- Documents that are written group by group.
-use Rattle.std.proofs.Common.{◌≡◌, inr, Ok, Err, Result, List, [], ◌∷◌, ◌++◌, map, Option, Some, None, ℤ, pos, refl, sym, ap, subst, ◌∙◌, append-nil}
+use Rattle.std.proofs.Common.{◌≡◌, inr, Ok, Err, Result, List, [], ◌∷◌, ◌++◌, map, Option, Some, None, ℤ, pos, refl, sym, ap, subst, ◌∙◌, append-nil, cond, IsTrue}
+use Rattle.ft_index.specs.Kept.{IsOutside}
+use Rattle.ft_index.specs.Changed.{MakesRows}
+use Rattle.sqlite.specs.State.{HasCleanDisk}
 use Rattle.sqlite_keyed.proofs.ListLemmas.{flat_map-map, map-flat_map}
-use Rattle.std.specs.Prelude.{All, Vec}
+use Rattle.std.specs.Prelude.{All, Vec, is_ok, OnOk, IfErr}
 use Rattle.std.specs.declared.alloc.Global.{Global}
 use Rattle.std.specs.List.{flat_map}
 use Rattle.std.specs.Vec.{vec_items}
 use Rattle.std.proofs.lemmas.List.Elements.{All-nil}
 use Rattle.sqlite.specs.Store.{Ghosts}
-use Rattle.ft_rows.specs.Store.{Change}
-use Rattle.ft_store.specs.Kept.{StoreState, shows}
+use Rattle.ft_rows.specs.Store.{Change, all_applied}
+use Rattle.ft_store.specs.Kept.{StoreState, shows, value_in}
 use Rattle.ft_store.specs.Parts.{changes_in}
 use Rattle.ft_values.specs.declared.rows.RowChange.{RowChange}
 use Rattle.ft_values.specs.declared.fault.Fault.{Fault}
@@ -49,6 +52,11 @@ pub parts_behind : (first : Option RowChange) (parts : List (List Change)) → c
 parts_behind None parts = refl
 parts_behind (Some change) parts = refl
 
+-- where nothing is made
+unmade : {S X : Type 0} (g : Ghosts S) (store : StoreState S) (changes : List Change) (result : Result X Fault) → value_in g store ≡ cond (is_ok result) (all_applied changes (value_in g store)) (value_in g store) →
+    (HasCleanDisk (shows g store) → OnOk result (IsTrue (shows g store).is_open → IsTrue (shows g store).is_open)) → IfErr result IsOutside → MakesRows g store store changes result
+unmade g store changes result same live cause = record { changed = record { was_up = λ tables others up. record { clean = up.clean; is_open = up.is_open }; value = λ tables up. same }; crash = nothing_done (shows g store); live = live; cause = cause; unread = refl }
+
 module _ (written : Written) where
   abbrev tab : ℤ
   tab = written.table.now.id
@@ -79,13 +87,7 @@ module _ (written : Written) where
     of_written = of_groups (written.rewrites ∷ []) (append-nil written.rewrites.items);
     own = own_groups (written.rewrites ∷ []) (append-nil written.rewrites.items);
     refused = λ clean told. absurd (let no = told in cc);
-    makes = record {
-      changed = record { was_up = λ tables others up. record { clean = up.clean; is_open = up.is_open }; value = λ tables up. refl };
-      crash = nothing_done (shows g store);
-      live = λ clean. tt;
-      cause = inr refl;
-      unread = refl;
-    };
+    makes = unmade g store _ (Err faults.Memory) refl (λ clean. tt) (inr refl);
   }
 
   -- a table that is made first is made anew
@@ -99,13 +101,7 @@ made_already g store = record {
   of_anew = refl;
   own = λ _. alone (pos 0) [] (no_rewrites (pos 0) []);
   refused = λ clean told. absurd (let no = told in cc);
-  makes = record {
-    changed = record { was_up = λ tables others up. record { clean = up.clean; is_open = up.is_open }; value = λ tables up. refl };
-    crash = nothing_done (shows g store);
-    live = λ clean is_open. is_open;
-    cause = tt;
-    unread = refl;
-  };
+  makes = unmade g store [] (Ok tt) refl (λ clean is_open. is_open) tt;
 }
 
 -- no documents are of any content

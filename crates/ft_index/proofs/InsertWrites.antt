@@ -86,7 +86,6 @@ module _ (columns : Option (List (List ℕ))) (rows : List (List Cell)) where
     touches = λ contents. refl;
     near = λ contents changes h. h;
     keeps = λ table content is fine. insert_keeps_content table content columns rows is fine;
-    replies = replies name;
   }
 
   abbrev Made : Content → Result Documents Fault

@@ -1,5 +1,5 @@
 -- Calls that ask first whether the store is open.
-use Rattle.std.proofs.Common.{◌≡◌, ◌⊎◌, ℕ, Bool, true, false, List, [], ◌∷◌, map, Option, Some, None, Result, Ok, Err, ℤ, refl, sym, ap, subst, ◌∙◌, inl, inr, arith, All as AllOf}
+use Rattle.std.proofs.Common.{◌≡◌, ℕ, Bool, true, false, List, [], ◌∷◌, map, Option, Some, None, Result, Ok, Err, ℤ, refl, sym, ap, subst, ◌∙◌, inl, inr, arith, All as AllOf}
 use Rattle.std.specs.Prelude.{IsTrue, OnOk, is_ok}
 use Rattle.sqlite.specs.State.{State, HasCleanDisk, Survives}
 use Rattle.sqlite.specs.Store.{Ghosts}
@@ -158,38 +158,21 @@ module _ {S : Type 0} (g : Ghosts S) (old mid : StoreState S) (result : Result (
       cause = rows.causes;
     }
 
--- what a read leaves of full-text tables
-pub read_leaves : {S X : Type 0} (g : Ghosts S) (old new : StoreState S) (tables : List TableInfo) (read : Result X StoreFault) → LooksAsked g old new read → SurvivesCrash g (with_tables old tables) → LeavesRead g (with_tables old tables) (is_ok read) (with_tables new tables)
-read_leaves {S} g old new tables read it settled = record {
-  live = λ clean done. ok_then read (it.live clean) done;
-  settled = λ up db may. subst (IsStored db) (sym (same up)) (settled (was_up up) db (only (it.survives.crash up.clean db may)));
-  survives = survives_weaker (shows g old) (shows g new) _ _ (λ clean db none. absurd none) it.survives;
-}
-  where
-    looks : Looks g old new
-    looks = record { kept = it.kept; survives = survives_weaker (shows g old) (shows g new) _ _ (λ clean db none is_open. none) it.survives }
-
-    same : IsUp g (with_tables new tables) → value_in g new ≡ value_in g old
-    same up = looks_same g old new tables looks up
-
-    was_up : IsUp g (with_tables new tables) → IsUp g (with_tables old tables)
-    was_up up = looks_up g old new tables tables looks up
-
-    only : {A : Type 0} → A ⊎ ⊥ → A
-    only (inl a) = a
-    only (inr none) = absurd none
-
--- and that it only looks
+-- a read only looks
 pub read_looks : {S X : Type 0} (g : Ghosts S) (old new : StoreState S) (tables : List TableInfo) (read : Result X StoreFault) → LooksAsked g old new read → OnlyLooks g (with_tables old tables) (with_tables new tables)
-read_looks g old new tables read it = record {
-  was_up = λ up. looks_up g old new tables tables looks up;
-  value = λ up. looks_same g old new tables looks up;
-  survives = looks.survives;
-  tables = refl;
-}
-  where
-    looks : Looks g old new
-    looks = record { kept = it.kept; survives = survives_weaker (shows g old) (shows g new) _ _ (λ clean db none is_open. none) it.survives }
+read_looks g old new tables read it =
+    let looks : Looks g old new = record { kept = it.kept; survives = survives_weaker (shows g old) (shows g new) _ _ (λ clean db none is_open. none) it.survives } in
+    record { was_up = λ up. looks_up g old new tables tables looks up; value = λ up. looks_same g old new tables looks up; survives = looks.survives; tables = refl }
+
+-- and what it leaves of full-text tables
+pub read_leaves : {S X : Type 0} (g : Ghosts S) (old new : StoreState S) (tables : List TableInfo) (read : Result X StoreFault) → LooksAsked g old new read → SurvivesCrash g (with_tables old tables) → LeavesRead g (with_tables old tables) (is_ok read) (with_tables new tables)
+read_leaves g old new tables read it settled =
+    let only = read_looks g old new tables read it in
+    record {
+      live = λ clean done. ok_then read (it.live clean) done;
+      settled = λ up db may. subst (IsStored db) (sym (only.value up)) (settled (only.was_up up) db (elim (it.survives.crash up.clean db may) [ inl kept ↦ kept | inr none ↦ absurd none ]));
+      survives = survives_weaker (shows g old) (shows g new) _ _ (λ clean db none. absurd none) it.survives;
+    }
 
 -- a question that is told as `Store` was refused
 pub is_refused : {X : Type 0} (fault : StoreFault) (result : Result X Fault) → result ≡ Err (fault_of_read fault) → IsPlainFault fault → result ≡ Err faults.Store → fault ≡ causes.Refused

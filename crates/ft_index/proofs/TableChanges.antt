@@ -80,9 +80,6 @@ free_is_free n (c ∷ cs) h =
     let parts = and_parts (below_all int_cmp c.0 cs) (is_sorted int_cmp cs) h in
     go (int_cmp c.0 (pos n)) refl parts.0 (λ m. free_is_free m cs parts.1)
   where
-    AreApart : ℕ → Type 0
-    AreApart m = AllByRecursion (λ (c : ℤ × Table). int_eq (pos m) c.0 ≡ false) cs
-
     above : (m : ℕ) → n ≤ m → int_cmp c.0 (pos n) ≡ Less → (b : Bool) → nat_lt n m ≡ b → int_cmp c.0 (pos m) ≡ Less
     above m le is true e = int_cmp_total.trans c.0 (pos n) (pos m) is (sym (int_cmp_is (pos n) (pos m) Less (let h : n < m = ltb-true n m e in omega (arith, ints, h))))
     above m le is false e = ap (λ k. int_cmp c.0 (pos k)) (sym (let h : m ≤ n = ltb-false n m e in let same : n ≡ m = omega (arith, h, le) in same)) ∙ is

@@ -75,7 +75,6 @@ module _ (sets : List (List ℕ × Cell)) (f : Filter) where
     touches = λ contents. refl;
     near = λ contents changes h. h;
     keeps = λ table content is fine. update_keeps_content table content sets f is fine;
-    replies = replies name;
   }
 
   module _ (content : Content) (cols : List source.Column) (columns_are : content.columns ≡ map column_of cols) (table : List ℕ) where
@@ -203,17 +202,14 @@ module _ (sets : List (List ℕ × Cell)) (f : Filter) where
   abbrev moved_in : Content → Documents → List ℤ → Documents
   moved_in content picked docids = moved (set_all content) (map (λ (d : ℤ × List Cell). (d.0, set_in content d)) picked) docids
 
-  made_of : (content : Content) → updated content sets f ≡ moved_in content (chosen content f) (docids_named sets)
-  made_of content = refl
-
   -- where none moves
   stay : (name : List ℕ) (content : Content) (touched : List ℤ) → IsContent name content → IsContent name (record content { documents = set_all content }) → AllByRecursion (Contains touched) (docids_of (chosen content f)) →
       LeadsTo content (set_all content) touched (map (changing sets content.columns) (chosen content f))
   stay name content touched is makes near = chosen_lead (after_in content) name content f (set_all content) touched is (each_set content content.documents) makes near
 
-  all_left : (xs ys : List ℤ) → (zs : List ℤ) → AllByRecursion (Contains xs) zs → AllByRecursion (Contains (xs ++ ys)) zs
-  all_left xs ys [] h = tt
-  all_left xs ys (z ∷ zs) h = (Contains-append_left xs ys z h.0, all_left xs ys zs h.1)
+  all_more : {X : Type 0} (docid : X → ℤ) (xs ys : List ℤ) (zs : List X) → AllByRecursion (λ z. Contains xs (docid z)) zs → AllByRecursion (λ z. Contains (xs ++ ys) (docid z)) zs
+  all_more docid xs ys [] h = tt
+  all_more docid xs ys (z ∷ zs) h = (Contains-append_left xs ys (docid z) h.0, all_more docid xs ys zs h.1)
 
   -- where the only one may get another docid
   alone : (content : Content) (d : ℤ × List Cell) → is_sorted int_cmp content.documents ≡ true → chosen content f ≡ d ∷ [] → set_all content ≡ put int_cmp d.0 (set_in content d) content.documents
@@ -234,10 +230,6 @@ module _ (sets : List (List ℕ × Cell)) (f : Filter) where
       go : (b : Bool) → cond (b && true) (Some (faults.DocidTaken docid)) None ≡ None → b ≡ false
       go true h = absurd (let no = h in cc)
       go false h = refl
-
-  more_near : (a b : ℤ) (more : List ℤ) (rs : List Rewrite) → AllByRecursion (λ (x : Rewrite). Contains (a ∷ b ∷ []) x.docid) rs → AllByRecursion (λ (x : Rewrite). Contains (a ∷ b ∷ more) x.docid) rs
-  more_near a b more [] h = tt
-  more_near a b more (x ∷ xs) h = (Contains-append_left (a ∷ b ∷ []) more x.docid h.0, more_near a b more xs h.1)
 
   one_leads : (name : List ℕ) (content : Content) (docid : ℤ) (docids : List ℤ) (d : ℤ × List Cell) (rewrites : List Rewrite) → chosen content f ≡ d ∷ [] → IsContent name content → moves_fault content.documents (d ∷ []) (docid ∷ docids) ≡ None →
       IsContent name (record content { documents = moved_in content (d ∷ []) (docid ∷ docids) }) → rewrites ≡ moved_from (changing sets content.columns d) docid → LeadsTo content (moved_in content (d ∷ []) (docid ∷ docids)) (d.0 ∷ docid ∷ docids) rewrites
@@ -277,7 +269,7 @@ module _ (sets : List (List ℕ × Cell)) (f : Filter) where
           subst (LeadsTo content (put int_cmp docid cells (without_docid d.0 (set_all content))) touched) list (record {
             are_of = are_of name content parts m.rising m.knows (subst (λ (ds : Documents). IsContent name (record content { documents = ds })) (sym made) makes);
             made = made;
-            near = more_near d.0 docid docids parts m.near;
+            near = all_more (λ (x : Rewrite). x.docid) (d.0 ∷ docid ∷ []) docids parts m.near;
           })
 
   pub leads : (name : List ℕ) (content : Content) (docids : List ℤ) (picked : Documents) (rewrites : List Rewrite) → chosen content f ≡ picked → IsContent name content → moves_fault content.documents picked docids ≡ None →
@@ -287,7 +279,7 @@ module _ (sets : List (List ℕ × Cell)) (f : Filter) where
       subst (λ (ds : Documents). LeadsTo content ds (docids_of picked ++ docid_if_any picked []) rewrites) (sym (none_moves picked))
       (subst (LeadsTo content (set_all content) (docids_of picked ++ docid_if_any picked [])) (ap (map (changing sets content.columns)) are ∙ sym moves)
       (stay name content (docids_of picked ++ docid_if_any picked []) is (subst (λ (ds : Documents). IsContent name (record content { documents = ds })) (none_moves picked) makes)
-      (all_left (docids_of picked) (docid_if_any picked []) (docids_of (chosen content f)) (subst (λ (ds : Documents). AllByRecursion (Contains (docids_of picked)) (docids_of ds)) (sym are) (own_docids picked)))))
+      (all_more (λ (k : ℤ). k) (docids_of picked) (docid_if_any picked []) (docids_of (chosen content f)) (subst (λ (ds : Documents). AllByRecursion (Contains (docids_of picked)) (docids_of ds)) (sym are) (own_docids picked)))))
     where
       none_moves : (ds : Documents) → moved_in content ds [] ≡ set_all content
       none_moves [] = refl

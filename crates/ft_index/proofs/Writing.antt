@@ -8,10 +8,10 @@ use Rattle.ft_rows.specs.Store.{StoreValue, AreInOrder, Change, AddTable, DropTa
 use Rattle.ft_values.specs.declared.fault.Fault.{Fault}
 use Rattle.ft_content.specs.Content.{Content, Documents, IsContent, content_rows, Column}
 use Rattle.ft_content.specs.Index.{index_rows}
-use Rattle.ft_content.specs.Command.{Command, Done}
+use Rattle.ft_content.specs.Command.{Command}
 use Rattle.ft_content.specs.Views.{TableInfo, column_of, shown_info}
 use Rattle.ft_content.specs.Deserved.{Contents, table_named, on_sound, deserved}
-use Rattle.ft_content.specs.Step.{with_documents, on_table, after, reply_to, touched, touched_of, touched_found, touched_held}
+use Rattle.ft_content.specs.Step.{with_documents, on_table, after, touched, touched_of, touched_found, touched_held}
 use Rattle.ft_documents.specs.Found.{info_named, IsUnfit, IsSoundNamed}
 use Rattle.ft_documents.specs.Rewrite.{Rewrite, AreRight, rewritten_docids, rewritten_content, HasContent, shown_rewrite}
 use Rattle.ft_index.specs.Kept.{AreHeld, StoreHolds, AreOfFound, StaysNear, PlansFrom, is_outside, IsUp, held_columns}
@@ -36,7 +36,6 @@ pub record IsWrite (command : Command) (name : List ℕ) (due : List ℕ → Con
   pub touches : (contents : Contents) → touched contents command ≡ touched_of contents name touch
   pub near : (contents : Contents) (changes : List Change) → AreOfFound (table_named contents name) (touched contents command) changes → StaysNear contents command changes
   pub keeps : (table : List ℕ) (content : Content) → IsContent table content → due table content ≡ None → IsContent table (record content { documents = change content })
-  pub replies : (contents : Contents) → reply_to contents command ≡ Done
 
 -- ---- changes are of documents that are touched
 
