@@ -168,11 +168,11 @@ module _ {X S : Type 0} (g : Ghosts S) (Becomes : X → Bool → X → Type 0) (
   all_fails x all y (Goes a b d _ step calls) clean name content is index has =
       let one = reads a true b step in
       let more = all_read g Becomes store given reads b all d calls in
-      let middle : HasCleanDisk (shows g (store b)) = omega (arith, more.survives.clean, clean) in
+      let middle : HasCleanDisk (shows g (store b)) = omega (arith, more.looks.survives.clean, clean) in
       let same : value_in g (store b) ≡ value_in g (store a) = ap (λ (d : Database). value_of d.trees) (one.kept middle (one.live middle refl)).0 in
       elim (all_fails b all d calls clean name content is ((λ i. table_index (stays a true b step i) (same i)) ∙ index) has) [
         | inl before ↦ inl (sym (fails a true b step) ∙ before)
-        | inr blamed ↦ inr (blamed_after g (store a) (store b) (store d) one.survives more.survives clean blamed)
+        | inr blamed ↦ inr (blamed_after g (store a) (store b) (store d) one.survives more.looks.survives clean blamed)
       ]
   all_fails x all y (Ends a b step) clean name content is index has = fails a false b step clean name content is index has
 

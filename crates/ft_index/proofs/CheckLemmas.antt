@@ -89,15 +89,12 @@ check_wrong contents name t found unsound = checked contents name (Some t) (Some
 
 -- ---- whether all tables are sound
 
-sound_marks : (contents : Contents) → list_all (λ (k : TableInfo). k.sound) (map table_info contents) ≡ list_all (λ (t : ℤ × Table). is_sound t.1.held) contents
-sound_marks contents = list_all-map (λ (k : TableInfo). k.sound) table_info contents
-
 pub all_are_sound : (store : StoreValue) (infos : List RustTableInfo) (contents : Contents) (all : Bool) → AreMarked store store.tables (map shown_info infos) → StoreHolds store contents → all ≡ list_all (λ (t : RustTableInfo). t.sound) infos →
     (IsTrue all → AreSound contents) × (AreSound contents → IsTrue all)
 all_are_sound store infos contents all marked held is =
     let found = marked_contents store (map shown_info infos) marked in
     let told : map shown_info infos ≡ map table_info contents = found.told ∙ ap (map table_info) (holds_one_contents store found.contents contents found.held held) in
-    let same : all ≡ list_all (λ (t : ℤ × Table). is_sound t.1.held) contents = is ∙ sym (list_all-map (λ (k : TableInfo). k.sound) shown_info infos) ∙ ap (list_all (λ (k : TableInfo). k.sound)) told ∙ sound_marks contents in (
+    let same : all ≡ list_all (λ (t : ℤ × Table). is_sound t.1.held) contents = is ∙ sym (list_all-map (λ (k : TableInfo). k.sound) shown_info infos) ∙ ap (list_all (λ (k : TableInfo). k.sound)) told ∙ list_all-map (λ (k : TableInfo). k.sound) table_info contents in (
       (λ h. AllPass-from_list_all (λ (t : ℤ × Table). is_sound t.1.held) contents (sym same ∙ h)),
       (λ h. same ∙ list_all-from_AllPass (λ (t : ℤ × Table). is_sound t.1.held) contents h),
     )

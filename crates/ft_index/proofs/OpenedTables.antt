@@ -1,11 +1,10 @@
 -- Tables that are told as they are read.
 use Rattle.std.proofs.Common.{◌≡◌, ℕ, List, [], ◌∷◌, ◌++◌, map, ℤ, refl, sym, ap, subst, ◌∙◌, arith}
+use Rattle.ft_index.proofs.RowStateReads.{looked}
 use Rattle.std.specs.Prelude.{IsTrue}
 use Rattle.std.specs.List.{AllZip}
 use Rattle.sqlite.specs.State.{HasCleanDisk}
-use Rattle.sqlite.specs.Effect.{Database}
 use Rattle.sqlite.specs.Store.{Ghosts}
-use Rattle.ft_store.specs.Rows.{value_of}
 use Rattle.ft_store.specs.Kept.{StoreState, shows, value_in}
 use Rattle.ft_values.specs.declared.rows.TabRow.{TabRow}
 use Rattle.ft_rows.specs.Store.{StoreValue}
@@ -80,13 +79,10 @@ marked_holds store known apart all =
 module _ {S : Type 0} (g : Ghosts S) (old new : StoreState S) (known : List TableInfo) (looks : Looks g old new) (live : HasCleanDisk (shows g new) → IsTrue (shows g new).is_open)
     (marked : HasCleanDisk (shows g new) → AreMarked (value_in g old) (value_in g old).tables known)
     (apart : HasCleanDisk (shows g old) → IsTrue (shows g old).is_open → AreNamedApart (value_in g old)) where
-  same_value : HasCleanDisk (shows g new) → value_in g new ≡ value_in g old
-  same_value clean = ap (λ (d : Database). value_of d.trees) (looks.kept clean (live clean)).0
-
   pub opened_holds : HoldsSome g (with_tables new known)
   opened_holds up =
       let found = marked_holds (value_in g old) known (apart (omega (arith, looks.survives.clean, up.clean)) (looks.kept up.clean up.is_open).2) (marked up.clean) in
-      (found.0, subst (λ v. AreHeld v known found.0) (sym (same_value up.clean)) found.1)
+      (found.0, subst (λ v. AreHeld v known found.0) (sym (looked g old new looks live up.clean)) found.1)
 
   pub opens : OpensStore g old (with_tables new known)
   opens = record {
@@ -95,6 +91,6 @@ module _ {S : Type 0} (g : Ghosts S) (old new : StoreState S) (known : List Tabl
     some = opened_holds;
     marks = λ up contents held.
         let found = opened_holds up in
-        let same : found.0 ≡ contents = holds_one_contents (value_in g new) found.0 contents found.1.held (subst (λ v. StoreHolds v contents) (sym (same_value up.clean)) held) in
+        let same : found.0 ≡ contents = holds_one_contents (value_in g new) found.0 contents found.1.held (subst (λ v. StoreHolds v contents) (sym (looked g old new looks live up.clean)) held) in
         subst (λ cs. AreHeld (value_in g new) known cs) same found.1;
   }

@@ -3,7 +3,6 @@ use Rattle.std.proofs.Common.{ℕ, List, rules, ◌≡◌, [], map, string_bytes
 use Rattle.ft_store.specs.Kept.{value_in}
 use Rattle.ft_values.specs.declared.fault.Fault.{Fault}
 use Rattle.ft_content.specs.Command as plain
-use Rattle.ft_content.specs.Command.{Command}
 use Rattle.ft_content.specs.Views.{filter_of, deletion_of, shown_info, column_of}
 use Rattle.ft_documents.specs.Rewrite.{shown_rewrite}
 use Rattle.ft_index.proofs.Executing.{told_kept}
@@ -26,7 +25,7 @@ reaches_in : (g : _) (c : After-make_anew g) (contents : Contents) → AreHeld (
 reaches_in g c contents held =
     let did = c.make_anew.ensures in
     let value = value_in g.S.Store c.args.store.now in
-    subst (λ (x : Command). ReachesStep contents x value did.changes) (λ i. plain.Delete (c.as_str.ensures.value i) (filter_of (sym c.in-All.is i)))
+    subst (λ (x : plain.Command). ReachesStep contents x value did.changes) (λ i. plain.Delete (c.as_str.ensures.value i) (filter_of (sym c.in-All.is i)))
     (delete_reaches value (map shown_info c.args.tables.now) contents c.as_str.result.now did.changes did.of_anew c.is_in_order.ensures.order held c.in_ok-table.ensures (ap (map shown_rewrite) c.new-rewrites.ensures.items))
 
 pub returns-in_err-table-clause-does : goal.returns-in_err-table-clause-does

@@ -12,7 +12,6 @@ use Rattle.ft_values.specs.declared.fault.Fault.TheVariants as faults
 use Rattle.ft_values.specs.declared.rows.Value.{Value}
 use Rattle.ft_values.specs.declared.table.TableInfo.{TableInfo as RustTableInfo}
 use Rattle.ft_content.specs.Command as plain
-use Rattle.ft_content.specs.Command.{Command}
 use Rattle.ft_content.specs.declared.command.Insertion.{Insertion}
 use Rattle.ft_content.specs.Content.{Content, repeats_name}
 use Rattle.ft_content.specs.Deserved.{inserted_rows, listed_columns}
@@ -51,14 +50,14 @@ twice_is (Some x) none is = refl
 pub returns-then-repeats_name-clause-told : goal.returns-then-repeats_name-clause-told
 returns-then-repeats_name-clause-told g c =
     let w = c.args.insertion.now in
-    subst (λ (command : Command). PlansTo g.S.Store (map shown_info c.args.tables.now) c.args.store.now c.args.store.now command (Err faults.DuplicateColumn)) (λ i. plain.Insert (string_bytes w.table) (listed_are c.as_deref-listed.result c.args.insertion.now.columns c.as_deref-listed.ensures.value i) (map cells_of w.rows.items))
+    subst (λ (command : plain.Command). PlansTo g.S.Store (map shown_info c.args.tables.now) c.args.store.now c.args.store.now command (Err faults.DuplicateColumn)) (λ i. plain.Insert (string_bytes w.table) (listed_are c.as_deref-listed.result c.args.insertion.now.columns c.as_deref-listed.ensures.value i) (map cells_of w.rows.items))
     (λ up contents held.
     let columns = option_map (λ n. map string_bytes n.now) c.as_deref-listed.result in
     inr (insert_repeats contents (string_bytes w.table) columns (map cells_of w.rows.items) (twice_is c.as_deref-listed.result _ refl ∙ sym (c.repeats_name.ensures ∙ ap (λ (r : Bor (List (String Global))). repeats_name (map string_bytes r.now)) c.unwrap_or.ensures) ∙ c.if-repeats_name.true)))
 
 pub returns-in_err-table-clause-told : goal.returns-in_err-table-clause-told
 returns-in_err-table-clause-told g c =
-    subst (λ (command : Command). WritesIn g.S.Store (map shown_info c.args.tables.now) c.args.store.now c.args.store.now command c.from_residual.result) (λ i. plain.Insert (c.as_str.ensures.value i) (listed_are c.as_deref-listed.result c.args.insertion.now.columns c.as_deref-listed.ensures.value i) (map cells_of (c.args.insertion.now.rows.items)))
+    subst (λ (command : plain.Command). WritesIn g.S.Store (map shown_info c.args.tables.now) c.args.store.now c.args.store.now command c.from_residual.result) (λ i. plain.Insert (c.as_str.ensures.value i) (listed_are c.as_deref-listed.result c.args.insertion.now.columns c.as_deref-listed.ensures.value i) (map cells_of (c.args.insertion.now.rows.items)))
     (
     let columns = option_map (λ n. map string_bytes n.now) c.as_deref-listed.result in
     let rows = map cells_of c.args.insertion.now.rows.items in
@@ -81,7 +80,7 @@ fails g w listed none rows info tables old new order same are is_none apart text
     let columns = option_map (λ (r : Bor (List (String Global))). map string_bytes r.now) listed in
     let cells = map cells_of rows in
     let name = string_bytes w.table in
-    subst (λ (x : Command). WritesIn g tables old new x found) (λ i. plain.Insert name (listed_are listed w.columns same i) (map cells_of (are i)))
+    subst (λ (x : plain.Command). WritesIn g tables old new x found) (λ i. plain.Insert name (listed_are listed w.columns same i) (map cells_of (are i)))
     (plans_failed g (plain.Insert name columns cells) name (λ table content. due columns cells content) (made columns cells) (news columns cells) (is_write columns cells name (twice_is listed none is_none ∙ apart)) old new tables (shown_info info) order (subst (λ n. IsSoundNamed tables n (shown_info info)) is named) fault found failed writes)
 
 pub returns-in_err-names-clause-told : goal.returns-in_err-names-clause-told
@@ -167,7 +166,7 @@ returns-clause-told g c =
     let command = plain.Insert name columns rows in
     let rewrites = c.in_ok-rewrites.rewrites in
     let written : Written = record { table = c.in_ok-table.table; rewrites = rewrites } in
-    subst (λ (x : Command). WritesIn g.S.Store tables c.args.store.now c.stored_docids.new.store x (Ok written)) (λ i. plain.Insert name (listed_are c.as_deref-listed.result w.columns c.as_deref-listed.ensures.value i) (map cells_of (c.as_slice-rows.ensures.value i)))
+    subst (λ (x : plain.Command). WritesIn g.S.Store tables c.args.store.now c.stored_docids.new.store x (Ok written)) (λ i. plain.Insert name (listed_are c.as_deref-listed.result w.columns c.as_deref-listed.ensures.value i) (map cells_of (c.as_slice-rows.ensures.value i)))
     (writes_do g.S.Store command name (λ table content. due columns rows content) (made columns rows) (news columns rows) (is_write columns rows name apart) c.args.store.now c.stored_docids.new.store tables written c.is_in_order.ensures.order named (λ content has.
     let at = (goal.at.returns-clause-told g c).After-made_documents in
     let known = known_in g at content has in

@@ -16,7 +16,6 @@ use Rattle.ft_values.specs.declared.table.TableInfo.{TableInfo as RustTableInfo}
 use Rattle.ft_content.specs.declared.command.Modification.{Modification}
 use Rattle.ft_content.specs.Content.{Column, Content, Documents, repeats_name}
 use Rattle.ft_content.specs.Command as plain
-use Rattle.ft_content.specs.Command.{Command}
 use Rattle.ft_content.specs.Answer.{chosen}
 use Rattle.ft_content.specs.Deserved.{update_tests, query_fault, moves_fault, docids_named, has_docid}
 use Rattle.ft_content.specs.Views.{TableInfo, bare_content, column_of, set_of, filter_of, modification_of, shown_info}
@@ -40,7 +39,7 @@ use Rattle.ft_index.proofs.written.update_written.Goals.{After-moves_fault}
 
 pub returns-then-repeats_set-clause-told : goal.returns-then-repeats_set-clause-told
 returns-then-repeats_set-clause-told g c =
-    subst (λ (command : Command). PlansTo g.S.Store (map shown_info c.args.tables.now) c.args.store.now c.args.store.now command (Err faults.DuplicateColumn)) (λ i. plain.Update (string_bytes c.args.modification.now.table) (map set_of (c.as_slice-sets.ensures.value i)) (filter_of c.args.modification.now.filter))
+    subst (λ (command : plain.Command). PlansTo g.S.Store (map shown_info c.args.tables.now) c.args.store.now c.args.store.now command (Err faults.DuplicateColumn)) (λ i. plain.Update (string_bytes c.args.modification.now.table) (map set_of (c.as_slice-sets.ensures.value i)) (filter_of c.args.modification.now.filter))
     (λ up contents held.
     let sets = map set_of c.as_slice-sets.result.now in
     let f = filter_of c.args.modification.now.filter in
@@ -48,7 +47,7 @@ returns-then-repeats_set-clause-told g c =
 
 pub returns-in_err-table-clause-told : goal.returns-in_err-table-clause-told
 returns-in_err-table-clause-told g c =
-    subst (λ (command : Command). WritesIn g.S.Store (map shown_info c.args.tables.now) c.args.store.now c.args.store.now command c.from_residual.result) (λ i. plain.Update (c.as_str.ensures.value i) (map set_of (c.as_slice-sets.ensures.value i)) (filter_of c.args.modification.now.filter))
+    subst (λ (command : plain.Command). WritesIn g.S.Store (map shown_info c.args.tables.now) c.args.store.now c.args.store.now command c.from_residual.result) (λ i. plain.Update (c.as_str.ensures.value i) (map set_of (c.as_slice-sets.ensures.value i)) (filter_of c.args.modification.now.filter))
     (
     let sets = map set_of c.as_slice-sets.result.now in
     let f = filter_of c.args.modification.now.filter in
@@ -70,7 +69,7 @@ fails g w sets info tables old new order same apart text is named fault found fa
     let shown = map set_of sets in
     let f = filter_of w.filter in
     let name = string_bytes w.table in
-    subst (λ (x : Command). WritesIn g tables old new x found) (λ i. plain.Update name (map set_of (same i)) f)
+    subst (λ (x : plain.Command). WritesIn g tables old new x found) (λ i. plain.Update name (map set_of (same i)) f)
     (plans_failed g (plain.Update name shown f) name (due shown f) (made shown f) (touches shown f) (is_write shown f name apart) old new tables (shown_info info) order (subst (λ n. IsSoundNamed tables n (shown_info info)) is named) fault found failed writes)
 
 pub returns-in-Some-clause-told : goal.returns-in-Some-clause-told
@@ -176,7 +175,7 @@ returns-clause-told g c =
     let named : IsSoundNamed tables name (shown_info info) = subst (λ n. IsSoundNamed tables n (shown_info info)) c.as_str.ensures.value c.in_ok-table.ensures in
     let apart = sym c.repeats_set.ensures ∙ c.if-repeats_set.false in
     let written : Written = record { table = c.in_ok-table.table; rewrites = c.in_ok-rewrites.rewrites } in
-    subst (λ (x : Command). WritesIn g.S.Store tables c.args.store.now c.has_document.new.store x (Ok written)) (λ i. plain.Update name (map set_of (c.as_slice-sets.ensures.value i)) f)
+    subst (λ (x : plain.Command). WritesIn g.S.Store tables c.args.store.now c.has_document.new.store x (Ok written)) (λ i. plain.Update name (map set_of (c.as_slice-sets.ensures.value i)) f)
     (writes_do g.S.Store (plain.Update name sets f) name (due sets f) (made sets f) (touches sets f) (is_write sets f name apart) c.args.store.now c.has_document.new.store tables written c.is_in_order.ensures.order named (λ content has.
     let m = moves_in g (goal.at.returns-clause-told g c).After-moves_fault content has in
     let stays = m.1 ∙ c.in_default-moves_fault.is in
