@@ -36,10 +36,10 @@ pub(crate) fn chosen_documents<S: Alter>(
     query: Option<&Query>,
 ) -> Result<Vec<Document>, Fault>
     ensures told { IfOk result (λ found. (content : Content)
-        → HasRows S.Store tab store.old store.new content → IsIndexed S.Store tab store.old
-        store.new content → ReadsFilterAs content (filter_of filter.now)
-        (option_map (λ q. tree_of q.now) query.entry) → map shown_document found.items
-        ≡ chosen content (filter_of filter.now)) }
+        → HasRows S.Store tab store.old store.new content
+        → IsIndexed S.Store tab store.old store.new content
+        → ReadsFilterAs content (filter_of filter.now) (option_map (λ q. tree_of q.now) query.entry)
+        → map shown_document found.items ≡ chosen content (filter_of filter.now)) }
     ensures looks { LooksFor S.Store store.old store.new result IsOutside }
     ensures counted { OnOk result ((content : Content)
         → HasRows S.Store tab store.old store.new content

@@ -74,8 +74,8 @@ pub(crate) fn docids<S: Alter>(
     offset: u64,
 ) -> Result<Vec<i64>, Fault>
     ensures told { IfOk result (λ found. (content : Content)
-        → HasRows S.Store tab store.old store.new content → found.items ≡ cut limit offset
-        (map (λ d. d.0) content.documents)) }
+        → HasRows S.Store tab store.old store.new content
+        → found.items ≡ cut limit offset (map (λ d. d.0) content.documents)) }
     ensures looks { AsksStore S.Store store.old store.new result IsOutside }
     ensures counted { OnOk result ((content : Content)
         → HasRows S.Store tab store.old store.new content → store.new.rows_read

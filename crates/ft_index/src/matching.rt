@@ -65,8 +65,8 @@ pub(crate) fn matched<S: Alter>(
     ensures told { IfOk result (λ hits. (content : Content) (name text : List ℕ)
         → reading content name text ≡ Ok (option_map (λ q. tree_of q.now) query.entry)
         → IsIndexed S.Store tab store.old store.new content
-        → map plain_hit hits.items ≡ cut most 0 (map (as_wanted wants_offsets)
-        (chosen_hits content (Match name text)))) }
+        → map plain_hit hits.items
+        ≡ cut most 0 (map (as_wanted wants_offsets) (chosen_hits content (Match name text)))) }
     ensures looks { LooksFor S.Store store.old store.new result IsOutside }
     ensures counted { OnOk result ((content : Content) (name text : List ℕ)
         → reading content name text ≡ Ok (option_map (λ q. tree_of q.now) query.entry)

@@ -90,9 +90,9 @@ fn has_right_index<S: Alter>(
     cells: Vec<CellRow>,
 ) -> Result<bool, StoreFault>
     ensures told { (content : Content) → HasCleanDisk (shows S.Store store.new)
-        → standing.HaveContent (map column_of columns.now) (map standing.shown_row cells.items)
-        content → IfOk result (λ b. IsTrue b ↔ (table_index tab (value_in S.Store store.old)
-        ≡ index_rows content)) }
+        → standing.HaveContent (map column_of columns.now)
+        (map standing.shown_row cells.items) content → IfOk result (λ b. IsTrue b ↔ (table_index tab
+        (value_in S.Store store.old) ≡ index_rows content)) }
     ensures asks { AsksStore S.Store store.old store.new result IsPlainFault }
     ensures refused { Blames (shows S.Store store.old) (shows S.Store store.new) result }
 {

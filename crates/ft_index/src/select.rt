@@ -108,11 +108,11 @@ fn selected_rows<S: Alter>(
     select: &Selection,
     query: Option<&Query>,
 ) -> Result<Vec<Vec<Value>>, Fault>
-    ensures told { IfOk result (λ found. (content : Content)
-        → IsAsked S.Store tab (map column_of columns.now) (items_of select.now.items)
-        (filter_of select.now.filter) (option_map (λ q. tree_of q.now) query.entry) store.old
-        store.new content → rows_of found ≡ answer.cut select.now.limit select.now.offset
-        (answer.answer_rows content (items_of select.now.items) (filter_of select.now.filter))) }
+    ensures told { IfOk result (λ found. (content : Content) → IsAsked S.Store tab
+        (map column_of columns.now) (items_of select.now.items) (filter_of select.now.filter)
+        (option_map (λ q. tree_of q.now) query.entry) store.old store.new content
+        → rows_of found ≡ answer.cut select.now.limit select.now.offset (answer.answer_rows content
+        (items_of select.now.items) (filter_of select.now.filter))) }
     ensures looks { LooksFor S.Store store.old store.new result IsOutside }
     ensures counted { OnOk result ((content : Content)
         → IsAsked S.Store tab (map column_of columns.now) (items_of select.now.items)
@@ -158,8 +158,8 @@ fn chosen_count<S: Alter>(
     query: Option<&Query>,
 ) -> Result<i64, Fault>
     ensures told { IfOk result (λ count. (content : Content)
-        → IsOf S.Store tab store.old store.new content → ReadsFilterAs content
-        (filter_of filter.now) (option_map (λ q. tree_of q.now) query.entry)
+        → IsOf S.Store tab store.old store.new content
+        → ReadsFilterAs content (filter_of filter.now) (option_map (λ q. tree_of q.now) query.entry)
         → count ≡ pos (length (chosen content (filter_of filter.now)))) }
     ensures looks { LooksFor S.Store store.old store.new result IsOutside }
     ensures counted { OnOk result ((content : Content)
