@@ -1,5 +1,5 @@
 -- by the sizes that are read, and then by the lists
-use Rattle.std.proofs.Common.{◌≡◌, sym, ap, subst, arith, to_z-of_z}
+use Rattle.std.proofs.Common.{rules, ◌≡◌, sym, ap, subst, arith, to_z-of_z}
 use Rattle.std.specs.Ordering.{int_eq}
 use Rattle.std.specs.FinMap.Entries.{where_key}
 use Rattle.std.proofs.lemmas.Result.{IfOk-weaker}
@@ -34,6 +34,9 @@ returns-clause-told g c = λ content clean have.
       (λ no. absurd (let h = no in cc)),
       (λ right. absurd (sizes_others c.args.tab old content c.as_slice.result.now sizes others right)),
     )
+
+pub returns-in-Some-clause-asks : goal.returns-in-Some-clause-asks
+returns-in-Some-clause-asks g c = record { only = search rules; live = search rules; cause = search rules }
 
 pub returns-in-Some-clause-refused : goal.returns-in-Some-clause-refused
 returns-in-Some-clause-refused g c = λ clean is. blamed_after g.S.Store c.args.store.now c.sizes.new.self c.has_lists.new.self c.in_ok-sizes.ensures.read.survives c.has_lists.ensures.read.survives clean (c.has_lists.ensures.refused clean is)

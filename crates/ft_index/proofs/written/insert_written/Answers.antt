@@ -150,6 +150,12 @@ pub returns-in_err-rewrites-clause-told : goal.returns-in_err-rewrites-clause-to
 returns-in_err-rewrites-clause-told g c = fails g.S.Store c.args.insertion.now c.as_deref-listed.result _ c.as_slice-rows.result.now c.in_ok-table.table.now (map shown_info c.args.tables.now) c.args.store.now c.stored_docids.new.store c.is_in_order.ensures.order c.as_deref-listed.ensures.value c.as_slice-rows.ensures.value refl (sym (c.repeats_name.ensures ∙ ap (λ (r : Bor (List (String Global))). repeats_name (map string_bytes r.now)) c.unwrap_or.ensures) ∙ c.if-repeats_name.false) _ c.as_str.ensures.value c.in_ok-table.ensures faults.Memory c.from_residual-in_err-rewrites.result (search rules) (λ content has.
     inl (inr refl))
 
+pub returns-in_err-stored-clause-looks : goal.returns-in_err-stored-clause-looks
+returns-in_err-stored-clause-looks g c = record { only = search rules; live = search rules }
+
+pub returns-in_err-new-clause-looks : goal.returns-in_err-new-clause-looks
+returns-in_err-new-clause-looks g c = record { only = search rules; live = search rules }
+
 pub returns-in_err-rewrites-clause-looks : goal.returns-in_err-rewrites-clause-looks
 returns-in_err-rewrites-clause-looks g c = record { only = search rules; live = search rules }
 
