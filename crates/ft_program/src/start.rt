@@ -35,6 +35,13 @@ const FAULTY: u8 = 1;
 
 const NOT_UNDERSTOOD: u8 = 2;
 
+// What a line has run: inputs, one after the other, and the settings at their begin.
+#[derive(Drop)]
+struct Work<'a> {
+    settings: Settings,
+    inputs: &'a [String],
+}
+
 /// Runs the program on words without its own name over the files of the system, and gives its
 /// status: 0; 1 where a fault line was written, a database wasn't opened or closed, or the run
 /// ended early; 2 where the words aren't understood.
@@ -77,29 +84,29 @@ pub fn start_in<D: Disk + Drop, H: Databases<D>, R: Read, O: Write, E: Write>(
         Err(fault) => return refuse_line(&fault, outputs),
     };
     let inputs = inputs.as_slice();
+    let work = Work { settings, inputs };
     match file {
-        None => in_memory(rt, settings, inputs, input, outputs),
-        Some(path) => in_host(rt, host, path.as_str(), settings, inputs, input, outputs),
+        None => in_memory(rt, work, input, outputs),
+        Some(path) => in_host(rt, host, path.as_str(), work, input, outputs),
     }
 }
 
 // Runs the inputs over two empty databases in memory.
 fn in_memory<R: Read, O: Write, E: Write>(
     rt: &HostRuntime,
-    settings: Settings,
-    inputs: &[String],
+    work: Work<'_>,
     input: &mut R,
     outputs: &mut Outputs<'_, O, E>,
 ) -> u8
-    ensures runs { RunsInMemory settings
-        (due (map string_bytes inputs.now) (R.remaining input.old))
+    ensures runs { RunsInMemory work.entry.settings
+        (due (map string_bytes work.entry.inputs.now) (R.remaining input.old))
         (outputs_of O.contents E.contents outputs.old)
         (outputs_of O.contents E.contents outputs.new) result }
     ensures writers { SameWriters outputs.old outputs.new }
 {
     match open_in_memory(rt) {
         Ok((plain, store)) => {
-            let ended = on_databases(rt, plain, store, settings, inputs, input, outputs);
+            let ended = on_databases(rt, plain, store, work, input, outputs);
             let_go(ended.1);
             let_go(ended.2);
             ended.0
@@ -113,13 +120,12 @@ fn in_host<D: Disk + Drop, H: Databases<D>, R: Read, O: Write, E: Write>(
     rt: &HostRuntime,
     host: &mut H,
     path: &str,
-    settings: Settings,
-    inputs: &[String],
+    work: Work<'_>,
     input: &mut R,
     outputs: &mut Outputs<'_, O, E>,
 ) -> u8
     ensures runs { RunsInFiles D.Disk H.tells path.now (H.holds host.old) (H.holds host.new)
-        settings (due (map string_bytes inputs.now) (R.remaining input.old))
+        work.entry.settings (due (map string_bytes work.entry.inputs.now) (R.remaining input.old))
         (outputs_of O.contents E.contents outputs.old)
         (outputs_of O.contents E.contents outputs.new) result }
     ensures writers { SameWriters outputs.old outputs.new }
@@ -132,7 +138,7 @@ fn in_host<D: Disk + Drop, H: Databases<D>, R: Read, O: Write, E: Write>(
     let texts = names.texts.as_str();
     match open_both_in(rt, host, tables, texts) {
         Ok((plain, store)) => {
-            let ended = on_databases(rt, plain, store, settings, inputs, input, outputs);
+            let ended = on_databases(rt, plain, store, work, input, outputs);
             let status = tell_close(both_closed(&ended.1, &ended.2), ended.0, outputs.err);
             let tables_left = left_files(ended.1);
             let texts_left = left_files(ended.2);
@@ -190,13 +196,12 @@ fn on_databases<D: Disk + Drop, F: Disk + Drop, R: Read, O: Write, E: Write>(
     rt: &HostRuntime,
     plain: Connection<FileStore<D>>,
     store: Store<FileStore<F>>,
-    settings: Settings,
-    inputs: &[String],
+    work: Work<'_>,
     input: &mut R,
     outputs: &mut Outputs<'_, O, E>,
 ) -> (u8, Left<D>, Left<F>)
-    ensures runs { RunsOn settings plain store
-        (due (map string_bytes inputs.now) (R.remaining input.old)) result.1 result.2
+    ensures runs { RunsOn work.entry.settings plain store
+        (due (map string_bytes work.entry.inputs.now) (R.remaining input.old)) result.1 result.2
         (outputs_of O.contents E.contents outputs.old)
         (outputs_of O.contents E.contents outputs.new) result.0 }
     ensures writers { SameWriters outputs.old outputs.new }
@@ -209,9 +214,9 @@ fn on_databases<D: Disk + Drop, F: Disk + Drop, R: Read, O: Write, E: Write>(
         }
     };
     full_text.is_settled();
-    let mut session = session_over(rt.alloc(), plain, full_text, settings);
+    let mut session = session_over(rt.alloc(), plain, full_text, work.settings);
     let mut files = SystemFiles { rt };
-    let ended = run_all(&mut session, inputs, input, &mut files, outputs);
+    let ended = run_all(&mut session, work.inputs, input, &mut files, outputs);
     let (tables, texts) = close(session);
     (status_of(ended, outputs.err), tables, texts)
 }

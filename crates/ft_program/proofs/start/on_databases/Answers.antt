@@ -16,7 +16,7 @@ returns-in-Err-clause-runs g c = inl (record {
 
 pub returns-clause-runs : goal.returns-clause-runs
 returns-clause-runs g c =
-    inr (runs_over (over_files {D = g.row.D.Denot} {g = g.D.Disk}) (over_files {D = g.row.F.Denot} {g = g.F.Disk}) (AreClosed c.close-tables.result.0 c.close-tables.result.1) c.args.settings c.args.plain c.args.store c.in-Ok.full_text _ c.run_all-ended.result _ _ c.session_over-session.result
+    inr (runs_over (over_files {D = g.row.D.Denot} {g = g.D.Disk}) (over_files {D = g.row.F.Denot} {g = g.F.Disk}) (AreClosed c.close-tables.result.0 c.close-tables.result.1) c.args.work.settings c.args.plain c.args.store c.in-Ok.full_text _ c.run_all-ended.result _ _ c.session_over-session.result
     (record { parts = c.run_all-ended.new.session; on = record { out = g.O.Write.contents c.run_all-ended.new.outputs.out.now; err = g.E.Write.contents c.run_all-ended.new.outputs.err.now } })
     c.status_of.result c.in-Ok.ensures.opened c.is_settled.ensures c.session_over-session.ensures c.run_all-ended.ensures.runs
     (record { tables_left = c.close-tables.ensures.tables; texts_left = c.close-tables.ensures.texts }) refl c.status_of.ensures)
