@@ -1,5 +1,5 @@
 -- No two rows of a table have one key.
-use Rattle.std.proofs.Common.{◌≡◌, ◌≢◌, ℕ, ℤ, Bool, true, false, not, ◌&&◌, ◌||◌, List, [], ◌∷◌, map, None, refl, sym, ap, ap₂, ◌∙◌, Ordering, Less, Equal, Greater, is_eq, true≢false, IsTrue}
+use Rattle.std.proofs.Common.{◌≡◌, ◌≢◌, ℕ, ℤ, Bool, true, false, not, ◌&&◌, List, [], ◌∷◌, map, None, refl, sym, ap, ap₂, ◌∙◌, Ordering, is_eq, true≢false}
 use Rattle.std.specs.List.{AllByRecursion}
 use Rattle.std.specs.Ordering.{eq_by_cmp, int_cmp}
 use Rattle.std.specs.Cmp.{tied_itself}

@@ -1,5 +1,5 @@
 -- The last row of a table, in the order of the keys.
-use Rattle.std.proofs.Common.{◌≡◌, ℕ, ℤ, Bool, true, false, cond, List, [], ◌∷◌, ◌++◌, map, filter, take, reverse, pos, refl, sym, ap, ap₂, subst, ◌∙◌, Ordering, Equal, is_gt, IsTrue, Some, None}
+use Rattle.std.proofs.Common.{◌≡◌, ℤ, Bool, true, false, cond, List, [], ◌∷◌, ◌++◌, map, filter, take, reverse, pos, refl, sym, ap, subst, ◌∙◌, Ordering, Equal, is_gt, IsTrue, None}
 use Rattle.std.specs.Prelude.{option_map, slice_get}
 use Rattle.std.specs.List.{AllByRecursion}
 use Rattle.std.specs.Ordering.{int_eq, eq_by_cmp}

@@ -1,6 +1,6 @@
 -- How a store of version 2 becomes one of version 3.
 use Rattle.std.proofs.Common.{◌≡◌, ◌≢◌, inl, true, IsTrue, true≢false, Err, ℕ, List, [], ◌∷◌, map, filter, not, Ok, refl, sym, ap, ◌∙◌, subst}
-use Rattle.std.specs.List.{AllByRecursion, list_all}
+use Rattle.std.specs.List.{list_all}
 use Rattle.std.specs.Ordering.{int_cmp}
 use Rattle.sqlite.specs.Order.{Row}
 use Rattle.sqlite.specs.Table.{Table}
