@@ -1,7 +1,5 @@
 -- What the row changes of rewrites make of a store, kind by kind.
-use Rattle.std.proofs.Common.{◌≡◌, true, false, cond, not, ◌&&◌, List, [], ◌∷◌, ◌++◌, map, ℤ, refl, sym, ap, ◌∙◌}
-use Rattle.std.specs.Prelude.{filter, unwrap_or}
-use Rattle.std.specs.Ordering.{int_cmp, int_eq}
+use Rattle.std.proofs.Common.{◌≡◌, true, false, cond, not, ◌&&◌, List, [], ◌∷◌, ◌++◌, map, ℤ, refl, sym, ap, ◌∙◌, filter, unwrap_or, int_cmp, int_eq}
 use Rattle.std.specs.FinMap.Entries.{put, where_key, is_sorted, is_sorted-where_key}
 use Rattle.std.proofs.lemmas.List.{map-append}
 use Rattle.std.proofs.lemmas.Simd.{map-map}

@@ -1,10 +1,7 @@
 -- The rows that are asked for a content's terms are the lists that a walk wants.
-use Rattle.std.proofs.Common.{◌≡◌, ℕ, ℤ, ◌+◌, ◌≤◌, ◌<◌, Bool, true, false, cond, ◌&&◌, inl, inr, List, [], ◌∷◌, ◌++◌, map, Some, None, Option, length, suc, refl, sym, ap, subst, ◌∙◌, arith, IsPermutation}
-use Rattle.std.specs.Prelude.{filter, is_some, AllPairs, ◌<ℤ◌}
-use Rattle.std.specs.List.{flat_map, AllByRecursion}
-use Rattle.std.specs.declared.cmp.Ordering.{Ordering}
-use Rattle.std.specs.declared.cmp.Ordering.TheVariants.{Less, Equal, Greater}
-use Rattle.std.specs.Ordering.{nat_cmp, int_eq, is_eq, ordering_then}
+use Rattle.std.proofs.Common.{◌≡◌, ℕ, ℤ, ◌+◌, ◌≤◌, ◌<◌, Bool, true, false, cond, ◌&&◌, inl, inr, List, [], ◌∷◌, ◌++◌, map, Some, None, Option, length, suc, refl, sym, ap, subst, ◌∙◌, arith, IsPermutation, filter, is_some, AllPairs, ◌<ℤ◌, flat_map, Ordering, Less, Equal, Greater, nat_cmp, int_eq, is_eq}
+use Rattle.std.specs.List.{AllByRecursion}
+use Rattle.std.specs.Ordering.{ordering_then}
 use Rattle.std.specs.Cmp.{IsTotalOrder, nat_cmp_total, int_cmp_total, nat_cmp_is, int_cmp_is, tied_itself}
 use Rattle.std.specs.FinMap.Entries.{by_order, put, find, length-put, where_key}
 use Rattle.std.proofs.lemmas.Cmp.{on_total, then_total}

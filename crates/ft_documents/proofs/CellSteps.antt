@@ -1,11 +1,8 @@
 -- The cells of a document under their columns.
-use Rattle.std.proofs.Common.{◌≡◌, ℕ, zero, suc, ◌+◌, ◌^◌, ◌<◌, ◌≤◌, Bool, true, false, cond, not, List, [], ◌∷◌, ◌++◌, map, length, get_or, Some, None, ℤ, pos, refl, sym, ap, ◌∙◌, arith, nat_lt, to_z, w64, Option, Bor, rules, IfSome, MatchOption}
-use Rattle.std.specs.Prelude.{filter, slice_get}
-use Rattle.std.specs.List.{enumerate_from, HoldsAt}
+use Rattle.std.proofs.Common.{◌≡◌, ℕ, zero, suc, ◌+◌, ◌^◌, ◌<◌, ◌≤◌, Bool, true, false, cond, not, List, [], ◌∷◌, ◌++◌, map, length, get_or, Some, None, ℤ, pos, refl, sym, ap, ◌∙◌, arith, nat_lt, to_z, w64, Option, Bor, rules, IfSome, MatchOption, filter, slice_get, HoldsAt, Less, Equal, Greater, int_cmp, is_eq}
+use Rattle.std.specs.List.{enumerate_from}
 use Rattle.std.specs.Option.{option_eq}
 use Rattle.std.proofs.lemmas.List.{length-map, get_or-map, map-append}
-use Rattle.std.specs.declared.cmp.Ordering.TheVariants.{Less, Equal, Greater}
-use Rattle.std.specs.Ordering.{int_cmp, is_eq}
 use Rattle.std.specs.Cmp.{int_cmp_total, tied_itself}
 use Rattle.std.specs.FinMap.Entries.{find}
 use Rattle.std.proofs.lemmas.Bool.Decides.{nat_tests}

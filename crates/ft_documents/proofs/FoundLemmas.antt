@@ -1,7 +1,6 @@
 -- A table that is found by its place.
-use Rattle.std.proofs.Common.{◌≡◌, ℕ, suc, ◌+◌, Bool, true, false, cond, List, [], ◌∷◌, map, Option, Some, None, refl, sym, ap, subst, ◌∙◌, arith}
-use Rattle.std.specs.Prelude.{position, slice_get, unwrap_or, is_some}
-use Rattle.std.specs.List.{find, position_from}
+use Rattle.std.proofs.Common.{◌≡◌, ℕ, suc, ◌+◌, Bool, true, false, cond, List, [], ◌∷◌, map, Option, Some, None, refl, sym, ap, subst, ◌∙◌, arith, position, slice_get, unwrap_or, is_some, find}
+use Rattle.std.specs.List.{position_from}
 use Rattle.std.proofs.lemmas.Iterator.Adapters.{position_from-zero}
 
 -- the first item that passes stands at this place

@@ -1,6 +1,5 @@
 -- Documents as their cells are gathered from the front.
-use Rattle.std.proofs.Common.{◌≡◌, Bool, true, false, cond, List, [], ◌∷◌, ◌++◌, map, length, suc, ℤ, refl, sym, ap, ◌∙◌, arith}
-use Rattle.std.specs.Ordering.{int_eq, is_eq}
+use Rattle.std.proofs.Common.{◌≡◌, Bool, true, false, cond, List, [], ◌∷◌, ◌++◌, map, length, suc, ℤ, refl, sym, ap, ◌∙◌, arith, int_eq, is_eq}
 use Rattle.std.specs.Cmp.{int_cmp_total, tied_itself}
 use Rattle.std.proofs.lemmas.List.{map-append}
 use Rattle.std.proofs.lemmas.Bool.Decides.{Decides-int_eq}

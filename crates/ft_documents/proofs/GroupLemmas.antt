@@ -1,13 +1,10 @@
 -- The spots of terms, in whatever order they stand, and a posting more of one of them.
-use Rattle.std.proofs.Common.{◌≡◌, Bool, true, false, cond, List, [], ◌∷◌, ◌++◌, map, Option, Some, None, ℤ, ℕ, refl, sym, ap, subst, ◌∙◌, append-nil, String, Vec, string_bytes}
-use Rattle.std.specs.Prelude.{filter, unwrap_or, option_map}
-use Rattle.std.specs.List.{flat_map, IsDistinct}
-use Rattle.std.specs.declared.alloc.Global.{Global}
-use Rattle.std.specs.declared.cmp.Ordering.TheVariants.{Less, Equal, Greater}
+use Rattle.std.proofs.Common.{◌≡◌, Bool, true, false, cond, List, [], ◌∷◌, ◌++◌, map, Option, Some, None, ℤ, ℕ, refl, sym, ap, subst, ◌∙◌, append-nil, String, Vec, string_bytes, filter, unwrap_or, option_map, flat_map, Global, Less, Equal, Greater, int_cmp, int_eq, is_eq, nat_cmp, string_eq}
+use Rattle.std.specs.List.{IsDistinct}
 use Rattle.std.specs.Map.{lookup, keys_of}
-use Rattle.std.specs.Ordering.{int_cmp, int_eq, is_eq, nat_cmp, ordering_then}
+use Rattle.std.specs.Ordering.{ordering_then}
 use Rattle.std.specs.Cmp.Lexicographic.{slice_cmp}
-use Rattle.std.specs.String.{string_eq, string_eq_equiv}
+use Rattle.std.specs.String.{string_eq_equiv}
 use Rattle.std.specs.FinMap.Entries.{put, find}
 use Rattle.std.proofs.lemmas.List.{map-append}
 use Rattle.std.proofs.lemmas.List.Elements.{filter-append}

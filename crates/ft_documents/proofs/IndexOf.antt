@@ -1,8 +1,5 @@
 -- The lists and sizes of documents that join one after another are those made from scratch.
-use Rattle.std.proofs.Common.{◌≡◌, true, false, cond, List, [], ◌∷◌, ◌++◌, map, None, ℤ, refl, sym, ap, ◌∙◌}
-use Rattle.std.specs.Prelude.{filter, option_map}
-use Rattle.std.specs.List.{flat_map}
-use Rattle.std.specs.declared.cmp.Ordering.{Ordering}
+use Rattle.std.proofs.Common.{◌≡◌, true, false, cond, List, [], ◌∷◌, ◌++◌, map, None, ℤ, refl, sym, ap, ◌∙◌, filter, option_map, flat_map, Ordering}
 use Rattle.std.specs.Ordering.{eq_by_cmp}
 use Rattle.std.specs.FinMap.Entries.{put}
 use Rattle.std.proofs.lemmas.List.{map-append}

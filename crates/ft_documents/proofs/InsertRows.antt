@@ -1,8 +1,6 @@
 -- Rows of an Insert one after another, and the rewrites that they make.
-use Rattle.std.proofs.Common.{◌≡◌, ℕ, zero, suc, ℤ, ◌&&◌, [], ◌∷◌, List, Option, None, Some, Result, Ok, Err, map, zip, refl, sym, ap, subst, ◌∙◌}
-use Rattle.std.specs.Prelude.{slice_get, option_map, IfSome}
+use Rattle.std.proofs.Common.{◌≡◌, ℕ, zero, suc, ℤ, ◌&&◌, [], ◌∷◌, List, Option, None, Some, Result, Ok, Err, map, zip, refl, sym, ap, subst, ◌∙◌, slice_get, option_map, IfSome, int_cmp, is_lt}
 use Rattle.std.specs.List.{AllByRecursion}
-use Rattle.std.specs.Ordering.{int_cmp, is_lt}
 use Rattle.std.specs.FinMap.Entries.{put, find, below_all, is_sorted}
 use Rattle.std.proofs.lemmas.Option.{slice_get-map, same_Some}
 use Rattle.ft_values.specs.Cells.{Cell}

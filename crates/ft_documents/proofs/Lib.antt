@@ -1,7 +1,6 @@
 pub mod AddLemmas
 pub mod AppliedLemmas
 pub mod AskedLemmas
-pub mod BareLemmas
 pub mod CellSteps
 pub mod CellsRight
 pub mod ChangeLemmas

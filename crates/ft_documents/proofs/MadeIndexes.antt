@@ -1,6 +1,5 @@
 -- The documents of an index, one after another.
-use Rattle.std.proofs.Common.{◌≡◌, [], ◌++◌, ℤ, List, sym, subst, ap, ◌∙◌}
-use Rattle.std.specs.Prelude.{All}
+use Rattle.std.proofs.Common.{◌≡◌, [], ◌++◌, ℤ, List, sym, subst, ap, ◌∙◌, All}
 use Rattle.std.proofs.lemmas.List.Elements.{All-nil, All-append}
 use Rattle.ft_values.specs.Cells.{Cell}
 use Rattle.ft_content.specs.Content.{Column, Documents}

@@ -1,10 +1,7 @@
 -- What is found in a map is found in the rows that it shows.
-use Rattle.std.proofs.Common.{◌≡◌, cond, List, [], ◌∷◌, Option, Some, None, ℤ, refl, sym, ap, ◌∙◌, Bor}
-use Rattle.std.specs.Prelude.{option_map, is_some}
-use Rattle.std.specs.Option.{option_copied, option_eq}
-use Rattle.std.specs.declared.cmp.Ordering.{Ordering}
+use Rattle.std.proofs.Common.{◌≡◌, cond, List, [], ◌∷◌, Option, Some, None, ℤ, refl, sym, ap, ◌∙◌, Bor, option_map, is_some, option_copied, Ordering, int_eq, is_eq}
+use Rattle.std.specs.Option.{option_eq}
 use Rattle.std.specs.Map.{lookup}
-use Rattle.std.specs.Ordering.{int_eq, is_eq}
 use Rattle.std.specs.FinMap.Entries.{find}
 use Rattle.ft_rows.specs.Store.{column_key_cmp}
 use Rattle.ft_documents.specs.RewriteRows.{was_there}

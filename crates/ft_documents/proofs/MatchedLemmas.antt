@@ -1,6 +1,5 @@
 -- The hits of a query are the documents that its text chooses.
-use Rattle.std.proofs.Common.{◌≡◌, ℕ, zero, suc, ℤ, false, List, [], ◌∷◌, Option, Some, None, Ok, map, refl, sym, ap, ◌∙◌}
-use Rattle.std.specs.Prelude.{filter}
+use Rattle.std.proofs.Common.{◌≡◌, ℕ, zero, suc, ℤ, false, List, [], ◌∷◌, Option, Some, None, Ok, map, refl, sym, ap, ◌∙◌, filter}
 use Rattle.std.specs.Option.{option_map_or}
 use Rattle.ft_query.specs.Trees.{Tree}
 use Rattle.ft_query.specs.Occurs.{PlainHit, accepts, hits_of}

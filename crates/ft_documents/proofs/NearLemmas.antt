@@ -1,10 +1,6 @@
 -- The row changes of rewrites name their documents alone.
-use Rattle.std.proofs.Common.{ℕ, List, [], ◌∷◌, ◌++◌, map, Option, Some, None, ℤ, refl, sym}
-use Rattle.std.specs.Prelude.{filter, length, All, Contains, unwrap_or, nat_lt}
-use Rattle.std.specs.List.{flat_map, enumerate_from}
-use Rattle.std.specs.declared.cmp.Ordering.{Ordering}
-use Rattle.std.specs.declared.cmp.Ordering.TheVariants.{Less, Equal, Greater}
-use Rattle.std.specs.Ordering.{int_cmp, int_eq}
+use Rattle.std.proofs.Common.{ℕ, List, [], ◌∷◌, ◌++◌, map, Option, Some, None, ℤ, refl, sym, filter, length, All, Contains, unwrap_or, nat_lt, flat_map, Ordering, Less, Equal, Greater, int_cmp, int_eq}
+use Rattle.std.specs.List.{enumerate_from}
 use Rattle.std.specs.FinMap.Entries.{by_order, put, find}
 use Rattle.std.proofs.lemmas.List.Elements.{All-nil, All-cons, All-head, All-tail, All-append, All-map, All-filter, All-weaker, All-same, All-contains_itself}
 use Rattle.ft_query.specs.Tokens.{PlainToken}

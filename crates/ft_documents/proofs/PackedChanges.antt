@@ -1,9 +1,7 @@
 -- The row changes of documents put lists that can be packed.
-use Rattle.std.proofs.Common.{◌≡◌, ℕ, ◌≤◌, true, false, cond, List, [], ◌∷◌, map, length, get_or, Option, Some, None, ℤ, sym, subst, ◌∙◌}
+use Rattle.std.proofs.Common.{◌≡◌, ℕ, ◌≤◌, true, false, cond, List, [], ◌∷◌, map, length, get_or, Option, Some, None, ℤ, sym, subst, ◌∙◌, ◌==◌, filter, All, IfSome, unwrap_or, int_cmp, int_eq}
 use Rattle.std.specs.List.{list_all}
 use Rattle.std.proofs.lemmas.Bool.{and_parts}
-use Rattle.std.specs.Prelude.{◌==◌, filter, All, IfSome, unwrap_or}
-use Rattle.std.specs.Ordering.{int_cmp, int_eq}
 use Rattle.std.specs.FinMap.Entries.{find, is_sorted}
 use Rattle.std.proofs.lemmas.List.Elements.{All-nil, All-cons, All-head, All-tail, All-append, All-map, All-filter, All-weaker}
 use Rattle.ft_values.specs.declared.rows.RowChange.{RowChange}

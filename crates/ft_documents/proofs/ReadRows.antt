@@ -1,8 +1,6 @@
 -- Documents out of the rows of their cells.
-use Rattle.std.proofs.Common.{◌≡◌, ℕ, suc, ◌+◌, Bool, true, false, cond, ◌&&◌, ◌==◌, List, [], ◌∷◌, ◌++◌, map, length, Option, Some, None, ℤ, pos, refl, sym, ap, ◌∙◌, arith, eqb-true, append-nil}
-use Rattle.std.specs.Prelude.{filter, reverse, slice_get, option_map, unwrap_or, nat_lt, nat_le, not}
-use Rattle.std.specs.List.{list_all, flat_map, enumerate_from}
-use Rattle.std.specs.Ordering.{int_cmp, int_eq}
+use Rattle.std.proofs.Common.{◌≡◌, ℕ, suc, ◌+◌, Bool, true, false, cond, ◌&&◌, ◌==◌, List, [], ◌∷◌, ◌++◌, map, length, Option, Some, None, ℤ, pos, refl, sym, ap, ◌∙◌, arith, eqb-true, append-nil, filter, reverse, slice_get, option_map, unwrap_or, nat_lt, nat_le, not, flat_map, int_cmp, int_eq}
+use Rattle.std.specs.List.{list_all, enumerate_from}
 use Rattle.std.specs.Cmp.{int_cmp_total}
 use Rattle.std.specs.FinMap.Entries.{find, where_key, below_all, is_sorted}
 use Rattle.std.proofs.lemmas.Bool.{and_parts}

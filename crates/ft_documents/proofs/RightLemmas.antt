@@ -1,9 +1,7 @@
 -- The row changes of rewrites lead to the rows and the index rows of the documents as they are to
 -- be.
-use Rattle.std.proofs.Common.{◌≡◌, ℕ, true, false, cond, ◌&&◌, List, [], ◌∷◌, ◌++◌, map, length, Option, Some, None, ℤ, refl, sym, ap, subst, ◌∙◌, arith}
-use Rattle.std.specs.Prelude.{filter, All, ◌==◌}
-use Rattle.std.specs.List.{flat_map, list_all}
-use Rattle.std.specs.Ordering.{int_cmp, int_eq}
+use Rattle.std.proofs.Common.{◌≡◌, ℕ, true, false, cond, ◌&&◌, List, [], ◌∷◌, ◌++◌, map, length, Option, Some, None, ℤ, refl, sym, ap, subst, ◌∙◌, arith, filter, All, ◌==◌, flat_map, int_cmp, int_eq}
+use Rattle.std.specs.List.{list_all}
 use Rattle.std.specs.FinMap.Entries.{find}
 use Rattle.std.proofs.lemmas.Bool.{and_parts}
 use Rattle.std.proofs.lemmas.Bool.Decides.{nat_tests}
@@ -20,10 +18,9 @@ use Rattle.ft_documents.specs.Rewrite.{Rewrite, befores, afters, under_docids, r
 use Rattle.ft_documents.specs.RewriteRows.{all_put, same_spot, same_spots, gone, changed, numbered_cells, goes, dropped_documents, put_documents, dropped_lists, put_lists, dropped_sizes, put_sizes, sized, index_lists_of, sizes_of, list_changes, size_changes, rewrite_changes}
 use Rattle.ft_documents.proofs.StoreKeys.{list_exact, list_total, cell_exact, cell_total, column_exact, column_total, list_keys, cell_keys}
 use Rattle.ft_documents.proofs.KeyedRows.{tie, all_dropped, sorted_put, sorted_dropped}
-use Rattle.ft_documents.proofs.DocumentRows.{rows_by}
+use Rattle.ft_documents.proofs.DocumentRows.{rows_by, one_by}
 use Rattle.ft_documents.proofs.RewriteLemmas.{sorted_rewritten, rows_replaced, rows_renewed}
 use Rattle.ft_documents.proofs.RowKinds.{cell_row, keyed_cell, content_cells, keyed_again, one_list, lists_are, size_of, sized_again, sizes_again, counts, stored_sizes, sizes_are}
-use Rattle.ft_documents.proofs.DocumentRows.{one_by}
 use Rattle.ft_documents.proofs.OwnRows.{own, joined, own_all_put, own_all_dropped}
 use Rattle.ft_documents.proofs.AppliedLemmas.{applied_append, put_lists_applied, dropped_lists_applied, put_sizes_applied, dropped_sizes_applied, new_cells, put_documents_applied, cells_dropped, documents_dropped, dropped_documents_applied, sorted_cells_dropped, own_dropped}
 use Rattle.ft_documents.proofs.CellsRight.{wide, cells_right}

@@ -1,6 +1,5 @@
 -- Rows that stand in order are lists.
-use Rattle.std.proofs.Common.{add-one, ◌≡◌, ℕ, ℤ, zero, ◌+◌, ◌<◌, get_or, pos, negsuc, is_lt, Bool, true, false, nat_lt, ◌==◌, ◌&&◌, ◌||◌, List, [], ◌∷◌, map, length, suc, refl, sym, ap, ◌∙◌, arith, IsSorted}
-use Rattle.std.specs.Prelude.{int_lt, ◌<ℤ◌}
+use Rattle.std.proofs.Common.{add-one, ◌≡◌, ℕ, ℤ, zero, ◌+◌, ◌<◌, get_or, pos, negsuc, is_lt, Bool, true, false, nat_lt, ◌==◌, ◌&&◌, ◌||◌, List, [], ◌∷◌, map, length, suc, refl, sym, ap, ◌∙◌, arith, IsSorted, int_lt, ◌<ℤ◌}
 use Rattle.std.specs.List.{AllByRecursion, AllAdjacentBelow, IsAllAdjacentAnswer, list_all}
 use Rattle.std.specs.Ordering.{ordering_reverse}
 use Rattle.std.proofs.lemmas.Bool.Decides.{nat_tests}

@@ -1,8 +1,6 @@
 -- The cells, lists and sizes of documents as rows under keys.
-use Rattle.std.proofs.Common.{◌≡◌, ℕ, Bool, true, false, cond, List, [], ◌∷◌, ◌++◌, map, length, Option, ℤ, pos, refl, sym, ap, ◌∙◌, nat_lt}
-use Rattle.std.specs.Prelude.{filter, option_map}
-use Rattle.std.specs.List.{flat_map, enumerate_from}
-use Rattle.std.specs.Ordering.{int_cmp}
+use Rattle.std.proofs.Common.{◌≡◌, ℕ, Bool, true, false, cond, List, [], ◌∷◌, ◌++◌, map, length, Option, ℤ, pos, refl, sym, ap, ◌∙◌, nat_lt, filter, option_map, flat_map, int_cmp}
+use Rattle.std.specs.List.{enumerate_from}
 use Rattle.std.specs.FinMap.Entries.{find, is_sorted}
 use Rattle.std.proofs.lemmas.List.{map-append}
 use Rattle.std.proofs.lemmas.Simd.{map-map}

@@ -1,9 +1,7 @@
 -- Rows are a content where their columns, the numbers of those that aren't indexed, and their cells
 -- are those of one.
-use Rattle.std.proofs.Common.{◌≡◌, ℕ, ◌+◌, ◌<◌, ◌≤◌, Bool, true, not, ◌&&◌, ◌||◌, List, [], ◌∷◌, map, length, ℤ, pos, refl, sym, ap, subst, ◌∙◌, ltb-true, lt-ltb, le-leb, nat_lt, nat_le}
-use Rattle.std.specs.Prelude.{IsTrue}
+use Rattle.std.proofs.Common.{◌≡◌, ℕ, ◌+◌, ◌<◌, ◌≤◌, Bool, true, not, ◌&&◌, ◌||◌, List, [], ◌∷◌, map, length, ℤ, pos, refl, sym, ap, subst, ◌∙◌, ltb-true, lt-ltb, le-leb, nat_lt, nat_le, IsTrue, int_eq, is_eq}
 use Rattle.std.specs.List.{list_any, list_all, enumerate_from}
-use Rattle.std.specs.Ordering.{int_eq, is_eq}
 use Rattle.std.specs.Cmp.{int_cmp_total, tied_itself, eq_by_cmp_equiv}
 use Rattle.std.specs.Cmp.Lexicographic.{pointwise}
 use Rattle.std.specs.FinMap.{int_cmp-IsAntisymmetric}

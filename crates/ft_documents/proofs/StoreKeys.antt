@@ -1,8 +1,6 @@
 -- The keys of a store's rows: their orders decide, and a table's keys are ordered by the rest.
-use Rattle.std.proofs.Common.{◌≡◌, ℤ, refl, ap}
-use Rattle.std.specs.declared.cmp.Ordering.{Ordering}
-use Rattle.std.specs.declared.cmp.Ordering.TheVariants.{Less, Equal, Greater}
-use Rattle.std.specs.Ordering.{is_eq, is_lt, ordering_then}
+use Rattle.std.proofs.Common.{◌≡◌, ℤ, refl, ap, Ordering, Less, Equal, Greater, is_eq, is_lt}
+use Rattle.std.specs.Ordering.{ordering_then}
 use Rattle.std.specs.Cmp.{IsTotalOrder, int_cmp_total}
 use Rattle.std.specs.Cmp.Lexicographic.{nat_list_cmp_total}
 use Rattle.std.proofs.lemmas.Cmp.{on_total, then_total}

@@ -1,6 +1,6 @@
 -- The first hits of a walk.
-use Rattle.std.proofs.Common.{◌≡◌, ℕ, ◌≤◌, ◌<◌, ℤ, Bool, true, false, List, [], ◌++◌, Option, Some, None, length, map, take, unwrap_or, ◌^◌, refl, sym, ap, ◌∙◌, arith}
-use Rattle.std.proofs.lemmas.List.{take_all, map-append}
+use Rattle.std.proofs.Common.{◌≡◌, ℕ, ◌≤◌, ◌<◌, ℤ, Bool, true, false, List, [], ◌++◌, Option, Some, None, length, map, take, unwrap_or, ◌^◌, refl, sym, ap, ◌∙◌, arith, take_all}
+use Rattle.std.proofs.lemmas.List.{map-append}
 use Rattle.std.proofs.Math.Seq.{take-append_seam}
 use Rattle.ft_query.specs.declared.walk.Hit.{Hit}
 use Rattle.ft_query.specs.declared.walk.Offset.{Offset}

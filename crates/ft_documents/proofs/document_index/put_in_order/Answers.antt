@@ -1,11 +1,8 @@
 -- They stand in order, or a sort that keeps ties puts them so.
-use Rattle.std.proofs.Common.{◌≡◌, ◌+◌, Bool, true, false, not, ◌&&◌, List, map, get_or, ℤ, pos, refl, sym, ap, ◌∙◌, arith, rules}
-use Rattle.std.specs.Prelude.{filter}
-use Rattle.std.specs.declared.cmp.Ordering.{Ordering}
-use Rattle.std.specs.declared.cmp.Ordering.TheVariants.{Less, Equal, Greater}
+use Rattle.std.proofs.Common.{◌≡◌, ◌+◌, Bool, true, false, not, ◌&&◌, List, map, get_or, ℤ, pos, refl, sym, ap, ◌∙◌, arith, rules, filter, Ordering, Less, Equal, Greater, int_cmp, int_eq, is_eq, is_le, is_lt}
 use Rattle.std.specs.Cmp.{int_cmp_total}
 use Rattle.std.specs.List.Sorted.{ties}
-use Rattle.std.specs.Ordering.{int_cmp, int_eq, is_eq, is_le, is_lt, ordering_reverse}
+use Rattle.std.specs.Ordering.{ordering_reverse}
 use Rattle.std.proofs.lemmas.List.Sorted.{answers_always}
 use Rattle.ft_rows.specs.declared.terms.Posting.{Posting}
 use Rattle.ft_rows.specs.Terms.{spot_of}

@@ -1,6 +1,5 @@
 -- one list more
-use Rattle.std.proofs.Common.{◌≡◌, ◌≤◌, ◌++◌, ◌∷◌, [], Some, None, List, ℕ, map, length, take, drop, string_bytes, refl, sym, ap, ◌∙◌, append_assoc, append-nil, arith, rules, to_z, of_z, w64}
-use Rattle.std.specs.Prelude.{slice_get}
+use Rattle.std.proofs.Common.{◌≡◌, ◌≤◌, ◌++◌, ◌∷◌, [], Some, None, List, ℕ, map, length, take, drop, string_bytes, refl, sym, ap, ◌∙◌, append_assoc, append-nil, arith, rules, to_z, of_z, w64, slice_get}
 use Rattle.std.proofs.lemmas.Iterator.{YieldsList-from_slice, YieldsList-from_map, items_from_collect}
 use Rattle.std.proofs.lemmas.Iterator.Consumers.{YieldsList-at}
 use Rattle.std.proofs.lemmas.List.{map-append}

@@ -1,5 +1,4 @@
-use Rattle.std.proofs.Common.{◌≡◌, ◌++◌, ◌∷◌, [], cond, not, map, ℤ, sym, ap, ◌∙◌, to_z-of_z, to_z, of_z, w64, rules}
-use Rattle.std.specs.Ordering.{int_eq}
+use Rattle.std.proofs.Common.{◌≡◌, ◌++◌, ◌∷◌, [], cond, not, map, ℤ, sym, ap, ◌∙◌, to_z-of_z, to_z, of_z, w64, rules, int_eq}
 use Rattle.std.specs.FinMap.Entries.{find}
 use Rattle.ft_rows.specs.Store.{column_key_cmp, PutSize}
 use Rattle.ft_rows.specs.Changes.{shown_change}

@@ -1,6 +1,5 @@
 -- the changes so far, and those of the sizes that are left
-use Rattle.std.proofs.Common.{◌≡◌, ◌++◌, map}
-use Rattle.std.specs.Ordering.{int_eq}
+use Rattle.std.proofs.Common.{◌≡◌, ◌++◌, map, int_eq}
 use Rattle.ft_rows.specs.Store.{column_key_cmp}
 use Rattle.ft_rows.specs.Changes.{shown_change}
 use Rattle.ft_documents.specs.RewriteRows as rows

@@ -1,15 +1,12 @@
 -- one document's list at a time
-use Rattle.std.proofs.Common.{◌≡◌, ◌∙◌, Some, map, ap, to_z, of_z, w64, arith, rules}
-use Rattle.std.specs.Prelude.{slice_get}
+use Rattle.std.proofs.Common.{◌≡◌, ◌∙◌, Some, map, ap, to_z, of_z, w64, arith, rules, slice_get, tests, int_eq}
 use Rattle.std.specs.List.{prefix_len}
-use borrow.Author.Tests.{tests}
 use Rattle.std.proofs.lemmas.Iterator.{YieldsList-from_slice, YieldsList-from_map, items_from_collect}
 use Rattle.std.proofs.lemmas.Iterator.Consumers.{YieldsList-at, count_from_yields_List}
 use Rattle.std.proofs.lemmas.Iterator.Search.{YieldsList-from_take_while}
 use Rattle.std.proofs.lemmas.List.Folds.{length-prefix_len}
 use Rattle.std.proofs.lemmas.List.Sums.{prefix_len-le-length}
 use Rattle.std.proofs.lemmas.Result.{IfOk-at_ok}
-use Rattle.std.specs.Ordering.{int_eq}
 use Rattle.ft_query.specs.Documents.{plain_list}
 use Rattle.ft_documents.specs.declared.lists.Placed.{Placed}
 use Rattle.ft_documents.specs.Placed.{place_in, list_with}

@@ -1,18 +1,15 @@
 -- a row more
-use Rattle.std.proofs.Common.{◌≡◌, ◌+◌, inl, inr, Err, Result, map, zip, drop, refl, sym, ap, subst, ◌∙◌, rules, true, false, None, ℤ, unwrap_or, get_or, ℕ, zero, suc, Bool, List, [], ◌∷◌}
-use Rattle.std.specs.Prelude.{slice_get}
-use Rattle.std.specs.Ordering.{int_cmp}
+use Rattle.std.proofs.Common.{◌≡◌, ◌+◌, inl, inr, Err, Result, map, zip, drop, refl, sym, ap, subst, ◌∙◌, rules, true, false, None, ℤ, unwrap_or, get_or, ℕ, zero, suc, Bool, List, [], ◌∷◌, slice_get, int_cmp}
 use Rattle.std.proofs.lemmas.List.{drop_all}
 use Rattle.std.proofs.lemmas.Option.{slice_get_read}
 use Rattle.ft_values.specs.declared.fault.Fault.{Fault}
 use Rattle.ft_content.specs.Deserved.{inserted_rows}
-use Rattle.ft_content.specs.Views.{cells_of, column_of}
+use Rattle.ft_content.specs.Views.{cells_of, column_of, last_docid}
 use Rattle.ft_documents.specs.declared.new_documents.NewDocuments.{NewDocuments}
 use Rattle.std.specs.List.{AllByRecursion}
 use Rattle.std.specs.FinMap.Entries.{find, is_sorted}
 use Rattle.ft_values.specs.Cells.{Cell}
 use Rattle.ft_content.specs.Content.{Documents}
-use Rattle.ft_content.specs.Views.{last_docid}
 use Rattle.ft_documents.specs.NewDocuments.{shown_new, shown_documents, with_new, AreBeside}
 use Rattle.ft_documents.specs.Inserted.{MakesDocuments}
 use Rattle.ft_documents.specs.RewriteRows.{all_put}

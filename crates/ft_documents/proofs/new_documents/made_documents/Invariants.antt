@@ -1,7 +1,5 @@
 -- What comes of the rows that are left, with the documents of those so far, is what comes of all.
-use Rattle.std.proofs.Common.{◌≡◌, map, zip, drop}
-use Rattle.std.specs.Prelude.{IsTrue}
-use Rattle.std.specs.Ordering.{int_cmp}
+use Rattle.std.proofs.Common.{◌≡◌, map, zip, drop, IsTrue, int_cmp}
 use Rattle.std.specs.FinMap.Entries.{is_sorted}
 use Rattle.ft_content.specs.Content.{Documents}
 use Rattle.ft_content.specs.Deserved.{inserted_rows}

@@ -1,8 +1,5 @@
 -- whole groups, each small, and one that isn't full
-use Rattle.std.proofs.Common.{◌≡◌, ◌++◌, ◌<◌, All, map}
-use Rattle.std.specs.Prelude.{sum_by}
-use Rattle.std.specs.Vec.{vec_items}
-use Rattle.std.specs.List.{flat_map}
+use Rattle.std.proofs.Common.{◌≡◌, ◌++◌, ◌<◌, All, map, sum_by, vec_items, flat_map}
 use Rattle.ft_documents.specs.Rewrite.{shown_rewrite, rewrite_bytes, IsSmall}
 use Rattle.ft_documents.proofs.rewrite.in_groups.Given as goal
 

@@ -1,9 +1,7 @@
 -- one value more, and all of them
-use Rattle.std.proofs.Common.{ℤ, ◌<◌, ◌^◌, ◌++◌, length, map, refl, ap, sym, ◌∙◌, rules, to_z, of_z, w64, to_z-of_z}
-use Rattle.std.specs.Prelude.{filter}
+use Rattle.std.proofs.Common.{ℤ, ◌<◌, ◌^◌, ◌++◌, length, map, refl, ap, sym, ◌∙◌, rules, to_z, of_z, w64, to_z-of_z, filter, map-id}
 use Rattle.std.proofs.lemmas.Iterator.Adapters.{YieldsList-from_vec}
 use Rattle.std.proofs.lemmas.Iterator.Consumers.{YieldsList-from_enumerate, YieldsList-end}
-use Rattle.std.proofs.lemmas.List.{map-id}
 use Rattle.ft_values.specs.Cells.{shown_value}
 use Rattle.ft_rows.specs.Changes.{shown_change}
 use Rattle.ft_documents.proofs.Steps.{change_more}

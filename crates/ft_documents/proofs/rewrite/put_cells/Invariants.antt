@@ -1,6 +1,5 @@
 -- the changes of the cells so far
-use Rattle.std.proofs.Common.{◌≡◌, ◌++◌, map}
-use Rattle.std.specs.Prelude.{filter}
+use Rattle.std.proofs.Common.{◌≡◌, ◌++◌, map, filter}
 use Rattle.ft_values.specs.Cells.{shown_value}
 use Rattle.ft_rows.specs.Changes.{shown_change}
 use Rattle.ft_documents.proofs.CellSteps.{placed_cell, is_put, put_at}

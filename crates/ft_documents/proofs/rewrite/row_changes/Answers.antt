@@ -1,8 +1,5 @@
-use Rattle.std.proofs.Common.{◌≡◌, ◌≤◌, ◌+◌, ◌++◌, ◌∷◌, ◌&&◌, [], List, Bool, cond, not, true, false, map, drop, length, refl, sym, subst, ap, ◌∙◌, to_z-of_z, to_z, of_z, w64, rules}
-use Rattle.std.specs.Prelude.{is_some, IsTrue}
-use Rattle.std.specs.List.{flat_map}
+use Rattle.std.proofs.Common.{◌≡◌, ◌≤◌, ◌+◌, ◌++◌, ◌∷◌, ◌&&◌, [], List, Bool, cond, not, true, false, map, drop, length, refl, sym, subst, ap, ◌∙◌, to_z-of_z, to_z, of_z, w64, rules, is_some, IsTrue, flat_map, int_eq}
 use Rattle.std.specs.FinMap.Entries.{is_sorted}
-use Rattle.std.specs.Ordering.{int_eq}
 use Rattle.std.proofs.lemmas.List.{length-map, drop_all}
 use Rattle.std.proofs.lemmas.List.Elements.{All-same}
 use Rattle.ft_rows.specs.Store.{DropCells, column_key_cmp}

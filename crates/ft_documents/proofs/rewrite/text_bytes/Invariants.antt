@@ -1,6 +1,5 @@
 -- the bytes so far
-use Rattle.std.proofs.Common.{◌≡◌, ◌-◌, ◌^◌, min, map, take}
-use Rattle.std.specs.Prelude.{sum_by}
+use Rattle.std.proofs.Common.{◌≡◌, ◌-◌, ◌^◌, min, map, take, sum_by}
 use Rattle.ft_values.specs.Cells.{shown_value}
 use Rattle.ft_documents.specs.Rewrite.{cell_bytes}
 use Rattle.ft_documents.proofs.rewrite.text_bytes.Given as goal

@@ -1,8 +1,8 @@
 -- one document more, and the index of all
-use Rattle.std.proofs.Common.{◌≡◌, [], ◌∷◌, List, ℤ, map, sym, ap, subst, ◌∙◌, rules, to_z, of_z, w64}
+use Rattle.std.proofs.Common.{◌≡◌, [], ◌∷◌, List, ℤ, map, sym, ap, subst, ◌∙◌, rules, to_z, of_z, w64, map-id}
 use Rattle.std.proofs.lemmas.Iterator.Adapters.{YieldsList-from_vec}
 use Rattle.std.proofs.lemmas.Iterator.Consumers.{YieldsList-end}
-use Rattle.std.proofs.lemmas.List.{map-append, map-id}
+use Rattle.std.proofs.lemmas.List.{map-append}
 use Rattle.ft_content.specs.Content.{Content, CellRow, Column, Documents, gathered}
 use Rattle.ft_content.specs.Index.{index_rows}
 use Rattle.ft_content.specs.Laws.{content_with}

@@ -1,5 +1,4 @@
-use Rattle.std.proofs.Common.{◌≡◌, ℕ, false, true, map, string_bytes, sym, ap, subst, ◌∙◌}
-use Rattle.std.specs.Ordering.{int_eq}
+use Rattle.std.proofs.Common.{◌≡◌, ℕ, false, true, map, string_bytes, sym, ap, subst, ◌∙◌, int_eq}
 use Rattle.std.specs.Cmp.Lexicographic.{pointwise}
 use Rattle.std.proofs.lemmas.List.{length-map}
 use Rattle.ft_content.specs.Content.{are_columns}

@@ -1,7 +1,6 @@
 -- one column more
-use Rattle.std.proofs.Common.{◌≡◌, ◌+◌, ◌++◌, ◌∷◌, [], not, map, take, sym, ap, ◌∙◌}
+use Rattle.std.proofs.Common.{◌≡◌, ◌+◌, ◌++◌, ◌∷◌, [], not, map, take, sym, ap, ◌∙◌, int_eq}
 use Rattle.std.specs.List.{list_any}
-use Rattle.std.specs.Ordering.{int_eq}
 use Rattle.std.proofs.lemmas.List.{map-append, take_more}
 use Rattle.ft_content.specs.Views.{column_of}
 use Rattle.ft_documents.specs.Standing.{numbered_column}

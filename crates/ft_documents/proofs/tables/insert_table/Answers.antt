@@ -1,8 +1,6 @@
 -- in the place that was found
-use Rattle.std.proofs.Common.{◌≡◌, ◌≤◌, Bool, not, map, length, unwrap_or, sym, ap, ◌∙◌, rules}
-use Rattle.std.specs.Prelude.{int_lt}
-use Rattle.std.specs.List.{insert, remove, position_or_len}
-use borrow.Author.Tests.{tests}
+use Rattle.std.proofs.Common.{◌≡◌, ◌≤◌, Bool, not, map, length, unwrap_or, sym, ap, ◌∙◌, rules, int_lt, insert, remove, tests}
+use Rattle.std.specs.List.{position_or_len}
 use Rattle.std.proofs.lemmas.List.Sums.{prefix_len-le-length}
 use Rattle.std.proofs.lemmas.Iterator.{YieldsList-from_slice}
 use Rattle.std.proofs.lemmas.Iterator.Search.{position_from_yields_List}

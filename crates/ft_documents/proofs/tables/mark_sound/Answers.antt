@@ -1,7 +1,6 @@
 -- one table more, and all of them
-use Rattle.std.proofs.Common.{◌≡◌, ◌+◌, ◌<◌, true, false, cond, map, length, drop, get_or, sym, ap, ◌∙◌, arith, rules, to_z, of_z, w64, to_z-of_z}
-use Rattle.std.specs.Ordering.{int_eq}
-use Rattle.std.proofs.lemmas.List.{take-append-le, take_all}
+use Rattle.std.proofs.Common.{◌≡◌, ◌+◌, ◌<◌, true, false, cond, map, length, drop, get_or, sym, ap, ◌∙◌, arith, rules, to_z, of_z, w64, to_z-of_z, int_eq, take_all}
+use Rattle.std.proofs.lemmas.List.{take-append-le}
 use Rattle.ft_query.proofs.Sweeps.{swept, sweep_next, sweep_end}
 use Rattle.ft_values.specs.declared.table.TableInfo.{TableInfo}
 use Rattle.ft_content.specs.Views.{shown_info}

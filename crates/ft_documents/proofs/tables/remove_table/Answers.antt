@@ -1,7 +1,5 @@
 -- the tables that pass
-use Rattle.std.proofs.Common.{◌≡◌, not, List, [], ◌∷◌, map, cond, true, false, ℤ, refl, ap, ◌∙◌, rules}
-use Rattle.std.specs.Prelude.{filter}
-use Rattle.std.specs.Ordering.{int_eq}
+use Rattle.std.proofs.Common.{◌≡◌, not, List, [], ◌∷◌, map, cond, true, false, ℤ, refl, ap, ◌∙◌, rules, filter, int_eq}
 use Rattle.std.proofs.lemmas.Fn.{filter_same}
 use Rattle.ft_values.specs.declared.table.TableInfo.{TableInfo}
 use Rattle.ft_content.specs.Views.{shown_info}

@@ -1,7 +1,6 @@
 -- one column more
-use Rattle.std.proofs.Common.{◌≡◌, ℤ, ◌+◌, ◌<◌, ◌++◌, List, [], ◌∷◌, map, length, take, cond, pos, sym, ap, ◌∙◌, arith, rules, to_z, w64, Vec, Global}
+use Rattle.std.proofs.Common.{◌≡◌, ℤ, ◌+◌, ◌<◌, ◌++◌, List, [], ◌∷◌, map, length, take, cond, pos, sym, ap, ◌∙◌, arith, rules, to_z, w64, Vec, Global, length-take-le}
 use Rattle.std.proofs.lemmas.List.{map-append, take_more, length-map}
-use Rattle.std.proofs.lemmas.List.{length-take-le}
 use Rattle.ft_values.specs.declared.table.Column.{Column}
 use Rattle.ft_content.specs.Content.{skipped_from}
 use Rattle.ft_content.specs.Views.{column_of}

@@ -1,10 +1,7 @@
 -- what leaves a docid stands by what comes under another, by rising docid
-use Rattle.std.proofs.Common.{◌≡◌, ℤ, ℕ, Bool, true, false, cond, List, [], ◌∷◌, ◌++◌, map, option_map, None, refl, sym, ap, subst, ◌∙◌, rules, to_z, of_z, w64, to_z-of_z}
-use Rattle.std.specs.Prelude.{int_lt}
-use Rattle.std.specs.List.{insert}
+use Rattle.std.proofs.Common.{◌≡◌, ℤ, ℕ, Bool, true, false, cond, List, [], ◌∷◌, ◌++◌, map, option_map, None, refl, sym, ap, subst, ◌∙◌, rules, to_z, of_z, w64, to_z-of_z, int_lt, insert, int_cmp, int_eq, is_lt}
 use mir.Val.{bool_byte}
 use Rattle.ft_content.specs.Views.{cells_of}
-use Rattle.std.specs.Ordering.{int_cmp, int_eq, is_lt}
 use Rattle.ft_documents.specs.declared.rewrite.Rewrite as source
 use Rattle.ft_documents.specs.Rewrite.{shown_rewrite}
 use Rattle.ft_documents.specs.Updated.{leaving, coming, moved_from, MovesOnly}

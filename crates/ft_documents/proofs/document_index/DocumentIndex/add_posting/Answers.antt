@@ -1,8 +1,5 @@
-use Rattle.std.proofs.Common.{◌++◌, ◌∷◌, [], refl, ap, subst, ◌∙◌, cond, Some, String, rules}
-use Rattle.std.specs.Prelude.{IsSome}
-use Rattle.std.specs.declared.alloc.Global.{Global}
+use Rattle.std.proofs.Common.{◌++◌, ◌∷◌, [], refl, ap, subst, ◌∙◌, cond, Some, String, rules, IsSome, Global, string_eq}
 use Rattle.std.specs.Map.{lookup}
-use Rattle.std.specs.String.{string_eq}
 use Rattle.ft_documents.proofs.GroupLemmas.{held, posting_joins}
 use Rattle.ft_documents.proofs.document_index.DocumentIndex.add_posting.Goals as goal
 

@@ -1,9 +1,7 @@
 -- the docid of the row is new, or refused
-use Rattle.std.proofs.Common.{◌≡◌, inl, inr, ℤ, Bool, List, Vec, Global, None, Some, Ok, Err, map, zip, Option, Result, FitsSigned, w64, to_z, of_z, to_z-of_z, sym, ap, subst, ◌∙◌, rules}
-use Rattle.std.specs.Prelude.{slice_get, is_some, IfSome, MatchOption}
+use Rattle.std.proofs.Common.{◌≡◌, inl, inr, ℤ, Bool, List, Vec, Global, None, Some, Ok, Err, map, zip, Option, Result, FitsSigned, w64, to_z, of_z, to_z-of_z, sym, ap, subst, ◌∙◌, rules, slice_get, is_some, IfSome, MatchOption, int_cmp, is_eq}
 use Rattle.std.specs.List.{AllByRecursion}
 use Rattle.std.specs.Map.{lookup}
-use Rattle.std.specs.Ordering.{int_cmp, is_eq}
 use Rattle.std.specs.Cmp.{int_cmp_total}
 use Rattle.std.specs.FinMap.Entries.{find, put, is_sorted, is_sorted-put}
 use Rattle.std.proofs.lemmas.Map.Lookups.{exact_signed}
