@@ -5,7 +5,7 @@ use Rattle.std.specs.Cmp.{int_cmp_total}
 use Rattle.std.specs.FinMap.{int_cmp-IsAntisymmetric}
 use Rattle.std.specs.FinMap.Entries.{find, where_key, below_all, is_sorted, is_sorted-where_key, find-where_key, same_entries}
 use Rattle.std.proofs.lemmas.Bool.{and_parts}
-use Rattle.std.proofs.lemmas.List.Elements.{All-head, All-tail}
+use Rattle.std.proofs.lemmas.List.Elements.{All-map}
 use Rattle.std.proofs.lemmas.Map.Lookups.{exact_signed}
 use Rattle.std.proofs.lemmas.Slice.Eq.{bytes_eq-Decides}
 use Rattle.ft_values.specs.Cells.{Cell, Null, Int, Text}
@@ -14,7 +14,7 @@ use Rattle.ft_content.specs.Content.{Documents}
 use Rattle.ft_documents.specs.Rewrite.{Rewrite, under_docids, rewritten}
 use Rattle.ft_documents.specs.RewriteRows.{all_put, same_cell, was_there, changed, numbered_cells, goes}
 use Rattle.ft_documents.proofs.StoreKeys.{column_total, column_exact}
-use Rattle.ft_documents.proofs.KeyedRows.{true_of, of_true, tie, none_below, sorted_put, find_all_put, or_else, fresh, changed_found, sorted-filter, turned_round}
+use Rattle.ft_documents.proofs.KeyedRows.{found_holds, true_of, of_true, tie, none_below, sorted_put, find_all_put, or_else, fresh, changed_found, sorted-filter, turned_round}
 use Rattle.ft_documents.proofs.CellSteps.{numbered_from}
 use Rattle.ft_documents.proofs.DocumentRows.{rows_by, one_by, sorted_by, find_by, sorted_numbered}
 use Rattle.ft_documents.proofs.RewriteLemmas.{Cells, written, before_found, sorted_rewritten, last_rows}
@@ -120,12 +120,7 @@ written_cells q (Some b) (Some a) w =
 
 -- what holds of all rewrites holds of the one that is found
 pub found_passes : (P : Rewrite → Type 0) (docid : ℤ) (rewrites : List Rewrite) (r : Rewrite) → All P rewrites → find int_cmp docid (under_docids rewrites) ≡ Some r → P r
-found_passes P docid [] r h = λ is. absurd (let no = is in cc)
-found_passes P docid (x ∷ xs) r h =
-    elim (int_eq docid x.docid) as (λ b. cond b (Some x) (find int_cmp docid (under_docids xs)) ≡ Some r → P r) [
-      | true ↦ λ is. let e : x ≡ r = ap (λ o. unwrap_or o x) is in subst P e (All-head P x xs h)
-      | false ↦ λ is. found_passes P docid xs r (All-tail P x xs h) is
-    ]
+found_passes P docid rewrites r h = found_holds int_cmp int_cmp_total int_cmp-IsAntisymmetric (λ (e : ℤ × Rewrite). P e.1) docid r (under_docids rewrites) (All-map (λ (e : ℤ × Rewrite). P e.1) (λ (r : Rewrite). (r.docid, r)) rewrites h)
 
 pub cells_right : (documents : Documents) (rewrites : List Rewrite) → is_sorted int_cmp documents ≡ true → is_sorted int_cmp (under_docids rewrites) ≡ true → All (λ (r : Rewrite). r.before ≡ find int_cmp r.docid documents) rewrites → All (λ (r : Rewrite). wide r.before r.after) rewrites →
     all_put column_key_cmp (rows_by new_cells (under_docids rewrites)) (documents_dropped (filter goes rewrites) (rows_by numbered_cells documents)) ≡ rows_by numbered_cells (rewritten rewrites documents)

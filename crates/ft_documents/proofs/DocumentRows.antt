@@ -19,8 +19,7 @@ rows_by rows_in es = flat_map (λ e. under e.0 (rows_in e.1)) es
 
 then_less : (o r : Ordering) → is_lt o ≡ true → is_lt (ordering_then o r) ≡ true
 then_less Less r h = refl
-then_less Equal r h = absurd (let no = h in cc)
-then_less Greater r h = absurd (let no = h in cc)
+then_less _ r h = absurd (let no = h in cc)
 
 module _ {V : Type 0} where
   -- what is found among rows of one docid, and after them

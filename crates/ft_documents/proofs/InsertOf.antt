@@ -4,19 +4,14 @@ use Rattle.std.specs.List.{AllByRecursion, list_all}
 use Rattle.std.specs.Cmp.{int_cmp_total, tied_itself, eq_by_cmp_equiv}
 use Rattle.std.specs.FinMap.Entries.{find, below_all, is_sorted}
 use Rattle.std.proofs.lemmas.Bool.{and_parts}
+use Rattle.std.proofs.lemmas.List.Elements.{All-from_recursion}
+use Rattle.std.proofs.lemmas.Map.Lookups.{exact_signed}
+use Rattle.sqlite_keyed.proofs.ListLemmas.{all_from_test}
 use Rattle.ft_values.specs.Cells.{Cell}
 use Rattle.ft_content.specs.Content.{Documents, Content, IsContent, is_document}
 use Rattle.ft_documents.specs.Rewrite.{Rewrite, AreOf, FitIfAny, under_docids, rewritten}
 use Rattle.ft_documents.proofs.RewriteLemmas.{written, find_rewritten}
-use Rattle.ft_documents.proofs.KeyedRows.{below_apart}
-
-all_of : {A : Type 0} (P : A → Type 0) (xs : List A) → AllByRecursion P xs → All P xs
-all_of P [] h = λ k d inside. absurd (omega (arith, inside))
-all_of {A} P (x ∷ xs) h = go (all_of P xs h.1)
-  where
-    go : All P xs → (k : ℕ) (d : A) → k < length (x ∷ xs) → P (get_or (x ∷ xs) k d)
-    go rest zero d inside = h.0
-    go rest (suc k) d inside = rest k d (omega (arith, inside))
+use Rattle.ft_documents.proofs.KeyedRows.{below_apart, found_holds}
 
 -- ---- each rewrite is found under its docid
 
@@ -35,14 +30,9 @@ each_found (r ∷ rs) sorted =
 
 -- a document that is found among fit ones is fit
 found_fit : (width : ℕ) (documents : Documents) (docid : ℤ) (cells : List Cell) → list_all (is_document width) documents ≡ true → find int_cmp docid documents ≡ Some cells → is_document width (docid, cells) ≡ true
-found_fit width [] docid cells fit found = absurd (let no = found in cc)
-found_fit width (d ∷ ds) docid cells fit found =
-    let parts = and_parts (is_document width d) (list_all (is_document width) ds) fit in
-    go (int_eq docid d.0) found (found_fit width ds docid cells parts.1) parts.0
-  where
-    go : (b : Bool) → cond b (Some d.1) (find int_cmp docid ds) ≡ Some cells → (find int_cmp docid ds ≡ Some cells → is_document width (docid, cells) ≡ true) → is_document width d ≡ true → is_document width (docid, cells) ≡ true
-    go true is rest here = subst (λ cs. is_document width (docid, cs) ≡ true) (ap (λ o. unwrap_or o cells) is) here
-    go false is rest here = rest is
+found_fit width documents docid cells fit found =
+    let P : ℤ × List Cell → Type 0 = λ d. is_document width d ≡ true in
+    found_holds int_cmp int_cmp_total exact_signed P docid cells documents (All-from_recursion P documents (all_from_test (is_document width) documents fit)) found
 
 fit_if_any : (width : ℕ) (documents : Documents) (r : Rewrite) → list_all (is_document width) documents ≡ true → find int_cmp r.docid documents ≡ r.after → FitIfAny width r
 fit_if_any width documents r fit found = go r.after found
@@ -63,6 +53,6 @@ pub are_of : (name : List ℕ) (content : Content) (rewrites : List Rewrite) →
     IsContent name (record content { documents = rewritten rewrites content.documents }) → AreOf content rewrites
 are_of name content rewrites rising befores is = record {
   rising = rising;
-  befores = all_of (λ (r : Rewrite). r.before ≡ find int_cmp r.docid content.documents) rewrites befores;
-  afters = all_of (FitIfAny (length content.columns)) rewrites (all_fit (length content.columns) content.documents rewrites rewrites rising is.documents (each_found rewrites rising));
+  befores = All-from_recursion (λ (r : Rewrite). r.before ≡ find int_cmp r.docid content.documents) rewrites befores;
+  afters = All-from_recursion (FitIfAny (length content.columns)) rewrites (all_fit (length content.columns) content.documents rewrites rewrites rising is.documents (each_found rewrites rising));
 }

@@ -1,11 +1,13 @@
 -- Rows under keys: what is found in them after they are mapped, filtered and put.
-use Rattle.std.proofs.Common.{◌≡◌, Bool, true, false, cond, not, T, ◌&&◌, List, [], ◌∷◌, map, Option, Some, None, refl, sym, ap, subst, ◌∙◌, ℤ, filter, option_map, is_some, Ordering, Less, Equal, Greater, int_eq, is_eq, is_lt}
+use Rattle.std.proofs.Common.{◌≡◌, All, Bool, true, false, cond, not, T, ◌&&◌, List, [], ◌∷◌, map, Option, Some, None, refl, sym, ap, subst, ◌∙◌, ℤ, filter, option_map, is_some, Ordering, Less, Equal, Greater, int_eq, is_eq, is_lt}
 use Rattle.std.specs.Ordering.{eq_by_cmp, ordering_then}
 use Rattle.std.specs.Cmp.{IsTotalOrder, eq_by_cmp_equiv, int_cmp_total, tied_itself}
 use Rattle.std.specs.FinMap.{int_cmp-IsAntisymmetric}
 use Rattle.std.specs.FinMap.Entries.{put, find, below_all, is_sorted, is_sorted-put, is_sorted-where_key, find-put, find-where_key, same_entries}
 use Rattle.std.proofs.lemmas.Bool.{and_parts, and_from}
+use Rattle.std.proofs.lemmas.List.Elements.{All-head, All-tail}
 use Rattle.std.proofs.lemmas.Map.Lookups.{CmpEqualImpliesEq}
+use Rattle.std.proofs.lemmas.Option.{same_Some}
 use Rattle.ft_rows.specs.Store.{without_key}
 use Rattle.ft_documents.specs.RewriteRows.{all_put, was_there, gone, changed}
 
@@ -17,9 +19,8 @@ pub of_true : (b : Bool) → b ≡ true → T b
 of_true b h = subst T (sym h) tt
 
 pub tie : (o : Ordering) → is_eq o ≡ true → o ≡ Equal
-tie Less h = absurd (let no = h in cc)
 tie Equal h = refl
-tie Greater h = absurd (let no = h in cc)
+tie _ h = absurd (let no = h in cc)
 
 pub itself : (x : ℤ) → int_eq x x ≡ true
 itself x = ap is_eq (tied_itself int_cmp_total x)
@@ -31,24 +32,20 @@ pub same_int : (x y : ℤ) → int_eq x y ≡ true → x ≡ y
 same_int x y h = int_cmp-IsAntisymmetric x y (tie _ h)
 
 pub below_apart : (o : Ordering) → is_lt o ≡ true → is_eq o ≡ false
-below_apart Less h = refl
 below_apart Equal h = absurd (let no = h in cc)
-below_apart Greater h = refl
+below_apart _ h = refl
 
 pub less : (o : Ordering) → is_lt o ≡ true → o ≡ Less
 less Less h = refl
-less Equal h = absurd (let no = h in cc)
-less Greater h = absurd (let no = h in cc)
+less _ h = absurd (let no = h in cc)
 
 pub then_equal : (o r : Ordering) → is_eq o ≡ true → ordering_then o r ≡ r
-then_equal Less r h = absurd (let no = h in cc)
 then_equal Equal r h = refl
-then_equal Greater r h = absurd (let no = h in cc)
+then_equal _ r h = absurd (let no = h in cc)
 
 pub then_apart : (o r : Ordering) → is_eq o ≡ false → is_eq (ordering_then o r) ≡ false
-then_apart Less r h = refl
 then_apart Equal r h = absurd (let no = h in cc)
-then_apart Greater r h = refl
+then_apart _ r h = refl
 
 -- ---- values that are mapped
 
@@ -72,6 +69,15 @@ module _ {K V : Type 0} (R : K → K → Ordering) (o : IsTotalOrder R) (exact :
       let parts = and_parts (is_lt (R k e.0)) (below_all R k es) h in
       let is = ap (λ x. R x e.0) (exact q k (tie _ same)) ∙ less _ parts.0 in
       ap (λ r. cond (is_eq r) (Some e.1) (find R q es)) is ∙ none_below q k es same parts.1
+
+  -- what holds of all holds of what is found
+  pub found_holds : (P : K × V → Type 0) (q : K) (v : V) (es : List (K × V)) → All P es → find R q es ≡ Some v → P (q, v)
+  found_holds P q v [] all = λ is. absurd (let no = is in cc)
+  found_holds P q v (e ∷ es) all =
+      elim (eq_by_cmp R q e.0) as (λ b. eq_by_cmp R q e.0 ≡ b → cond b (Some e.1) (find R q es) ≡ Some v → P (q, v)) [
+        | true ↦ λ same is. subst P (λ i. (sym (exact q e.0 (tie _ same)) i, same_Some e.1 v is i)) (All-head P e es all)
+        | false ↦ λ _ is. found_holds P q v es (All-tail P e es all) is
+      ] refl
 
   -- ---- rows that are put
 
@@ -166,24 +172,6 @@ module _ {K V : Type 0} (R : K → K → Ordering) (o : IsTotalOrder R) (exact :
 
   -- ---- from old rows to new ones
 
-  abbrev of_gone : Option V → Option V → Option V
-  of_gone old new = cond (is_some new) None old
-
-  nothing : (b : Bool) (x : Option V) → x ≡ None → x ≡ cond b x x
-  nothing true x h = refl
-  nothing false x h = refl
-
-  turned : (b : Bool) (v : V) → cond (not b) (Some v) None ≡ cond b None (Some v)
-  turned true v = refl
-  turned false v = refl
-
-  gone_kept : (q : K) (new : List (K × V)) (x : Option V) → kept (λ e. not (is_some (find R e.0 new))) q x ≡ of_gone x (find R q new)
-  gone_kept q new None = nothing (is_some (find R q new)) None refl
-  gone_kept q new (Some v) = turned (is_some (find R q new)) v
-
-  gone_found : (q : K) (old new : List (K × V)) → is_sorted R old ≡ true → find R q (gone R old new) ≡ of_gone (find R q old) (find R q new)
-  gone_found q old new h = find-filter (λ e. not (is_some (find R e.0 new))) q old h ∙ gone_kept q new (find R q old)
-
   abbrev pub replaced : Option V → Option V → Option V → Option V
   replaced old None there = cond (is_some old) None there
   replaced old (Some v) there = Some v
@@ -192,16 +180,6 @@ module _ {K V : Type 0} (R : K → K → Ordering) (o : IsTotalOrder R) (exact :
   fresh same old None = None
   fresh same old (Some v) = cond (not (was_there same old v)) (Some v) None
 
-  by_cases : (same : V → V → Bool) → ((v w : V) → same v w ≡ true → v ≡ w) → (old new there : Option V) → ((v : V) → old ≡ Some v → there ≡ Some v) → or_else (fresh same old new) (unless_some (of_gone old new) there) ≡ replaced old new there
-  by_cases same sound None None there held = refl
-  by_cases same sound None (Some v) there held = refl
-  by_cases same sound (Some w) None there held = refl
-  by_cases same sound (Some w) (Some v) there held =
-      elim (same w v) as (λ b. same w v ≡ b → or_else (cond (not b) (Some v) None) there ≡ Some v) [
-        | true ↦ λ is. held w refl ∙ ap Some (sound w v is)
-        | false ↦ λ _. refl
-      ] refl
-
   fresh_kept : (same : V → V → Bool) (q : K) (old : List (K × V)) (x : Option V) → kept (λ e. not (was_there same (find R e.0 old) e.1)) q x ≡ fresh same (find R q old) x
   fresh_kept same q old None = refl
   fresh_kept same q old (Some v) = refl
@@ -209,36 +187,32 @@ module _ {K V : Type 0} (R : K → K → Ordering) (o : IsTotalOrder R) (exact :
   pub changed_found : (same : V → V → Bool) (q : K) (old new : List (K × V)) → is_sorted R new ≡ true → find R q (changed R same old new) ≡ fresh same (find R q old) (find R q new)
   changed_found same q old new h = find-filter (λ e. not (was_there same (find R e.0 old) e.1)) q new h ∙ fresh_kept same q old (find R q new)
 
-  renewed : (same : V → V → Bool) → ((v w : V) → same v w ≡ true → v ≡ w) → (old new there : Option V) → ((v : V) → old ≡ Some v → there ≡ Some v) → or_else (fresh same old new) (unless_some (fresh same new old) there) ≡ replaced old new there
-  renewed same sound None None there held = refl
-  renewed same sound None (Some v) there held = refl
-  renewed same sound (Some w) None there held = refl
-  renewed same sound (Some w) (Some v) there held =
-      elim (same w v) as (λ b. same w v ≡ b → or_else (cond (not b) (Some v) None) (unless_some (fresh same (Some v) (Some w)) there) ≡ Some v) [
-        | true ↦ λ is.
-            let one : w ≡ v = sound w v is in
-            ap (λ b. unless_some (cond (not b) (Some w) None) there) (subst (λ x. same x w ≡ true) one (ap (same w) one ∙ is)) ∙ held w refl ∙ ap Some one
-        | false ↦ λ _. refl
-      ] refl
+  -- rows that are gone are changed ones, where all values are the same
+  pub gone_is : (old new : List (K × V)) → gone R old new ≡ changed R (λ _ _. true) new old
+  gone_is [] new = refl
+  gone_is (e ∷ es) new = λ i. cond (not (is_there (find R e.0 new) i)) (e ∷ gone_is es new i) (gone_is es new i)
+    where
+      is_there : (x : Option V) → is_some x ≡ was_there (λ _ _. true) x e.1
+      is_there None = refl
+      is_there (Some v) = refl
 
-  -- What is found after the rows that are gone or differ are dropped and the changed ones are put,
-  -- where the old ones were there.
-  pub find_renewed : (same : V → V → Bool) → ((v w : V) → same v w ≡ true → v ≡ w) → (q : K) (old new rows : List (K × V)) → is_sorted R old ≡ true → is_sorted R new ≡ true → ((v : V) → find R q old ≡ Some v → find R q rows ≡ Some v) →
-      find R q (all_put R (changed R same old new) (all_dropped (changed R same new old) rows)) ≡ replaced (find R q old) (find R q new) (find R q rows)
-  find_renewed same sound q old new rows g h there =
-      let p : K × V → Bool = λ (e : K × V). not (was_there same (find R e.0 old) e.1) in
-      let left : find R q (all_dropped (changed R same new old) rows) ≡ unless_some (fresh same (find R q new) (find R q old)) (find R q rows) = find_all_dropped q (changed R same new old) rows ∙ ap (λ x. unless_some x (find R q rows)) (changed_found same q new old g) in
-      find_all_put q (changed R same old new) (all_dropped (changed R same new old) rows) (sorted-filter p new h)
-      ∙ (λ i. or_else (changed_found same q old new h i) (left i))
-      ∙ renewed same sound (find R q old) (find R q new) (find R q rows) there
+  module _ (same other : V → V → Bool) (sound : (v w : V) → same v w ≡ true → (v ≡ w) × (other w v ≡ true)) where
+    renewed : (old new there : Option V) → ((v : V) → old ≡ Some v → there ≡ Some v) → or_else (fresh same old new) (unless_some (fresh other new old) there) ≡ replaced old new there
+    renewed None None there held = refl
+    renewed None (Some v) there held = refl
+    renewed (Some w) None there held = refl
+    renewed (Some w) (Some v) there held =
+        elim (same w v) as (λ b. same w v ≡ b → or_else (cond (not b) (Some v) None) (unless_some (fresh other (Some v) (Some w)) there) ≡ Some v) [
+          | true ↦ λ is. ap (λ b. unless_some (cond (not b) (Some w) None) there) (sound w v is).1 ∙ held w refl ∙ ap Some (sound w v is).0
+          | false ↦ λ _. refl
+        ] refl
 
-  -- What is found after the gone rows are dropped and the changed ones are put, where the old ones
-  -- were there.
-  pub find_replaced : (same : V → V → Bool) → ((v w : V) → same v w ≡ true → v ≡ w) → (q : K) (old new rows : List (K × V)) → is_sorted R old ≡ true → is_sorted R new ≡ true → ((v : V) → find R q old ≡ Some v → find R q rows ≡ Some v) →
-      find R q (all_put R (changed R same old new) (all_dropped (gone R old new) rows)) ≡ replaced (find R q old) (find R q new) (find R q rows)
-  find_replaced same sound q old new rows g h there =
-      let p : K × V → Bool = λ (e : K × V). not (was_there same (find R e.0 old) e.1) in
-      let left : find R q (all_dropped (gone R old new) rows) ≡ unless_some (of_gone (find R q old) (find R q new)) (find R q rows) = find_all_dropped q (gone R old new) rows ∙ ap (λ x. unless_some x (find R q rows)) (gone_found q old new g) in
-      find_all_put q (changed R same old new) (all_dropped (gone R old new) rows) (sorted-filter p new h)
-      ∙ (λ i. or_else (changed_found same q old new h i) (left i))
-      ∙ by_cases same sound (find R q old) (find R q new) (find R q rows) there
+    -- What is found after the rows that are gone or differ are dropped and the changed ones are put,
+    -- where the old ones were there.
+    pub find_renewed : (q : K) (old new rows : List (K × V)) → is_sorted R old ≡ true → is_sorted R new ≡ true → ((v : V) → find R q old ≡ Some v → find R q rows ≡ Some v) →
+        find R q (all_put R (changed R same old new) (all_dropped (changed R other new old) rows)) ≡ replaced (find R q old) (find R q new) (find R q rows)
+    find_renewed q old new rows g h there =
+        let left = find_all_dropped q (changed R other new old) rows ∙ ap (λ x. unless_some x (find R q rows)) (changed_found other q new old g) in
+        find_all_put q (changed R same old new) (all_dropped (changed R other new old) rows) (sorted-filter (λ e. not (was_there same (find R e.0 old) e.1)) new h)
+        ∙ (λ i. or_else (changed_found same q old new h i) (left i))
+        ∙ renewed (find R q old) (find R q new) (find R q rows) there

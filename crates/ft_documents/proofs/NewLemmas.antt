@@ -14,6 +14,7 @@ use Rattle.ft_content.specs.Index.{Key, key_cmp, StoredSpot}
 use Rattle.ft_content.proofs.IndexLemmas.{key_cmp_total, key_cmp_exact}
 use Rattle.ft_documents.specs.Rewrite.{Rewrite, befores, afters, under_docids, AreOf, HasContent, IsNew, AreNew}
 use Rattle.ft_documents.specs.RewriteRows.{same_cell, same_spot, same_spots, was_there, gone, changed, numbered_cells, goes, dropped_documents, put_cells, put_documents, dropped_lists, put_lists, dropped_sizes, put_sizes, index_lists_of, sizes_of, list_changes, rewrite_changes}
+use Rattle.ft_documents.proofs.KeyedRows.{below_apart}
 use Rattle.ft_documents.proofs.StoreKeys.{column_exact, column_total, list_keys, cell_keys}
 use Rattle.ft_documents.proofs.DocumentRows.{one_by}
 use Rattle.ft_documents.proofs.RewriteLemmas.{AreRowsOf, old_there, new_there, sorted_befores, sorted_afters}
@@ -38,17 +39,12 @@ not_true false h g = let no = g in cc
 
 -- ---- what stands in rows in order is found there
 
-less_apart : (o : Ordering) → is_lt o ≡ true → is_eq o ≡ false
-less_apart Less h = refl
-less_apart Equal h = absurd (let no = h in cc)
-less_apart Greater h = refl
-
 module _ {K V : Type 0} (S : K → K → Ordering) (o : IsTotalOrder S) where
   all_apart : (k : K) (es : List (K × V)) → below_all S k es ≡ true → All (λ (x : K × V). eq_by_cmp S x.0 k ≡ false) es
   all_apart k [] h = All-nil (λ (x : K × V). eq_by_cmp S x.0 k ≡ false)
   all_apart k (e ∷ es) h =
       let parts = and_parts (is_lt (S k e.0)) (below_all S k es) h in
-      All-cons (λ (x : K × V). eq_by_cmp S x.0 k ≡ false) e es ((eq_by_cmp_equiv o).symm e.0 k ∙ less_apart _ parts.0) (all_apart k es parts.1)
+      All-cons (λ (x : K × V). eq_by_cmp S x.0 k ≡ false) e es ((eq_by_cmp_equiv o).symm e.0 k ∙ below_apart _ parts.0) (all_apart k es parts.1)
 
   pub all_found : (es : List (K × V)) → is_sorted S es ≡ true → All (λ (e : K × V). find S e.0 es ≡ Some e.1) es
   all_found [] h = All-nil (λ (e : K × V). find S e.0 [] ≡ Some e.1)
@@ -63,15 +59,9 @@ module _ {K V : Type 0} (S : K → K → Ordering) (o : IsTotalOrder S) where
 module _ {K V : Type 0} (S : K → K → Ordering) (o : IsTotalOrder S) (exact : CmpEqualImpliesEq S) (docid_of : K → ℤ) (rows : Documents → List (K × V)) (one : K → Option (List Cell) → Option V) (are : AreRowsOf S docid_of rows one)
     (documents : Documents) (rewrites : List Rewrite) (ordered : is_sorted int_cmp documents ≡ true) (rising : is_sorted int_cmp (under_docids rewrites) ≡ true) (known : All (λ (r : Rewrite). r.before ≡ find int_cmp r.docid documents) rewrites)
     (same : V → V → Bool) (whole : (v : V) → same v v ≡ true) where
-  gone_new : All (λ (e : K × V). IsSome (find S e.0 (rows documents))) (gone S (rows (befores rewrites)) (rows (afters rewrites)))
-  gone_new =
-      All-filter (λ (e : K × V). not (is_some (find S e.0 (rows (afters rewrites))))) (λ (e : K × V). IsSome (find S e.0 (rows documents))) (rows (befores rewrites))
-      (All-weaker (λ (e : K × V). find S e.0 (rows (befores rewrites)) ≡ Some e.1) (λ (e : K × V). IsSome (find S e.0 (rows documents))) (λ e is. ap is_some (old_there S o exact docid_of rows one are documents rewrites ordered rising known e.0 e.1 is)) (rows (befores rewrites))
-      (all_found S o (rows (befores rewrites)) (sorted_befores S o exact docid_of rows one are documents rewrites ordered rising known)))
-
-  stale_new : All (λ (e : K × V). IsSome (find S e.0 (rows documents))) (changed S same (rows (afters rewrites)) (rows (befores rewrites)))
-  stale_new =
-      All-filter (λ (e : K × V). not (was_there same (find S e.0 (rows (afters rewrites))) e.1)) (λ (e : K × V). IsSome (find S e.0 (rows documents))) (rows (befores rewrites))
+  old_new : (p : K × V → Bool) → All (λ (e : K × V). IsSome (find S e.0 (rows documents))) (filter p (rows (befores rewrites)))
+  old_new p =
+      All-filter p (λ (e : K × V). IsSome (find S e.0 (rows documents))) (rows (befores rewrites))
       (All-weaker (λ (e : K × V). find S e.0 (rows (befores rewrites)) ≡ Some e.1) (λ (e : K × V). IsSome (find S e.0 (rows documents))) (λ e is. ap is_some (old_there S o exact docid_of rows one are documents rewrites ordered rising known e.0 e.1 is)) (rows (befores rewrites))
       (all_found S o (rows (befores rewrites)) (sorted_befores S o exact docid_of rows one are documents rewrites ordered rising known)))
 
@@ -148,14 +138,14 @@ module _ (name : List ℕ) (content : Content) (tab : ℤ) (store : StoreValue) 
       (All-append (IsNew store) (dropped_lists tab (changed key_cmp same_spots lists_new lists_old)) (put_lists tab (changed key_cmp same_spots lists_old lists_new))
       (All-map (IsNew store) (λ (l : Key × List StoredSpot). DropEntries tab l.0.0 l.0.1) (changed key_cmp same_spots lists_new lists_old)
       (All-weaker (λ (l : Key × List StoredSpot). IsSome (find key_cmp l.0 (index_lists_of columns documents))) (λ (l : Key × List StoredSpot). IsSome (find list_key_cmp (tab, l.0.0, l.0.1) store.lists)) (λ l is. ap is_some (list_there l.0) ∙ is) (changed key_cmp same_spots lists_new lists_old)
-      (stale_new key_cmp key_cmp_total key_cmp_exact (λ k. k.1) (index_lists_of columns) (one_list columns) (lists_are columns) documents rewrites has.is_content.rising are.rising known same_spots spots_whole)))
+      (old_new key_cmp key_cmp_total key_cmp_exact (λ k. k.1) (index_lists_of columns) (one_list columns) (lists_are columns) documents rewrites has.is_content.rising are.rising known same_spots spots_whole _)))
       (All-map (IsNew store) (λ (l : Key × List StoredSpot). PutEntries tab l.0.0 l.0.1 l.1) (changed key_cmp same_spots lists_old lists_new)
       (All-weaker (λ (l : Key × List StoredSpot). find key_cmp l.0 (index_lists_of columns documents) ≢ Some l.1) (λ (l : Key × List StoredSpot). find list_key_cmp (tab, l.0.0, l.0.1) store.lists ≢ Some l.1) (λ l is there. is (sym (list_there l.0) ∙ there)) (changed key_cmp same_spots lists_old lists_new)
       (changed_new key_cmp key_cmp_total key_cmp_exact (λ k. k.1) (index_lists_of columns) (one_list columns) (lists_are columns) documents rewrites has.is_content.rising are.rising known same_spots spots_whole))))
       (All-append (IsNew store) (dropped_sizes tab (gone column_key_cmp sizes_old sizes_new)) (put_sizes tab (changed column_key_cmp int_eq sizes_old sizes_new))
       (All-map (IsNew store) (λ (s : (ℤ × ℤ) × ℤ). DropSize tab s.0.0 s.0.1) (gone column_key_cmp sizes_old sizes_new)
       (All-weaker (λ (s : (ℤ × ℤ) × ℤ). IsSome (find column_key_cmp s.0 (sizes_of columns documents))) (λ (s : (ℤ × ℤ) × ℤ). IsSome (find cell_key_cmp (tab, s.0.0, s.0.1) store.sizes)) (λ s is. ap is_some (size_there s.0) ∙ is) (gone column_key_cmp sizes_old sizes_new)
-      (gone_new column_key_cmp column_total column_exact (λ k. k.0) (sizes_of columns) (one_by (counts columns)) (sizes_are columns) documents rewrites has.is_content.rising are.rising known int_eq (λ n. ap is_eq (tied_itself int_cmp_total n)))))
+      (old_new column_key_cmp column_total column_exact (λ k. k.0) (sizes_of columns) (one_by (counts columns)) (sizes_are columns) documents rewrites has.is_content.rising are.rising known int_eq (λ n. ap is_eq (tied_itself int_cmp_total n)) _)))
       (All-map (IsNew store) (λ (s : (ℤ × ℤ) × ℤ). PutSize tab s.0.0 s.0.1 s.1) (changed column_key_cmp int_eq sizes_old sizes_new)
       (All-weaker (λ (s : (ℤ × ℤ) × ℤ). find column_key_cmp s.0 (sizes_of columns documents) ≢ Some s.1) (λ (s : (ℤ × ℤ) × ℤ). find cell_key_cmp (tab, s.0.0, s.0.1) store.sizes ≢ Some s.1) (λ s is there. is (sym (size_there s.0) ∙ there)) (changed column_key_cmp int_eq sizes_old sizes_new)
       (changed_new column_key_cmp column_total column_exact (λ k. k.0) (sizes_of columns) (one_by (counts columns)) (sizes_are columns) documents rewrites has.is_content.rising are.rising known int_eq (λ n. ap is_eq (tied_itself int_cmp_total n))))))))

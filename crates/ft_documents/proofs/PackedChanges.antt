@@ -77,16 +77,8 @@ all_packable tab columns rewrites few rising fits numbers =
     put_packable k d = All-map IsPackable (λ (c : ℤ × Cell). PutCell tab (get_or rewrites k d).docid c.0 c.1) (changed int_cmp same_cell (numbered_cells (unwrap_or (get_or rewrites k d).before [])) (numbered_cells (unwrap_or (get_or rewrites k d).after []))) (λ _ _ _. tt)
 
 can_apply : (change : RowChange) → IsPackable (shown_change change) → CanApply change
-can_apply (row.AddTable id name columns skipped) h = tt
-can_apply (row.DropTable id) h = tt
-can_apply (row.PutCell tab docid at v) h = tt
-can_apply (row.DropCells tab docid) h = tt
 can_apply (row.PutEntries tab term docid spots) h = h
-can_apply (row.DropEntries tab term docid) h = tt
-can_apply (row.PutSize tab docid at n) h = tt
-can_apply (row.DropSize tab docid at) h = tt
-can_apply (row.ClearIndex tab) h = tt
-can_apply (row.Note name) h = tt
+can_apply _ h = tt
 
 pub all_apply : (changes : List RowChange) → All IsPackable (map shown_change changes) → All CanApply changes
 all_apply [] h = All-nil CanApply

@@ -4,13 +4,13 @@ use Rattle.std.specs.Cmp.{IsTotalOrder, int_cmp_total}
 use Rattle.std.specs.FinMap.{int_cmp-IsAntisymmetric}
 use Rattle.std.specs.FinMap.Entries.{find, below_all, is_sorted, is_sorted-put, is_sorted-where_key, find-put, find-where_key, same_entries}
 use Rattle.std.proofs.lemmas.Bool.{and_parts, and_from}
-use Rattle.std.proofs.lemmas.List.Elements.{All-head, All-tail}
+use Rattle.std.proofs.lemmas.List.Elements.{All-map}
 use Rattle.std.proofs.lemmas.Map.Lookups.{CmpEqualImpliesEq}
 use Rattle.ft_values.specs.Cells.{Cell}
 use Rattle.ft_content.specs.Content.{Documents}
 use Rattle.ft_documents.specs.Rewrite.{Rewrite, with_cells, rewritten, document_if, befores, afters, under_docids}
 use Rattle.ft_documents.specs.RewriteRows.{all_put, gone, changed}
-use Rattle.ft_documents.proofs.KeyedRows.{true_of, of_true, tie, none_below, sorted_put, sorted_dropped, all_dropped, replaced, find_replaced, find_renewed, turned_round}
+use Rattle.ft_documents.proofs.KeyedRows.{true_of, of_true, tie, none_below, sorted_put, sorted_dropped, all_dropped, replaced, find_renewed, found_holds, turned_round}
 
 abbrev pub Cells : Type 0
 Cells = Option (List Cell)
@@ -90,15 +90,9 @@ find_rewritten docid (r ∷ rs) documents h =
 
 -- the rewrite of a docid knows what the document was
 pub before_found : (docid : ℤ) (documents : Documents) (rewrites : List Rewrite) (r : Rewrite) → All (λ (x : Rewrite). x.before ≡ find int_cmp x.docid documents) rewrites → find int_cmp docid (under_docids rewrites) ≡ Some r → r.before ≡ find int_cmp docid documents
-before_found docid documents [] r h = λ is. absurd (let no = is in cc)
-before_found docid documents (x ∷ xs) r h =
-    elim (int_eq docid x.docid) as (λ b. int_eq docid x.docid ≡ b → cond b (Some x) (find int_cmp docid (under_docids xs)) ≡ Some r → r.before ≡ find int_cmp docid documents) [
-      | true ↦ λ same is. let e : x ≡ r = same_some x r is in sym (ap (λ (y : Rewrite). y.before) e) ∙ All-head (λ (x : Rewrite). x.before ≡ find int_cmp x.docid documents) x xs h ∙ ap (λ d. find int_cmp d documents) (sym (int_cmp-IsAntisymmetric docid x.docid (tie _ same)))
-      | false ↦ λ _ is. before_found docid documents xs r (All-tail (λ (x : Rewrite). x.before ≡ find int_cmp x.docid documents) x xs h) is
-    ] refl
-  where
-    same_some : (a b : Rewrite) → Some a ≡ Some b → a ≡ b
-    same_some a b e = ap (λ o. unwrap_or o a) e
+before_found docid documents rewrites r h =
+    let P : ℤ × Rewrite → Type 0 = λ e. e.1.before ≡ find int_cmp e.0 documents in
+    found_holds int_cmp int_cmp_total int_cmp-IsAntisymmetric P docid r (under_docids rewrites) (All-map P (λ (r : Rewrite). (r.docid, r)) rewrites h)
 
 -- ---- rows that come of documents
 
@@ -160,24 +154,14 @@ module _ {K V : Type 0} (S : K → K → Ordering) (o : IsTotalOrder S) (exact :
       settled (Some v) None = refl
       settled a (Some w) = refl
 
-  -- Rows of rewrites: where the gone ones are dropped and the changed ones are put, the rows are
-  -- those of the documents as they are to be.
-  pub rows_replaced : (same : V → V → Bool) → ((v w : V) → same v w ≡ true → v ≡ w) →
-      all_put S (changed S same (rows (befores rewrites)) (rows (afters rewrites))) (all_dropped S o exact (gone S (rows (befores rewrites)) (rows (afters rewrites))) (rows documents)) ≡ rows (rewritten rewrites documents)
-  rows_replaced same sound =
-      let old = rows (befores rewrites) in
-      let new = rows (afters rewrites) in
-      same_entries S o exact _ _ (of_true _ (sorted_put S o exact (changed S same old new) (all_dropped S o exact (gone S old new) (rows documents)) (sorted_dropped S o exact (gone S old new) (rows documents) (are.sorted documents ordered))))
-      (of_true _ (are.sorted (rewritten rewrites documents) (sorted_rewritten rewrites documents ordered)))
-      (λ q. find_replaced S o exact same sound q old new (rows documents) (are.sorted (befores rewrites) (sorted_held (λ r. r.before) rewrites rising)) (are.sorted (afters rewrites) (sorted_held (λ r. r.after) rewrites rising)) (old_there q) ∙ replaced_by q)
-
   -- Rows of rewrites: where those that are gone or differ are dropped and the changed ones are put,
   -- the rows are those of the documents as they are to be.
-  pub rows_renewed : (same : V → V → Bool) → ((v w : V) → same v w ≡ true → v ≡ w) →
-      all_put S (changed S same (rows (befores rewrites)) (rows (afters rewrites))) (all_dropped S o exact (changed S same (rows (afters rewrites)) (rows (befores rewrites))) (rows documents)) ≡ rows (rewritten rewrites documents)
-  rows_renewed same sound =
+  pub rows_renewed : (same other : V → V → Bool) → ((v w : V) → same v w ≡ true → (v ≡ w) × (other w v ≡ true)) →
+      all_put S (changed S same (rows (befores rewrites)) (rows (afters rewrites))) (all_dropped S o exact (changed S other (rows (afters rewrites)) (rows (befores rewrites))) (rows documents)) ≡ rows (rewritten rewrites documents)
+  rows_renewed same other sound =
       let old = rows (befores rewrites) in
       let new = rows (afters rewrites) in
-      same_entries S o exact _ _ (of_true _ (sorted_put S o exact (changed S same old new) (all_dropped S o exact (changed S same new old) (rows documents)) (sorted_dropped S o exact (changed S same new old) (rows documents) (are.sorted documents ordered))))
+      let gone = changed S other new old in
+      same_entries S o exact _ _ (of_true _ (sorted_put S o exact (changed S same old new) (all_dropped S o exact gone (rows documents)) (sorted_dropped S o exact gone (rows documents) (are.sorted documents ordered))))
       (of_true _ (are.sorted (rewritten rewrites documents) (sorted_rewritten rewrites documents ordered)))
-      (λ q. find_renewed S o exact same sound q old new (rows documents) (are.sorted (befores rewrites) (sorted_held (λ r. r.before) rewrites rising)) (are.sorted (afters rewrites) (sorted_held (λ r. r.after) rewrites rising)) (old_there q) ∙ replaced_by q)
+      (λ q. find_renewed S o exact same other sound q old new (rows documents) sorted_befores sorted_afters (old_there q) ∙ replaced_by q)

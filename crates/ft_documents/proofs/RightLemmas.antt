@@ -2,12 +2,14 @@
 -- be.
 use Rattle.std.proofs.Common.{◌≡◌, ℕ, true, false, cond, ◌&&◌, List, [], ◌∷◌, ◌++◌, map, length, Option, Some, None, ℤ, refl, sym, ap, subst, ◌∙◌, arith, filter, All, ◌==◌, flat_map, int_cmp, int_eq}
 use Rattle.std.specs.List.{list_all}
+use Rattle.std.specs.Cmp.{int_cmp_total}
 use Rattle.std.specs.FinMap.Entries.{find}
 use Rattle.std.proofs.lemmas.Bool.{and_parts}
 use Rattle.std.proofs.lemmas.Bool.Decides.{nat_tests}
-use Rattle.std.proofs.lemmas.List.Elements.{All-nil, All-cons, All-head, All-tail}
+use Rattle.std.proofs.lemmas.List.Elements.{All-nil, All-cons, All-head, All-tail, All-from_recursion}
 use Rattle.std.proofs.lemmas.Map.Lookups.{exact_signed}
 use Rattle.std.proofs.lemmas.Simd.{map-map}
+use Rattle.sqlite_keyed.proofs.ListLemmas.{all_from_test}
 use Rattle.ft_values.specs.Cells.{Cell}
 use Rattle.ft_rows.specs.Store.{StoreValue, AreInOrder, CellKey, ListKey, cell_key_cmp, list_key_cmp, column_key_cmp, all_applied}
 use Rattle.ft_content.specs.Content.{Column, Documents, Content, is_cell, is_document, content_rows, document_rows}
@@ -17,9 +19,9 @@ use Rattle.ft_documents.specs.Tables.{table_rows, table_index}
 use Rattle.ft_documents.specs.Rewrite.{Rewrite, befores, afters, under_docids, rewritten, rewritten_content, FitIfAny, AreOf, HasContent, AreRight}
 use Rattle.ft_documents.specs.RewriteRows.{all_put, same_spot, same_spots, gone, changed, numbered_cells, goes, dropped_documents, put_documents, dropped_lists, put_lists, dropped_sizes, put_sizes, sized, index_lists_of, sizes_of, list_changes, size_changes, rewrite_changes}
 use Rattle.ft_documents.proofs.StoreKeys.{list_exact, list_total, cell_exact, cell_total, column_exact, column_total, list_keys, cell_keys}
-use Rattle.ft_documents.proofs.KeyedRows.{tie, all_dropped, sorted_put, sorted_dropped}
+use Rattle.ft_documents.proofs.KeyedRows.{found_holds, gone_is, tie, all_dropped, sorted_put, sorted_dropped}
 use Rattle.ft_documents.proofs.DocumentRows.{rows_by, one_by}
-use Rattle.ft_documents.proofs.RewriteLemmas.{sorted_rewritten, rows_replaced, rows_renewed}
+use Rattle.ft_documents.proofs.RewriteLemmas.{sorted_rewritten, rows_renewed}
 use Rattle.ft_documents.proofs.RowKinds.{cell_row, keyed_cell, content_cells, keyed_again, one_list, lists_are, size_of, sized_again, sizes_again, counts, stored_sizes, sizes_are}
 use Rattle.ft_documents.proofs.OwnRows.{own, joined, own_all_put, own_all_dropped}
 use Rattle.ft_documents.proofs.AppliedLemmas.{applied_append, put_lists_applied, dropped_lists_applied, put_sizes_applied, dropped_sizes_applied, new_cells, put_documents_applied, cells_dropped, documents_dropped, dropped_documents_applied, sorted_cells_dropped, own_dropped}
@@ -102,19 +104,10 @@ equal : (m n : ℕ) → (m == n) ≡ true → m ≡ n
 equal m n h = grind (arith, nat_tests)
 
 found_width : (width : ℕ) (docid : ℤ) (cells : List Cell) (documents : Documents) → list_all (is_document width) documents ≡ true → find int_cmp docid documents ≡ Some cells → length cells ≡ width
-found_width width docid cells [] h = λ is. absurd (let no = is in cc)
-found_width width docid cells (d ∷ ds) h =
-    let parts = and_parts (is_document width d) (list_all (is_document width) ds) h in
-    elim (int_eq docid d.0) as (λ b. cond b (Some d.1) (find int_cmp docid ds) ≡ Some cells → length cells ≡ width) [
-      | true ↦ λ is. let same : d.1 ≡ cells = ap (λ o. or_this d.1 o) is in
-          let fits : length d.1 ≡ width = equal (length d.1) width (and_parts (length d.1 == width) (list_all is_cell d.1) parts.0).0 in
-          ap length (sym same) ∙ fits
-      | false ↦ λ is. found_width width docid cells ds parts.1 is
-    ]
-  where
-    or_this : List Cell → Option (List Cell) → List Cell
-    or_this c None = c
-    or_this c (Some x) = x
+found_width width docid cells documents h is =
+    let P : ℤ × List Cell → Type 0 = λ d. is_document width d ≡ true in
+    let fits = found_holds int_cmp int_cmp_total exact_signed P docid cells documents (All-from_recursion P documents (all_from_test (is_document width) documents h)) is in
+    equal (length cells) width (and_parts (length cells == width) (list_all is_cell cells) fits).0
 
 wide_at : (width : ℕ) (documents : Documents) (docid : ℤ) (before after : Option (List Cell)) → list_all (is_document width) documents ≡ true → before ≡ find int_cmp docid documents → FitIfAny width (record { docid = docid; before = before; after = after }) → wide before after
 wide_at width documents docid None after h is fits = tt
@@ -165,13 +158,13 @@ module _ (name : List ℕ) (content : Content) (tab : ℤ) (store : StoreValue) 
     lists_last =
         own_all_put list_keys tab (lists_changed tab columns rewrites) (all_dropped list_key_cmp list_total list_exact (joined list_keys tab (lists_gone tab columns rewrites)) store.lists) (sorted_dropped list_key_cmp list_total list_exact (joined list_keys tab (lists_gone tab columns rewrites)) store.lists has.order.lists)
         ∙ ap (all_put key_cmp (lists_changed tab columns rewrites)) (own_all_dropped list_keys tab (lists_gone tab columns rewrites) store.lists ∙ ap (all_dropped key_cmp key_cmp_total key_cmp_exact (lists_gone tab columns rewrites)) own_lists)
-        ∙ rows_renewed key_cmp key_cmp_total key_cmp_exact (λ k. k.1) (index_lists_of columns) (one_list columns) (lists_are columns) content.documents rewrites has.is_content.rising are.rising are.befores same_spots spots_sound
+        ∙ rows_renewed key_cmp key_cmp_total key_cmp_exact (λ k. k.1) (index_lists_of columns) (one_list columns) (lists_are columns) content.documents rewrites has.is_content.rising are.rising are.befores same_spots same_spots (λ v w is. (spots_sound v w is, ap (λ s. same_spots s v) (sym (spots_sound v w is)) ∙ ap (same_spots v) (spots_sound v w is) ∙ is))
 
     sizes_last : own cell_keys tab (sizes_after tab columns rewrites store) ≡ sizes_of columns last
     sizes_last =
         own_all_put cell_keys tab (sizes_changed tab columns rewrites) (all_dropped cell_key_cmp cell_total cell_exact (joined cell_keys tab (sizes_gone tab columns rewrites)) store.sizes) (sorted_dropped cell_key_cmp cell_total cell_exact (joined cell_keys tab (sizes_gone tab columns rewrites)) store.sizes has.order.sizes)
-        ∙ ap (all_put column_key_cmp (sizes_changed tab columns rewrites)) (own_all_dropped cell_keys tab (sizes_gone tab columns rewrites) store.sizes ∙ ap (all_dropped column_key_cmp column_total column_exact (sizes_gone tab columns rewrites)) own_sizes)
-        ∙ rows_replaced column_key_cmp column_total column_exact (λ k. k.0) (sizes_of columns) (one_by (counts columns)) (sizes_are columns) content.documents rewrites has.is_content.rising are.rising are.befores int_eq int_sound
+        ∙ ap (all_put column_key_cmp (sizes_changed tab columns rewrites)) (own_all_dropped cell_keys tab (sizes_gone tab columns rewrites) store.sizes ∙ (λ i. all_dropped column_key_cmp column_total column_exact (gone_is column_key_cmp column_total column_exact (sizes_of columns (befores rewrites)) (sizes_of columns (afters rewrites)) i) (own_sizes i)))
+        ∙ rows_renewed column_key_cmp column_total column_exact (λ k. k.0) (sizes_of columns) (one_by (counts columns)) (sizes_are columns) content.documents rewrites has.is_content.rising are.rising are.befores int_eq (λ _ _. true) (λ v w is. (int_sound v w is, refl))
 
     pub rows_right : table_rows tab (all_applied (rewrite_changes tab columns rewrites) store) ≡ content_rows (rewritten_content rewrites content)
     rows_right =
