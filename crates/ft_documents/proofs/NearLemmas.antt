@@ -33,6 +33,33 @@ pub keys_all_put : {K V : Type 0} (R : K → K → Ordering) (Q : K → Type 0) 
 keys_all_put R Q [] rows h g = g
 keys_all_put R Q (e ∷ es) rows h g = keys_all_put R Q es (put R e.0 e.1 rows) (All-tail (λ e. Q e.0) e es h) (keys_put R Q e.0 e.1 rows (All-head (λ e. Q e.0) e es h) g)
 
+-- a claim of changes, kind by kind
+module _ (P : Change → Type 0) (tab : ℤ) (columns : List Column) (rewrites : List Rewrite) where
+  abbrev old_lists : List (Key × List StoredSpot)
+  old_lists = index_lists_of columns (befores rewrites)
+
+  abbrev new_lists : List (Key × List StoredSpot)
+  new_lists = index_lists_of columns (afters rewrites)
+
+  abbrev old_sizes : List ((ℤ × ℤ) × ℤ)
+  old_sizes = sizes_of columns (befores rewrites)
+
+  abbrev new_sizes : List ((ℤ × ℤ) × ℤ)
+  new_sizes = sizes_of columns (afters rewrites)
+
+  pub all_changes : All (λ (r : Rewrite). P (DropCells tab r.docid)) (filter goes rewrites) → All (λ (r : Rewrite). All P (put_cells tab r.docid (unwrap_or r.before []) (unwrap_or r.after []))) rewrites
+      → All (λ (l : Key × List StoredSpot). P (DropEntries tab l.0.0 l.0.1)) (changed key_cmp same_spots new_lists old_lists) → All (λ (l : Key × List StoredSpot). P (PutEntries tab l.0.0 l.0.1 l.1)) (changed key_cmp same_spots old_lists new_lists)
+      → All (λ (s : (ℤ × ℤ) × ℤ). P (DropSize tab s.0.0 s.0.1)) (gone column_key_cmp old_sizes new_sizes) → All (λ (s : (ℤ × ℤ) × ℤ). P (PutSize tab s.0.0 s.0.1 s.1)) (changed column_key_cmp int_eq old_sizes new_sizes) → All P (rewrite_changes tab columns rewrites)
+  unfolding rewrite_changes
+  all_changes drops puts drop_list put_list drop_size put_size =
+      All-append P (dropped_documents tab rewrites) _ (All-map P (λ (r : Rewrite). DropCells tab r.docid) (filter goes rewrites) drops)
+      (All-append P (put_documents tab rewrites) _ (All-flat_map P (λ (r : Rewrite). put_cells tab r.docid (unwrap_or r.before []) (unwrap_or r.after [])) rewrites puts)
+      (All-append P (list_changes tab old_lists new_lists) _
+      (All-append P (dropped_lists tab (changed key_cmp same_spots new_lists old_lists)) _ (All-map P (λ (l : Key × List StoredSpot). DropEntries tab l.0.0 l.0.1) (changed key_cmp same_spots new_lists old_lists) drop_list)
+      (All-map P (λ (l : Key × List StoredSpot). PutEntries tab l.0.0 l.0.1 l.1) (changed key_cmp same_spots old_lists new_lists) put_list))
+      (All-append P (dropped_sizes tab (gone column_key_cmp old_sizes new_sizes)) _ (All-map P (λ (s : (ℤ × ℤ) × ℤ). DropSize tab s.0.0 s.0.1) (gone column_key_cmp old_sizes new_sizes) drop_size)
+      (All-map P (λ (s : (ℤ × ℤ) × ℤ). PutSize tab s.0.0 s.0.1 s.1) (changed column_key_cmp int_eq old_sizes new_sizes) put_size))))
+
 -- rows of documents that pass, for a claim of docids
 module _ (D : ℤ → Type 0) where
   abbrev OfDocuments : Documents → Type 0
@@ -76,31 +103,26 @@ module _ (D : ℤ → Type 0) where
   afters_near : (rewrites : List Rewrite) → All (λ (r : Rewrite). D r.docid) rewrites → OfDocuments (afters rewrites)
   afters_near rewrites h = All-flat_map (λ (d : ℤ × List Cell). D d.0) (λ (r : Rewrite). document_if r.docid r.after) rewrites (All-weaker (λ (r : Rewrite). D r.docid) (λ r. OfDocuments (document_if r.docid r.after)) (λ r is. if_near r.docid r.after is) rewrites h)
 
-  -- any claim of changes that holds of a document's changes holds of all changes
+  -- a claim of changes that holds of a document's changes holds of all changes
   module _ (P : Change → Type 0) where
     pub changes_near : (tab : ℤ) (columns : List Column) (rewrites : List Rewrite) → ((docid : ℤ) → D docid → P (DropCells tab docid)) → ((docid column : ℤ) (cell : Cell) → D docid → P (PutCell tab docid column cell)) →
         ((term : List ℕ) (docid : ℤ) → D docid → P (DropEntries tab term docid)) → ((term : List ℕ) (docid : ℤ) (spots : List StoredSpot) → D docid → P (PutEntries tab term docid spots)) →
         ((docid column : ℤ) → D docid → P (DropSize tab docid column)) → ((docid column n : ℤ) → D docid → P (PutSize tab docid column n)) → All (λ (r : Rewrite). D r.docid) rewrites → All P (rewrite_changes tab columns rewrites)
-    unfolding rewrite_changes
     changes_near tab columns rewrites drops puts drop_list put_list drop_size put_size h =
-        let old = index_lists_of columns (befores rewrites) in
-        let new = index_lists_of columns (afters rewrites) in
-        let olds = sizes_of columns (befores rewrites) in
-        let news = sizes_of columns (afters rewrites) in
+        let R : Rewrite → Type 0 = λ r. D r.docid in
         let N : Key × List StoredSpot → Type 0 = λ l. D l.0.1 in
         let S : (ℤ × ℤ) × ℤ → Type 0 = λ s. D s.0.0 in
-        All-append P (dropped_documents tab rewrites) _
-        (All-map P (λ (r : Rewrite). DropCells tab r.docid) (filter goes rewrites) (All-weaker (λ (r : Rewrite). D r.docid) (λ r. P (DropCells tab r.docid)) (λ r is. drops r.docid is) (filter goes rewrites) (All-filter goes (λ (r : Rewrite). D r.docid) rewrites h)))
-        (All-append P (put_documents tab rewrites) _
-        (All-flat_map P (λ (r : Rewrite). put_cells tab r.docid (unwrap_or r.before []) (unwrap_or r.after [])) rewrites (All-weaker (λ (r : Rewrite). D r.docid) (λ r. All P (put_cells tab r.docid (unwrap_or r.before []) (unwrap_or r.after [])))
-        (λ r is. All-map P (λ (c : ℤ × Cell). PutCell tab r.docid c.0 c.1) (changed int_cmp same_cell (numbered_cells (unwrap_or r.before [])) (numbered_cells (unwrap_or r.after []))) (λ k d _. puts r.docid _ _ is)) rewrites h))
-        (All-append P (list_changes tab old new) _
-        (All-append P (dropped_lists tab (changed key_cmp same_spots new old)) (put_lists tab (changed key_cmp same_spots old new))
-        (All-map P (λ (l : Key × List StoredSpot). DropEntries tab l.0.0 l.0.1) (changed key_cmp same_spots new old) (All-weaker N (λ l. P (DropEntries tab l.0.0 l.0.1)) (λ l is. drop_list l.0.0 l.0.1 is) (changed key_cmp same_spots new old) (All-filter _ N old (lists_near columns (befores rewrites) (befores_near rewrites h)))))
-        (All-map P (λ (l : Key × List StoredSpot). PutEntries tab l.0.0 l.0.1 l.1) (changed key_cmp same_spots old new) (All-weaker N (λ l. P (PutEntries tab l.0.0 l.0.1 l.1)) (λ l is. put_list l.0.0 l.0.1 l.1 is) (changed key_cmp same_spots old new) (All-filter _ N new (lists_near columns (afters rewrites) (afters_near rewrites h))))))
-        (All-append P (dropped_sizes tab (gone column_key_cmp olds news)) (put_sizes tab (changed column_key_cmp int_eq olds news))
-        (All-map P (λ (s : (ℤ × ℤ) × ℤ). DropSize tab s.0.0 s.0.1) (gone column_key_cmp olds news) (All-weaker S (λ s. P (DropSize tab s.0.0 s.0.1)) (λ s is. drop_size s.0.0 s.0.1 is) (gone column_key_cmp olds news) (All-filter _ S olds (sizes_near columns (befores rewrites) (befores_near rewrites h)))))
-        (All-map P (λ (s : (ℤ × ℤ) × ℤ). PutSize tab s.0.0 s.0.1 s.1) (changed column_key_cmp int_eq olds news) (All-weaker S (λ s. P (PutSize tab s.0.0 s.0.1 s.1)) (λ s is. put_size s.0.0 s.0.1 s.1 is) (changed column_key_cmp int_eq olds news) (All-filter _ S news (sizes_near columns (afters rewrites) (afters_near rewrites h))))))))
+        let old = lists_near columns (befores rewrites) (befores_near rewrites h) in
+        let new = lists_near columns (afters rewrites) (afters_near rewrites h) in
+        let olds = sizes_near columns (befores rewrites) (befores_near rewrites h) in
+        let news = sizes_near columns (afters rewrites) (afters_near rewrites h) in
+        all_changes P tab columns rewrites
+        (All-weaker R (λ r. P (DropCells tab r.docid)) (λ r is. drops r.docid is) (filter goes rewrites) (All-filter goes R rewrites h))
+        (All-weaker R (λ r. All P (put_cells tab r.docid (unwrap_or r.before []) (unwrap_or r.after []))) (λ r is. All-map P (λ (c : ℤ × Cell). PutCell tab r.docid c.0 c.1) (changed int_cmp same_cell (numbered_cells (unwrap_or r.before [])) (numbered_cells (unwrap_or r.after []))) (λ k d _. puts r.docid _ _ is)) rewrites h)
+        (All-weaker N (λ l. P (DropEntries tab l.0.0 l.0.1)) (λ l is. drop_list l.0.0 l.0.1 is) _ (All-filter _ N (index_lists_of columns (befores rewrites)) old))
+        (All-weaker N (λ l. P (PutEntries tab l.0.0 l.0.1 l.1)) (λ l is. put_list l.0.0 l.0.1 l.1 is) _ (All-filter _ N (index_lists_of columns (afters rewrites)) new))
+        (All-weaker S (λ s. P (DropSize tab s.0.0 s.0.1)) (λ s is. drop_size s.0.0 s.0.1 is) _ (All-filter _ S (sizes_of columns (befores rewrites)) olds))
+        (All-weaker S (λ s. P (PutSize tab s.0.0 s.0.1 s.1)) (λ s is. put_size s.0.0 s.0.1 s.1 is) _ (All-filter _ S (sizes_of columns (afters rewrites)) news))
 
 -- the docids of rewrites are those of each
 pub contains_own : (rewrites : List Rewrite) → All (λ (r : Rewrite). Contains (rewritten_docids rewrites) r.docid) rewrites

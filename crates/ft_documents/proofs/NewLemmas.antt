@@ -20,7 +20,7 @@ use Rattle.ft_documents.proofs.DocumentRows.{one_by}
 use Rattle.ft_documents.proofs.RewriteLemmas.{AreRowsOf, old_there, new_there, sorted_befores, sorted_afters}
 use Rattle.ft_documents.proofs.RowKinds.{one_list, lists_are, counts, sizes_are, cells_are}
 use Rattle.ft_documents.proofs.OwnRows.{find_joined}
-use Rattle.ft_documents.proofs.NearLemmas.{All-flat_map}
+use Rattle.ft_documents.proofs.NearLemmas.{all_changes}
 use Rattle.ft_documents.proofs.RightLemmas.{own_cells, own_lists, own_sizes}
 
 passing : {X : Type 0} (p : X → Bool) (xs : List X) → All (λ x. p x ≡ true) (filter p xs)
@@ -123,32 +123,23 @@ module _ (name : List ℕ) (content : Content) (tab : ℤ) (store : StoreValue) 
       (filter p new) (passing p new))
 
   all_new : All (IsNew store) (rewrite_changes tab columns rewrites)
-  unfolding rewrite_changes
   all_new =
-      let lists_old = index_lists_of columns (befores rewrites) in
-      let lists_new = index_lists_of columns (afters rewrites) in
-      let sizes_old = sizes_of columns (befores rewrites) in
-      let sizes_new = sizes_of columns (afters rewrites) in
       let known = are.befores in
-      All-append (IsNew store) (dropped_documents tab rewrites) _ (All-map (IsNew store) (λ (r : Rewrite). DropCells tab r.docid) (filter goes rewrites) (λ _ _ _. tt))
-      (All-append (IsNew store) (put_documents tab rewrites) _
-      (All-flat_map (IsNew store) (λ (r : Rewrite). put_cells tab r.docid (unwrap_or r.before []) (unwrap_or r.after [])) rewrites
-      (All-weaker (λ (r : Rewrite). r.before ≡ find int_cmp r.docid documents) (λ r. All (IsNew store) (put_cells tab r.docid (unwrap_or r.before []) (unwrap_or r.after []))) cells_new rewrites known))
-      (All-append (IsNew store) (list_changes tab lists_old lists_new) _
-      (All-append (IsNew store) (dropped_lists tab (changed key_cmp same_spots lists_new lists_old)) (put_lists tab (changed key_cmp same_spots lists_old lists_new))
-      (All-map (IsNew store) (λ (l : Key × List StoredSpot). DropEntries tab l.0.0 l.0.1) (changed key_cmp same_spots lists_new lists_old)
-      (All-weaker (λ (l : Key × List StoredSpot). IsSome (find key_cmp l.0 (index_lists_of columns documents))) (λ (l : Key × List StoredSpot). IsSome (find list_key_cmp (tab, l.0.0, l.0.1) store.lists)) (λ l is. ap is_some (list_there l.0) ∙ is) (changed key_cmp same_spots lists_new lists_old)
-      (old_new key_cmp key_cmp_total key_cmp_exact (λ k. k.1) (index_lists_of columns) (one_list columns) (lists_are columns) documents rewrites has.is_content.rising are.rising known same_spots spots_whole _)))
-      (All-map (IsNew store) (λ (l : Key × List StoredSpot). PutEntries tab l.0.0 l.0.1 l.1) (changed key_cmp same_spots lists_old lists_new)
-      (All-weaker (λ (l : Key × List StoredSpot). find key_cmp l.0 (index_lists_of columns documents) ≢ Some l.1) (λ (l : Key × List StoredSpot). find list_key_cmp (tab, l.0.0, l.0.1) store.lists ≢ Some l.1) (λ l is there. is (sym (list_there l.0) ∙ there)) (changed key_cmp same_spots lists_old lists_new)
-      (changed_new key_cmp key_cmp_total key_cmp_exact (λ k. k.1) (index_lists_of columns) (one_list columns) (lists_are columns) documents rewrites has.is_content.rising are.rising known same_spots spots_whole))))
-      (All-append (IsNew store) (dropped_sizes tab (gone column_key_cmp sizes_old sizes_new)) (put_sizes tab (changed column_key_cmp int_eq sizes_old sizes_new))
-      (All-map (IsNew store) (λ (s : (ℤ × ℤ) × ℤ). DropSize tab s.0.0 s.0.1) (gone column_key_cmp sizes_old sizes_new)
-      (All-weaker (λ (s : (ℤ × ℤ) × ℤ). IsSome (find column_key_cmp s.0 (sizes_of columns documents))) (λ (s : (ℤ × ℤ) × ℤ). IsSome (find cell_key_cmp (tab, s.0.0, s.0.1) store.sizes)) (λ s is. ap is_some (size_there s.0) ∙ is) (gone column_key_cmp sizes_old sizes_new)
-      (old_new column_key_cmp column_total column_exact (λ k. k.0) (sizes_of columns) (one_by (counts columns)) (sizes_are columns) documents rewrites has.is_content.rising are.rising known int_eq (λ n. ap is_eq (tied_itself int_cmp_total n)) _)))
-      (All-map (IsNew store) (λ (s : (ℤ × ℤ) × ℤ). PutSize tab s.0.0 s.0.1 s.1) (changed column_key_cmp int_eq sizes_old sizes_new)
-      (All-weaker (λ (s : (ℤ × ℤ) × ℤ). find column_key_cmp s.0 (sizes_of columns documents) ≢ Some s.1) (λ (s : (ℤ × ℤ) × ℤ). find cell_key_cmp (tab, s.0.0, s.0.1) store.sizes ≢ Some s.1) (λ s is there. is (sym (size_there s.0) ∙ there)) (changed column_key_cmp int_eq sizes_old sizes_new)
-      (changed_new column_key_cmp column_total column_exact (λ k. k.0) (sizes_of columns) (one_by (counts columns)) (sizes_are columns) documents rewrites has.is_content.rising are.rising known int_eq (λ n. ap is_eq (tied_itself int_cmp_total n))))))))
+      let lists_had = index_lists_of columns documents in
+      let sizes_had = sizes_of columns documents in
+      let N : Key × List StoredSpot → Type 0 = λ l. find key_cmp l.0 lists_had ≢ Some l.1 in
+      let S : (ℤ × ℤ) × ℤ → Type 0 = λ s. find column_key_cmp s.0 sizes_had ≢ Some s.1 in
+      let int_whole = λ (n : ℤ). ap is_eq (tied_itself int_cmp_total n) in
+      all_changes (IsNew store) tab columns rewrites (λ _ _ _. tt)
+      (All-weaker (λ (r : Rewrite). r.before ≡ find int_cmp r.docid documents) (λ r. All (IsNew store) (put_cells tab r.docid (unwrap_or r.before []) (unwrap_or r.after []))) cells_new rewrites known)
+      (All-weaker (λ (l : Key × List StoredSpot). IsSome (find key_cmp l.0 lists_had)) (λ l. IsSome (find list_key_cmp (tab, l.0.0, l.0.1) store.lists)) (λ l is. ap is_some (list_there l.0) ∙ is) _
+      (old_new key_cmp key_cmp_total key_cmp_exact (λ k. k.1) (index_lists_of columns) (one_list columns) (lists_are columns) documents rewrites has.is_content.rising are.rising known same_spots spots_whole _))
+      (All-weaker N (λ l. find list_key_cmp (tab, l.0.0, l.0.1) store.lists ≢ Some l.1) (λ l is there. is (sym (list_there l.0) ∙ there)) _
+      (changed_new key_cmp key_cmp_total key_cmp_exact (λ k. k.1) (index_lists_of columns) (one_list columns) (lists_are columns) documents rewrites has.is_content.rising are.rising known same_spots spots_whole))
+      (All-weaker (λ (s : (ℤ × ℤ) × ℤ). IsSome (find column_key_cmp s.0 sizes_had)) (λ s. IsSome (find cell_key_cmp (tab, s.0.0, s.0.1) store.sizes)) (λ s is. ap is_some (size_there s.0) ∙ is) _
+      (old_new column_key_cmp column_total column_exact (λ k. k.0) (sizes_of columns) (one_by (counts columns)) (sizes_are columns) documents rewrites has.is_content.rising are.rising known int_eq int_whole _))
+      (All-weaker S (λ s. find cell_key_cmp (tab, s.0.0, s.0.1) store.sizes ≢ Some s.1) (λ s is there. is (sym (size_there s.0) ∙ there)) _
+      (changed_new column_key_cmp column_total column_exact (λ k. k.0) (sizes_of columns) (one_by (counts columns)) (sizes_are columns) documents rewrites has.is_content.rising are.rising known int_eq int_whole))
 
 pub are_new : (tab : ℤ) (columns : List Column) (rewrites : List Rewrite) → AreNew tab columns rewrites (rewrite_changes tab columns rewrites)
 are_new tab _ rewrites name content store has same are = subst (λ cs. All (IsNew store) (rewrite_changes tab cs rewrites)) same (all_new name content tab store has rewrites are)

@@ -16,7 +16,7 @@ use Rattle.ft_content.proofs.IndexLemmas.{key_cmp_total}
 use Rattle.ft_documents.specs.Rewrite.{Rewrite, befores, afters, document_if, under_docids, FitIfAny, IsPackable}
 use Rattle.ft_documents.specs.RewriteRows.{same_cell, same_spots, gone, changed, numbered_cells, goes, dropped_documents, put_cells, put_documents, dropped_lists, put_lists, dropped_sizes, put_sizes, index_lists_of, sizes_of, list_changes, rewrite_changes, AreShortNumbers}
 use Rattle.ft_documents.specs.MadeIndex.{HaveShortNumbers}
-use Rattle.ft_documents.proofs.NearLemmas.{All-flat_map}
+use Rattle.ft_documents.proofs.NearLemmas.{all_changes, All-flat_map}
 use Rattle.ft_documents.proofs.NewLemmas.{all_found}
 use Rattle.ft_documents.proofs.RewriteLemmas.{sorted_held}
 use Rattle.ft_documents.proofs.RowKinds.{lists_are}
@@ -54,27 +54,12 @@ module _ (columns : List Column) where
       All-weaker (λ (d : ℤ × List Cell). IsOfTable d × AreShortNumbers columns d.1) ShortDocument (λ d is. document_short d is.0 is.1) (afters rewrites) (λ k d within. (fit k d within, numbers k d within))
 
 all_packable : (tab : ℤ) (columns : List Column) (rewrites : List Rewrite) → length columns ≤ 100 → is_sorted int_cmp (under_docids rewrites) ≡ true → All (FitIfAny (length columns)) rewrites → HaveShortNumbers columns (afters rewrites) → All IsPackable (rewrite_changes tab columns rewrites)
-unfolding rewrite_changes
 all_packable tab columns rewrites few rising fits numbers =
-    let old = index_lists_of columns (befores rewrites) in
-    let new = index_lists_of columns (afters rewrites) in
-    let olds = sizes_of columns (befores rewrites) in
-    let news = sizes_of columns (afters rewrites) in
     let packed = lists_packed columns (afters rewrites) few (sorted_held (λ (r : Rewrite). r.after) rewrites rising) (afters_short columns rewrites fits numbers) in
-    All-append IsPackable (dropped_documents tab rewrites) _ (All-map IsPackable (λ (r : Rewrite). DropCells tab r.docid) (filter goes rewrites) (λ _ _ _. tt))
-    (All-append IsPackable (put_documents tab rewrites) _
-    (All-flat_map IsPackable (λ (r : Rewrite). put_cells tab r.docid (unwrap_or r.before []) (unwrap_or r.after [])) rewrites
-    (λ k d _. put_packable k d))
-    (All-append IsPackable (list_changes tab old new) _
-    (All-append IsPackable (dropped_lists tab (changed key_cmp same_spots new old)) (put_lists tab (changed key_cmp same_spots old new))
-    (All-map IsPackable (λ (l : Key × List StoredSpot). DropEntries tab l.0.0 l.0.1) (changed key_cmp same_spots new old) (λ _ _ _. tt))
-    (All-map IsPackable (λ (l : Key × List StoredSpot). PutEntries tab l.0.0 l.0.1 l.1) (changed key_cmp same_spots old new) (All-filter _ (λ (l : Key × List StoredSpot). CanPack l.1) new packed)))
-    (All-append IsPackable (dropped_sizes tab (gone column_key_cmp olds news)) (put_sizes tab (changed column_key_cmp int_eq olds news))
-    (All-map IsPackable (λ (s : (ℤ × ℤ) × ℤ). DropSize tab s.0.0 s.0.1) (gone column_key_cmp olds news) (λ _ _ _. tt))
-    (All-map IsPackable (λ (s : (ℤ × ℤ) × ℤ). PutSize tab s.0.0 s.0.1 s.1) (changed column_key_cmp int_eq olds news) (λ _ _ _. tt)))))
+    all_changes IsPackable tab columns rewrites (λ _ _ _. tt) (λ k d _. put_packable (get_or rewrites k d)) (λ _ _ _. tt) (All-filter _ (λ (l : Key × List StoredSpot). CanPack l.1) (index_lists_of columns (afters rewrites)) packed) (λ _ _ _. tt) (λ _ _ _. tt)
   where
-    put_packable : (k : ℕ) (d : Rewrite) → All IsPackable (put_cells tab (get_or rewrites k d).docid (unwrap_or (get_or rewrites k d).before []) (unwrap_or (get_or rewrites k d).after []))
-    put_packable k d = All-map IsPackable (λ (c : ℤ × Cell). PutCell tab (get_or rewrites k d).docid c.0 c.1) (changed int_cmp same_cell (numbered_cells (unwrap_or (get_or rewrites k d).before [])) (numbered_cells (unwrap_or (get_or rewrites k d).after []))) (λ _ _ _. tt)
+    put_packable : (r : Rewrite) → All IsPackable (put_cells tab r.docid (unwrap_or r.before []) (unwrap_or r.after []))
+    put_packable r = All-map IsPackable (λ (c : ℤ × Cell). PutCell tab r.docid c.0 c.1) (changed int_cmp same_cell (numbered_cells (unwrap_or r.before [])) (numbered_cells (unwrap_or r.after []))) (λ _ _ _. tt)
 
 can_apply : (change : RowChange) → IsPackable (shown_change change) → CanApply change
 can_apply (row.PutEntries tab term docid spots) h = h
