@@ -61,14 +61,23 @@ pub sorted-values : {K V W : Type 0} (R : K → K → Ordering) (f : V → W) (e
 sorted-values R f [] = refl
 sorted-values R f (e ∷ es) = λ i. below-values R f e.0 es i && sorted-values R f es i
 
+-- a key below all others isn't there
+pub none_found : {K V : Type 0} (R : K → K → Ordering) (k : K) (es : List (K × V)) → below_all R k es ≡ true → find R k es ≡ None
+none_found R k [] h = refl
+none_found R k (e ∷ es) h =
+    let parts = and_parts (is_lt (R k e.0)) (below_all R k es) h in
+    ap (λ o. cond (is_eq o) (Some e.1) (find R k es)) (less _ parts.0) ∙ none_found R k es parts.1
+
+-- what is below a key is below all that it is below
+pub below_lower : {K V : Type 0} (R : K → K → Ordering) → IsTotalOrder R → (x y : K) (es : List (K × V)) → is_lt (R x y) ≡ true → below_all R y es ≡ true → below_all R x es ≡ true
+below_lower R o x y [] h below = refl
+below_lower R o x y (e ∷ es) h below =
+    let parts = and_parts (is_lt (R y e.0)) (below_all R y es) below in
+    and_from (is_lt (R x e.0)) (below_all R x es) (ap is_lt (o.trans x y e.0 (less _ h) (less _ parts.0))) (below_lower R o x y es h parts.1)
+
 module _ {K V : Type 0} (R : K → K → Ordering) (o : IsTotalOrder R) (exact : CmpEqualImpliesEq R) where
-  -- a key below all others isn't there
   pub none_below : (q k : K) (es : List (K × V)) → eq_by_cmp R q k ≡ true → below_all R k es ≡ true → find R q es ≡ None
-  none_below q k [] same h = refl
-  none_below q k (e ∷ es) same h =
-      let parts = and_parts (is_lt (R k e.0)) (below_all R k es) h in
-      let is = ap (λ x. R x e.0) (exact q k (tie _ same)) ∙ less _ parts.0 in
-      ap (λ r. cond (is_eq r) (Some e.1) (find R q es)) is ∙ none_below q k es same parts.1
+  none_below q k es same h = ap (λ x. find R x es) (exact q k (tie _ same)) ∙ none_found R k es h
 
   -- what holds of all holds of what is found
   pub found_holds : (P : K × V → Type 0) (q : K) (v : V) (es : List (K × V)) → All P es → find R q es ≡ Some v → P (q, v)

@@ -7,7 +7,7 @@ use Rattle.std.proofs.lemmas.Bool.{and_parts, and_from, false_from_ne_true}
 use Rattle.ft_values.specs.Cells.{Cell}
 use Rattle.ft_content.specs.Content.{CellRow, Documents, document_rows, is_cell, is_document}
 use Rattle.ft_documents.specs.Standing.{AreDocumentCells, stands_after, follows}
-use Rattle.ft_documents.proofs.KeyedRows.{less, same_int}
+use Rattle.ft_documents.proofs.KeyedRows.{below_lower, same_int}
 
 abbrev pub next_place : ℕ → ℕ → ℕ
 next_place width place = cond (place + 1 == width) 0 (place + 1)
@@ -49,12 +49,6 @@ Rest width place (Some docid) cells false = Begun width place docid cells
 later_place : (k : ℕ) → (k + 1 == 0) ≡ false
 later_place k = false_from_ne_true (k + 1 == 0) (λ h. let e : k + 1 ≡ 0 = eqb-true (k + 1) 0 h in omega arith)
 
-lower : (x y : ℤ) (documents : Documents) → is_lt (int_cmp x y) ≡ true → below_all int_cmp y documents ≡ true → below_all int_cmp x documents ≡ true
-lower x y [] h below = refl
-lower x y (d ∷ ds) h below =
-    let parts = and_parts (is_lt (int_cmp y d.0)) (below_all int_cmp y ds) below in
-    and_from (is_lt (int_cmp x d.0)) (below_all int_cmp x ds) (ap is_lt (int_cmp_total.trans x y d.0 (less _ h) (less _ parts.0))) (lower x y ds h parts.1)
-
 -- ---- cells that follow one another
 
 a_document : (width : ℕ) (docid : ℤ) (own : List Cell) → length own ≡ width → list_all is_cell own ≡ true → is_document width (docid, own) ≡ true
@@ -62,20 +56,17 @@ a_document width docid own long each = and_from (length own == width) (list_all 
 
 -- from the first place a document begins
 starts : (width : ℕ) (last : Option ℤ) (cell : CellRow) (cells : List CellRow) → stands_after 0 last cell.docid ≡ true → Begun width 0 cell.docid (cell ∷ cells) → Whole width last (cell ∷ cells)
-starts width None cell cells after b = record {
+starts width last cell cells after b = record {
   documents = (cell.docid, b.own) ∷ b.whole.documents;
   each = and_from (is_document width (cell.docid, b.own)) (list_all (is_document width) b.whole.documents) (a_document width cell.docid b.own (omega (arith, b.long)) b.each) b.whole.each;
   rising = and_from (below_all int_cmp cell.docid b.whole.documents) (is_sorted int_cmp b.whole.documents) b.whole.behind b.whole.rising;
-  behind = refl;
+  behind = all_behind last after;
   is = b.is ∙ ap (λ rest. cells_from 0 cell.docid b.own ++ rest) b.whole.is;
 }
-starts width (Some last) cell cells after b = record {
-  documents = (cell.docid, b.own) ∷ b.whole.documents;
-  each = and_from (is_document width (cell.docid, b.own)) (list_all (is_document width) b.whole.documents) (a_document width cell.docid b.own (omega (arith, b.long)) b.each) b.whole.each;
-  rising = and_from (below_all int_cmp cell.docid b.whole.documents) (is_sorted int_cmp b.whole.documents) b.whole.behind b.whole.rising;
-  behind = and_from (is_lt (int_cmp last cell.docid)) (below_all int_cmp last b.whole.documents) after (lower last cell.docid b.whole.documents after b.whole.behind);
-  is = b.is ∙ ap (λ rest. cells_from 0 cell.docid b.own ++ rest) b.whole.is;
-}
+  where
+    all_behind : (last : Option ℤ) → stands_after 0 last cell.docid ≡ true → above last ((cell.docid, b.own) ∷ b.whole.documents) ≡ true
+    all_behind None after = refl
+    all_behind (Some last) after = and_from (is_lt (int_cmp last cell.docid)) (below_all int_cmp last b.whole.documents) after (below_lower int_cmp int_cmp_total last cell.docid b.whole.documents after b.whole.behind)
 
 -- and at each other place it goes on
 goes_on : (width place : ℕ) (first : Bool) → (place == 0) ≡ first → (last : Option ℤ) (cell : CellRow) (cells : List CellRow) → stands_after place last cell.docid ≡ true → Begun width place cell.docid (cell ∷ cells) → Rest width place last (cell ∷ cells) first

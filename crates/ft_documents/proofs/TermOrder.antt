@@ -30,7 +30,8 @@ use Rattle.ft_rows.specs.Terms.{spot_of, joined_posting as before_lists, lists_o
 use Rattle.ft_content.specs.Index.{Key, key_cmp, StoredSpot}
 use Rattle.ft_documents.specs.Placed.{rise}
 use Rattle.ft_documents.specs.Terms.{Group, by_docids, under_term, lists_of_terms, lists_in_groups, group_spots, spots_of_docid}
-use Rattle.ft_documents.proofs.KeyedRows.{less, same_int}
+use Rattle.ft_documents.proofs.KeyedRows.{none_found, below_lower, same_int}
+use Rattle.ft_documents.proofs.DocumentRows.{find_under, below_under, sorted_under, or_none}
 use Rattle.ft_documents.proofs.SpotLists.{joined, made_of}
 use Rattle.ft_documents.proofs.GroupLemmas.{Has, has_in, is_term, same_test, term_is, had_under, spots_in_groups, found_had}
 
@@ -54,18 +55,6 @@ equal_or_less : (o : Ordering) → is_le o ≡ true → is_eq o ≡ false → is
 equal_or_less Less h k = refl
 equal_or_less Equal h k = absurd (let no = k in cc)
 equal_or_less Greater h k = absurd (let no = h in cc)
-
-below_after : (d e : ℤ) (ls : DocLists) → is_lt (int_cmp d e) ≡ true → below_all int_cmp e ls ≡ true → below_all int_cmp d ls ≡ true
-below_after d e [] h below = refl
-below_after d e (l ∷ ls) h below =
-    let parts = and_parts (is_lt (int_cmp e l.0)) (below_all int_cmp e ls) below in
-    and_from (is_lt (int_cmp d l.0)) (below_all int_cmp d ls) (ap is_lt (int_cmp_total.trans d e l.0 (less _ h) (less _ parts.0))) (below_after d e ls h parts.1)
-
-none_found : {K V : Type 0} (R : K → K → Ordering) (k : K) (es : List (K × V)) → below_all R k es ≡ true → find R k es ≡ None
-none_found R k [] h = refl
-none_found R k (e ∷ es) h =
-    let parts = and_parts (is_lt (R k e.0)) (below_all R k es) h in
-    ap (λ o. cond (is_eq o) (Some e.1) (find R k es)) (less _ parts.0) ∙ none_found R k es parts.1
 
 some_joined : (ss ts : List StoredSpot) → Some ts ≡ joined None ss → ts ≡ ss
 some_joined [] ts h = absurd (let no = h in cc)
@@ -106,7 +95,7 @@ before p q ps (l ∷ ls) up first so_far =
       | false ↦ λ differ.
           let lower : is_lt (int_cmp p.docid l.0) ≡ true = equal_or_less (int_cmp p.docid l.0) (ap (λ d. is_le (int_cmp p.docid d)) first ∙ up) differ in
           let parts = and_parts (below_all int_cmp l.0 ls) (is_sorted int_cmp ls) so_far.sorted in
-          let below : below_all int_cmp p.docid (l ∷ ls) ≡ true = and_from (is_lt (int_cmp p.docid l.0)) (below_all int_cmp p.docid ls) lower (below_after p.docid l.0 ls lower parts.0) in
+          let below : below_all int_cmp p.docid (l ∷ ls) ≡ true = and_from (is_lt (int_cmp p.docid l.0)) (below_all int_cmp p.docid ls) lower (below_lower int_cmp int_cmp_total p.docid l.0 ls lower parts.0) in
           record {
             sorted = and_from (below_all int_cmp p.docid (l ∷ ls)) (is_sorted int_cmp (l ∷ ls)) below so_far.sorted;
             found = λ d.
@@ -133,43 +122,12 @@ term_cmp a b = slice_cmp nat_cmp (string_bytes a) (string_bytes b)
 term_total : IsTotalOrder term_cmp
 term_total = on_total (λ (t : Term). string_bytes t) nat_list_cmp_total
 
-find_term : (q : Key) (t : List ℕ) (ls : DocLists) (rest : Lists) → find key_cmp q (under_term t ls ++ rest) ≡ cond (is_eq (slice_cmp nat_cmp q.0 t)) (option_or (find int_cmp q.1 ls) (find key_cmp q rest)) (find key_cmp q rest)
-find_term q t [] rest = elim (is_eq (slice_cmp nat_cmp q.0 t)) as (λ b. find key_cmp q rest ≡ cond b (find key_cmp q rest) (find key_cmp q rest)) [ true ↦ refl | false ↦ refl ]
-find_term q t (l ∷ ls) rest =
-    let other = find key_cmp q rest in
-    let more = find_term q t ls rest in
-    elim (slice_cmp nat_cmp q.0 t) as (λ o. slice_cmp nat_cmp q.0 t ≡ o → cond (is_eq (ordering_then o (int_cmp q.1 l.0))) (Some l.1) (find key_cmp q (under_term t ls ++ rest)) ≡ cond (is_eq o) (option_or (cond (int_eq q.1 l.0) (Some l.1) (find int_cmp q.1 ls)) other) other) [
-      | Less ↦ λ h. more ∙ ap (λ o. cond (is_eq o) (option_or (find int_cmp q.1 ls) other) other) h
-      | Equal ↦ λ h. elim (int_eq q.1 l.0) as (λ b. cond b (Some l.1) (find key_cmp q (under_term t ls ++ rest)) ≡ option_or (cond b (Some l.1) (find int_cmp q.1 ls)) other) [
-        | true ↦ refl
-        | false ↦ more ∙ ap (λ o. cond (is_eq o) (option_or (find int_cmp q.1 ls) other) other) h
-      ]
-      | Greater ↦ λ h. more ∙ ap (λ o. cond (is_eq o) (option_or (find int_cmp q.1 ls) other) other) h
-    ] refl
-
-below_own : (t : List ℕ) (d : ℤ) (ls : DocLists) (rest : Lists) → below_all int_cmp d ls ≡ true → below_all key_cmp (t, d) rest ≡ true → below_all key_cmp (t, d) (under_term t ls ++ rest) ≡ true
-below_own t d [] rest h below = below
-below_own t d (l ∷ ls) rest h below =
-    let parts = and_parts (is_lt (int_cmp d l.0)) (below_all int_cmp d ls) h in
-    and_from (is_lt (key_cmp (t, d) (t, l.0))) (below_all key_cmp (t, d) (under_term t ls ++ rest)) (ap (λ o. is_lt (ordering_then o (int_cmp d l.0))) (tied_itself nat_list_cmp_total t) ∙ parts.0) (below_own t d ls rest parts.1 below)
-
-sorted_under : (t : List ℕ) (ls : DocLists) (rest : Lists) → is_sorted int_cmp ls ≡ true → ((d : ℤ) → below_all key_cmp (t, d) rest ≡ true) → is_sorted key_cmp rest ≡ true → is_sorted key_cmp (under_term t ls ++ rest) ≡ true
-sorted_under t [] rest h below sorted = sorted
-sorted_under t (l ∷ ls) rest h below sorted =
-    let parts = and_parts (below_all int_cmp l.0 ls) (is_sorted int_cmp ls) h in
-    and_from (below_all key_cmp (t, l.0) (under_term t ls ++ rest)) (is_sorted key_cmp (under_term t ls ++ rest)) (below_own t l.0 ls rest parts.0 (below l.0)) (sorted_under t ls rest parts.1 below sorted)
-
-below_other : (t u : List ℕ) (d : ℤ) (ls : DocLists) (rest : Lists) → slice_cmp nat_cmp t u ≡ Less → below_all key_cmp (t, d) rest ≡ true → below_all key_cmp (t, d) (under_term u ls ++ rest) ≡ true
-below_other t u d [] rest h below = below
-below_other t u d (l ∷ ls) rest h below =
-    and_from (is_lt (key_cmp (t, d) (u, l.0))) (below_all key_cmp (t, d) (under_term u ls ++ rest)) (ap (λ o. is_lt (ordering_then o (int_cmp d l.0))) h) (below_other t u d ls rest h below)
-
 abbrev terms_of : List TermLists → List Term
 terms_of ts = map (λ (t : TermLists). t.term) ts
 
 below_terms : (t : Term) (d : ℤ) (ts : List TermLists) → AllByRecursion (λ y. term_cmp t y ≡ Less) (terms_of ts) → below_all key_cmp (string_bytes t, d) (lists_of_terms ts) ≡ true
 below_terms t d [] all = refl
-below_terms t d (u ∷ us) all = below_other (string_bytes t) (string_bytes u.term) d (lists_of_postings u.postings.items) (lists_of_terms us) all.0 (below_terms t d us all.1)
+below_terms t d (u ∷ us) all = below_under (slice_cmp nat_cmp) nat_list_cmp_total (string_bytes t, d) (string_bytes u.term) (lists_of_postings u.postings.items) (lists_of_terms us) (ap is_lt all.0) (below_terms t d us all.1)
 
 -- ---- the lists of terms in order
 
@@ -183,10 +141,6 @@ record AreMade (ts : List TermLists) : Type 0 where
   sorted : is_sorted key_cmp (lists_of_terms ts) ≡ true
   found : (q : Key) → find key_cmp q (lists_of_terms ts) ≡ joined None (flat_map (had_under q) (map term_has ts))
 
-or_none : (o : Option (List StoredSpot)) → option_or o None ≡ o
-or_none None = refl
-or_none (Some ss) = refl
-
 made : (ts : List TermLists) → IsStrictlySortedBy term_cmp (terms_of ts) → All HasRisen ts → AreMade ts
 unfolding IsStrictlySortedBy
 made [] sorted all = record { sorted = refl; found = λ q. refl }
@@ -196,11 +150,11 @@ made (t ∷ ts) sorted all =
     let lists : DocLists = lists_of_postings t.postings.items in
     let others : Lists = lists_of_terms ts in
     record {
-      sorted = sorted_under (string_bytes t.term) lists others own.sorted (λ d. below_terms t.term d ts sorted.0) rest.sorted;
+      sorted = sorted_under (slice_cmp nat_cmp) nat_list_cmp_total (string_bytes t.term) lists others own.sorted (λ d. below_terms t.term d ts sorted.0) rest.sorted;
       found = λ q.
           let spots = spots_of_docid t.postings.items q.1 in
           let had = flat_map (had_under q) (map term_has ts) in
-          find_term q (string_bytes t.term) lists others
+          find_under (slice_cmp nat_cmp) nat_list_cmp_total q (string_bytes t.term) lists others
           ∙ elim (is_term q.0 t.term) as (λ b. is_term q.0 t.term ≡ b → cond b (option_or (find int_cmp q.1 lists) (find key_cmp q others)) (find key_cmp q others) ≡ joined None (cond b spots [] ++ had)) [
             | true ↦ λ h.
                 let none : find key_cmp q others ≡ None = none_found key_cmp q others (ap (λ s. below_all key_cmp (s, q.1) others) (term_is q.0 t.term h) ∙ below_terms t.term q.1 ts sorted.0) in
