@@ -4,10 +4,11 @@ use Rattle.std.specs.Ordering.{eq_by_cmp}
 use Rattle.std.specs.Cmp.{IsTotalOrder, eq_by_cmp_equiv, int_cmp_total, tied_itself}
 use Rattle.std.specs.FinMap.Entries.{find, below_all, is_sorted}
 use Rattle.std.proofs.lemmas.Bool.{and_parts, and_from}
-use Rattle.std.proofs.lemmas.List.Elements.{All-nil, All-cons, All-append, All-map, All-filter, All-weaker}
+use Rattle.std.proofs.lemmas.List.Elements.{All-from_recursion, All-nil, All-cons, All-append, All-map, All-filter, All-weaker}
 use Rattle.std.proofs.lemmas.Map.Lookups.{CmpEqualImpliesEq}
 use Rattle.std.proofs.lemmas.Slice.Eq.{bytes_eq-Decides}
 use Rattle.ft_values.specs.Cells.{Cell, Null, Int, Text}
+use Rattle.ft_rows.proofs.ListLemmas.{filter_passes}
 use Rattle.ft_rows.specs.Store.{StoreValue, cell_key_cmp, list_key_cmp, column_key_cmp, PutCell, DropCells, PutEntries, DropEntries, PutSize, DropSize}
 use Rattle.ft_content.specs.Content.{Column, Documents, Content}
 use Rattle.ft_content.specs.Index.{Key, key_cmp, StoredSpot}
@@ -24,11 +25,7 @@ use Rattle.ft_documents.proofs.NearLemmas.{all_changes}
 use Rattle.ft_documents.proofs.RightLemmas.{own_cells, own_lists, own_sizes}
 
 passing : {X : Type 0} (p : X → Bool) (xs : List X) → All (λ x. p x ≡ true) (filter p xs)
-passing p [] = All-nil (λ x. p x ≡ true)
-passing p (x ∷ xs) = elim (p x) as (λ b. p x ≡ b → All (λ x. p x ≡ true) (cond b (x ∷ filter p xs) (filter p xs))) [
-  | true ↦ λ is. All-cons (λ x. p x ≡ true) x (filter p xs) is (passing p xs)
-  | false ↦ λ _. passing p xs
-] refl
+passing p xs = All-from_recursion (λ x. p x ≡ true) (filter p xs) (filter_passes p xs)
 
 both : {X : Type 0} (P Q : X → Type 0) (xs : List X) → All P xs → All Q xs → All (λ x. P x × Q x) xs
 both P Q xs h g = λ k d within. (h k d within, g k d within)

@@ -10,23 +10,17 @@ use Rattle.ft_documents.proofs.rewrite.put_cells.Goals as goal
 
 pub loop-place-preserved-in-Continue-1 : goal.loop-place-preserved-in-Continue-1
 loop-place-preserved-in-Continue-1 c =
-    let tab : ℤ = to_z w64 (of_z w64 c.args.tab) in
-    let docid : ℤ = to_z w64 (of_z w64 c.args.docid) in
-    one_more_put tab docid (map shown_value c.args.before.now) c.in-Some.place c.in-Some.value c.loop-place.yielded _ (map shown_change c.loop-place.changes.items) _ _
+    one_more_put _ _ (map shown_value c.args.before.now) c.in-Some.place c.in-Some.value c.loop-place.yielded _ (map shown_change c.loop-place.changes.items) _ _
     (sym (tells_put c.args.before.now c.in-Some.place _ c.get.result c.get.ensures.lookup.3 c.get.ensures.lookup.1) ∙ sym c.ne.ensures ∙ c.if-ne.true) (change_more _ _ _ c.in_ok-push.ensures.items) c.loop-place.invariant
 
 pub loop-place-preserved-else-ne : goal.loop-place-preserved-else-ne
 loop-place-preserved-else-ne c =
-    let tab : ℤ = to_z w64 (of_z w64 c.args.tab) in
-    let docid : ℤ = to_z w64 (of_z w64 c.args.docid) in
-    one_more_put tab docid (map shown_value c.args.before.now) c.in-Some.place c.in-Some.value c.loop-place.yielded _ (map shown_change c.loop-place.changes.items) _ _
+    one_more_put _ _ (map shown_value c.args.before.now) c.in-Some.place c.in-Some.value c.loop-place.yielded _ (map shown_change c.loop-place.changes.items) _ _
     (sym (tells_put c.args.before.now c.in-Some.place _ c.get.result c.get.ensures.lookup.3 c.get.ensures.lookup.1) ∙ sym c.ne.ensures ∙ c.if-ne.false) refl c.loop-place.invariant
 
 pub loop-place-preserved : goal.loop-place-preserved
 loop-place-preserved c =
-    let tab : ℤ = to_z w64 (of_z w64 c.args.tab) in
-    let docid : ℤ = to_z w64 (of_z w64 c.args.docid) in
-    one_more_put tab docid (map shown_value c.args.before.now) c.in-Some.place c.in-Some.value c.loop-place.yielded _ (map shown_change c.loop-place.changes.items) _ _
+    one_more_put _ _ (map shown_value c.args.before.now) c.in-Some.place c.in-Some.value c.loop-place.yielded _ (map shown_change c.loop-place.changes.items) _ _
     (sym (tells_put c.args.before.now c.in-Some.place _ c.get.result c.get.ensures.lookup.3 c.get.ensures.lookup.1) ∙ sym c.ne.ensures ∙ c.if-ne.false) refl c.loop-place.invariant
 
 pub returns : goal.returns

@@ -1,10 +1,10 @@
 -- one column more
-use Rattle.std.proofs.Common.{◌≡◌, ℤ, ◌+◌, ◌<◌, ◌++◌, List, [], ◌∷◌, map, length, take, cond, pos, sym, ap, ◌∙◌, arith, rules, to_z, w64, Vec, Global, length-take-le}
+use Rattle.std.proofs.Common.{◌≡◌, append-nil, ℤ, ◌+◌, ◌<◌, ◌++◌, List, [], ◌∷◌, map, length, take, cond, pos, sym, ap, ◌∙◌, arith, rules, to_z, w64, Vec, Global, length-take-le}
 use Rattle.std.proofs.lemmas.List.{map-append, take_more, length-map}
 use Rattle.ft_values.specs.declared.table.Column.{Column}
 use Rattle.ft_content.specs.Content.{skipped_from}
 use Rattle.ft_content.specs.Views.{column_of}
-use Rattle.ft_documents.proofs.AddLemmas.{one_more_skipped, append_none}
+use Rattle.ft_documents.proofs.AddLemmas.{one_more_skipped}
 use Rattle.ft_documents.proofs.tables.skipped.Goals as goal
 use Rattle.ft_documents.proofs.tables.skipped.Goals.{then-not-column+in_ok-push, else-not-column}
 
@@ -25,5 +25,5 @@ loop-number-preserved c =
           ∙ (λ i. c.loop-number.invariant i ++ at i ∷ [])
           ∙ sym (more ∙ ap (λ b. skipped_from 0 (map column_of front) ++ cond b [] (pos n ∷ [])) w.if-not-column.true)
       | else-not-column w ↦ ap (λ (v : Vec ℤ Global). v.items) w.numbers-is ∙ c.loop-number.invariant
-          ∙ sym (more ∙ ap (λ b. skipped_from 0 (map column_of front) ++ cond b [] (pos n ∷ [])) w.if-not-column.false ∙ append_none (skipped_from 0 (map column_of front)))
+          ∙ sym (more ∙ ap (λ b. skipped_from 0 (map column_of front) ++ cond b [] (pos n ∷ [])) w.if-not-column.false ∙ append-nil (skipped_from 0 (map column_of front)))
     ]
