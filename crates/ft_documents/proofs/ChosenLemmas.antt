@@ -14,31 +14,17 @@ use Rattle.ft_content.specs.Answer.{is_chosen, chosen, query_in}
 use Rattle.ft_documents.specs.Chosen.{document_at}
 use Rattle.ft_documents.specs.Matched.{hit_read, chosen_hits, as_wanted}
 use Rattle.ft_documents.specs.Rewrite.{document_if}
-use Rattle.ft_documents.proofs.KeyedRows.{tie, none_below}
+use Rattle.ft_documents.proofs.KeyedRows.{tie, below_apart, none_below, each_found}
 
 -- a document is found under its docid
 abbrev pub AreFound : (ℤ → Option (List Cell)) → Documents → Type 0
 AreFound look documents = AllByRecursion (λ (d : ℤ × List Cell). look d.0 ≡ Some d.1) documents
 
 pub less_apart : (a b : ℤ) → is_lt (int_cmp a b) ≡ true → int_eq b a ≡ false
-less_apart a b less = (eq_by_cmp_equiv int_cmp_total).symm b a ∙ apart (int_cmp a b) less
-  where
-    apart : (o : Ordering) → is_lt o ≡ true → is_eq o ≡ false
-    apart Less h = refl
-    apart Equal h = absurd (let no = h in cc)
-    apart Greater h = absurd (let no = h in cc)
-
-found_behind : (e : ℤ × List Cell) (look : ℤ → Option (List Cell)) (ds : Documents) → below_all int_cmp e.0 ds ≡ true → AreFound look ds → AreFound (λ k. cond (int_eq k e.0) (Some e.1) (look k)) ds
-found_behind e look [] below found = tt
-found_behind e look (d ∷ ds) below found =
-    let parts = and_parts (is_lt (int_cmp e.0 d.0)) (below_all int_cmp e.0 ds) below in
-    (ap (λ b. cond b (Some e.1) (look d.0)) (less_apart e.0 d.0 parts.0) ∙ found.0, found_behind e look ds parts.1 found.1)
+less_apart a b less = (eq_by_cmp_equiv int_cmp_total).symm b a ∙ below_apart _ less
 
 pub all_found : (ds : Documents) → is_sorted int_cmp ds ≡ true → AreFound (λ k. find int_cmp k ds) ds
-all_found [] rising = tt
-all_found (d ∷ ds) rising =
-    let parts = and_parts (below_all int_cmp d.0 ds) (is_sorted int_cmp ds) rising in
-    (ap (λ o. cond (is_eq o) (Some d.1) (find int_cmp d.0 ds)) (tied_itself int_cmp_total d.0), found_behind d (λ k. find int_cmp k ds) ds parts.0 (all_found ds parts.1))
+all_found ds rising = each_found int_cmp int_cmp_total exact_signed ds rising
 
 found_again : (look : ℤ → Option (List Cell)) (p : ℤ × List Cell → Bool) (ds : Documents) → AreFound look ds → map (λ (d : ℤ × List Cell). (d.0, unwrap_or (look d.0) [])) (filter p ds) ≡ filter p ds
 found_again look p [] found = refl

@@ -11,22 +11,17 @@ use Rattle.ft_values.specs.Cells.{Cell}
 use Rattle.ft_content.specs.Content.{Documents, Content, IsContent, is_document}
 use Rattle.ft_documents.specs.Rewrite.{Rewrite, AreOf, FitIfAny, under_docids, rewritten}
 use Rattle.ft_documents.proofs.RewriteLemmas.{written, find_rewritten}
-use Rattle.ft_documents.proofs.KeyedRows.{below_apart, found_holds}
+use Rattle.ft_documents.proofs.KeyedRows.{found_holds}
+use Rattle.ft_documents.proofs.KeyedRows as keyed
 
 -- ---- each rewrite is found under its docid
 
-found_behind : (first : Rewrite) (rs all : List Rewrite) → below_all int_cmp first.docid (under_docids rs) ≡ true → AllByRecursion (λ (r : Rewrite). find int_cmp r.docid (under_docids all) ≡ Some r) rs → AllByRecursion (λ (r : Rewrite). find int_cmp r.docid (under_docids (first ∷ all)) ≡ Some r) rs
-found_behind first [] all below found = tt
-found_behind first (r ∷ rs) all below found =
-    let parts = and_parts (is_lt (int_cmp first.docid r.docid)) (below_all int_cmp first.docid (under_docids rs)) below in
-    let other : int_eq r.docid first.docid ≡ false = (eq_by_cmp_equiv int_cmp_total).symm r.docid first.docid ∙ below_apart _ parts.0 in
-    (ap (λ b. cond b (Some first) (find int_cmp r.docid (under_docids all))) other ∙ found.0, found_behind first rs all parts.1 found.1)
-
 pub each_found : (rs : List Rewrite) → is_sorted int_cmp (under_docids rs) ≡ true → AllByRecursion (λ (r : Rewrite). find int_cmp r.docid (under_docids rs) ≡ Some r) rs
-each_found [] sorted = tt
-each_found (r ∷ rs) sorted =
-    let parts = and_parts (below_all int_cmp r.docid (under_docids rs)) (is_sorted int_cmp (under_docids rs)) sorted in
-    (ap (λ b. cond b (Some r) (find int_cmp r.docid (under_docids rs))) (ap is_eq (tied_itself int_cmp_total r.docid)), found_behind r rs rs parts.0 (each_found rs parts.1))
+each_found rs sorted = of_each rs (keyed.each_found int_cmp int_cmp_total exact_signed (under_docids rs) sorted)
+  where
+    of_each : (ss : List Rewrite) → AllByRecursion (λ (e : ℤ × Rewrite). find int_cmp e.0 (under_docids rs) ≡ Some e.1) (under_docids ss) → AllByRecursion (λ (r : Rewrite). find int_cmp r.docid (under_docids rs) ≡ Some r) ss
+    of_each [] found = tt
+    of_each (s ∷ ss) found = (found.0, of_each ss found.1)
 
 -- a document that is found among fit ones is fit
 found_fit : (width : ℕ) (documents : Documents) (docid : ℤ) (cells : List Cell) → list_all (is_document width) documents ≡ true → find int_cmp docid documents ≡ Some cells → is_document width (docid, cells) ≡ true

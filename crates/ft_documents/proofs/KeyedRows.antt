@@ -1,5 +1,6 @@
 -- Rows under keys: what is found in them after they are mapped, filtered and put.
 use Rattle.std.proofs.Common.{◌≡◌, All, Bool, true, false, cond, not, T, ◌&&◌, List, [], ◌∷◌, map, Option, Some, None, refl, sym, ap, subst, ◌∙◌, ℤ, filter, option_map, is_some, Ordering, Less, Equal, Greater, int_eq, is_eq, is_lt}
+use Rattle.std.specs.List.{AllByRecursion}
 use Rattle.std.specs.Ordering.{eq_by_cmp, ordering_then}
 use Rattle.std.specs.Cmp.{IsTotalOrder, eq_by_cmp_equiv, int_cmp_total, tied_itself}
 use Rattle.std.specs.FinMap.{int_cmp-IsAntisymmetric}
@@ -87,6 +88,19 @@ module _ {K V : Type 0} (R : K → K → Ordering) (o : IsTotalOrder R) (exact :
         | true ↦ λ same is. subst P (λ i. (sym (exact q e.0 (tie _ same)) i, same_Some e.1 v is i)) (All-head P e es all)
         | false ↦ λ _ is. found_holds P q v es (All-tail P e es all) is
       ] refl
+
+  -- and of rows in order each is found
+  found_behind : (x : K × V) (es all : List (K × V)) → below_all R x.0 es ≡ true → AllByRecursion (λ (e : K × V). find R e.0 all ≡ Some e.1) es → AllByRecursion (λ (e : K × V). find R e.0 (x ∷ all) ≡ Some e.1) es
+  found_behind x [] all below found = tt
+  found_behind x (e ∷ es) all below found =
+      let parts = and_parts (is_lt (R x.0 e.0)) (below_all R x.0 es) below in
+      (ap (λ b. cond b (Some x.1) (find R e.0 all)) ((eq_by_cmp_equiv o).symm e.0 x.0 ∙ below_apart _ parts.0) ∙ found.0, found_behind x es all parts.1 found.1)
+
+  pub each_found : (es : List (K × V)) → is_sorted R es ≡ true → AllByRecursion (λ (e : K × V). find R e.0 es ≡ Some e.1) es
+  each_found [] h = tt
+  each_found (e ∷ es) h =
+      let parts = and_parts (below_all R e.0 es) (is_sorted R es) h in
+      (ap (λ r. cond (is_eq r) (Some e.1) (find R e.0 es)) (tied_itself o e.0), found_behind e es es parts.0 (each_found es parts.1))
 
   -- ---- rows that are put
 

@@ -15,7 +15,7 @@ use Rattle.ft_content.specs.Index.{Key, key_cmp, StoredSpot}
 use Rattle.ft_content.proofs.IndexLemmas.{key_cmp_total, key_cmp_exact}
 use Rattle.ft_documents.specs.Rewrite.{Rewrite, befores, afters, under_docids, AreOf, HasContent, IsNew, AreNew}
 use Rattle.ft_documents.specs.RewriteRows.{same_cell, same_spot, same_spots, was_there, gone, changed, numbered_cells, goes, dropped_documents, put_cells, put_documents, dropped_lists, put_lists, dropped_sizes, put_sizes, index_lists_of, sizes_of, list_changes, rewrite_changes}
-use Rattle.ft_documents.proofs.KeyedRows.{below_apart}
+use Rattle.ft_documents.proofs.KeyedRows.{each_found}
 use Rattle.ft_documents.proofs.StoreKeys.{column_exact, column_total, list_keys, cell_keys}
 use Rattle.ft_documents.proofs.DocumentRows.{one_by}
 use Rattle.ft_documents.proofs.RewriteLemmas.{AreRowsOf, old_there, new_there, sorted_befores, sorted_afters}
@@ -34,23 +34,6 @@ not_true : (b : Bool) → not b ≡ true → b ≡ true → ⊥
 not_true true h g = let no = h in cc
 not_true false h g = let no = g in cc
 
--- ---- what stands in rows in order is found there
-
-module _ {K V : Type 0} (S : K → K → Ordering) (o : IsTotalOrder S) where
-  all_apart : (k : K) (es : List (K × V)) → below_all S k es ≡ true → All (λ (x : K × V). eq_by_cmp S x.0 k ≡ false) es
-  all_apart k [] h = All-nil (λ (x : K × V). eq_by_cmp S x.0 k ≡ false)
-  all_apart k (e ∷ es) h =
-      let parts = and_parts (is_lt (S k e.0)) (below_all S k es) h in
-      All-cons (λ (x : K × V). eq_by_cmp S x.0 k ≡ false) e es ((eq_by_cmp_equiv o).symm e.0 k ∙ below_apart _ parts.0) (all_apart k es parts.1)
-
-  pub all_found : (es : List (K × V)) → is_sorted S es ≡ true → All (λ (e : K × V). find S e.0 es ≡ Some e.1) es
-  all_found [] h = All-nil (λ (e : K × V). find S e.0 [] ≡ Some e.1)
-  all_found (e ∷ es) h =
-      let parts = and_parts (below_all S e.0 es) (is_sorted S es) h in
-      All-cons (λ (x : K × V). find S x.0 (e ∷ es) ≡ Some x.1) e es (ap (λ r. cond (is_eq r) (Some e.1) (find S e.0 es)) (tied_itself o e.0))
-      (All-weaker (λ (x : K × V). (find S x.0 es ≡ Some x.1) × (eq_by_cmp S x.0 e.0 ≡ false)) (λ x. find S x.0 (e ∷ es) ≡ Some x.1) (λ x is. ap (λ b. cond b (Some e.1) (find S x.0 es)) is.1 ∙ is.0) es
-      (both (λ (x : K × V). find S x.0 es ≡ Some x.1) (λ (x : K × V). eq_by_cmp S x.0 e.0 ≡ false) es (all_found es parts.1) (all_apart e.0 es parts.0)))
-
 -- ---- lists and sizes
 
 module _ {K V : Type 0} (S : K → K → Ordering) (o : IsTotalOrder S) (exact : CmpEqualImpliesEq S) (docid_of : K → ℤ) (rows : Documents → List (K × V)) (one : K → Option (List Cell) → Option V) (are : AreRowsOf S docid_of rows one)
@@ -60,7 +43,7 @@ module _ {K V : Type 0} (S : K → K → Ordering) (o : IsTotalOrder S) (exact :
   old_new p =
       All-filter p (λ (e : K × V). IsSome (find S e.0 (rows documents))) (rows (befores rewrites))
       (All-weaker (λ (e : K × V). find S e.0 (rows (befores rewrites)) ≡ Some e.1) (λ (e : K × V). IsSome (find S e.0 (rows documents))) (λ e is. ap is_some (old_there S o exact docid_of rows one are documents rewrites ordered rising known e.0 e.1 is)) (rows (befores rewrites))
-      (all_found S o (rows (befores rewrites)) (sorted_befores S o exact docid_of rows one are documents rewrites ordered rising known)))
+      (All-from_recursion _ _ (each_found S o exact (rows (befores rewrites)) (sorted_befores S o exact docid_of rows one are documents rewrites ordered rising known))))
 
   changed_new : All (λ (e : K × V). find S e.0 (rows documents) ≢ Some e.1) (changed S same (rows (befores rewrites)) (rows (afters rewrites)))
   changed_new =
@@ -72,7 +55,7 @@ module _ {K V : Type 0} (S : K → K → Ordering) (o : IsTotalOrder S) (exact :
       All-weaker (λ e. P e × Q e) (λ (e : K × V). find S e.0 (rows documents) ≢ Some e.1)
       (λ e is there. not_true (was_there same (find S e.0 old) e.1) is.0
       (ap (λ x. was_there same x e.1) (sym (new_there S o exact docid_of rows one are documents rewrites ordered rising known e.0 e.1 is.1) ∙ there) ∙ whole e.1))
-      (filter p new) (both P Q (filter p new) (passing p new) (All-filter p Q new (all_found S o new (sorted_afters S o exact docid_of rows one are documents rewrites ordered rising known))))
+      (filter p new) (both P Q (filter p new) (passing p new) (All-filter p Q new (All-from_recursion Q new (each_found S o exact new (sorted_afters S o exact docid_of rows one are documents rewrites ordered rising known)))))
 
 -- ---- cells
 

@@ -3,7 +3,7 @@ use Rattle.std.proofs.Common.{◌≡◌, ℕ, ◌≤◌, true, false, cond, List
 use Rattle.std.specs.List.{list_all}
 use Rattle.std.proofs.lemmas.Bool.{and_parts}
 use Rattle.std.specs.FinMap.Entries.{find, is_sorted}
-use Rattle.std.proofs.lemmas.List.Elements.{All-nil, All-cons, All-head, All-tail, All-append, All-map, All-filter, All-weaker}
+use Rattle.std.proofs.lemmas.List.Elements.{All-from_recursion, All-nil, All-cons, All-head, All-tail, All-append, All-map, All-filter, All-weaker}
 use Rattle.ft_values.specs.declared.rows.RowChange.{RowChange}
 use Rattle.ft_values.specs.declared.rows.RowChange.TheVariants as row
 use Rattle.ft_rows.specs.Changes.{shown_change, CanApply}
@@ -12,12 +12,12 @@ use Rattle.ft_values.specs.Cells.{Cell}
 use Rattle.ft_rows.specs.Store.{column_key_cmp, PutCell, DropCells, PutEntries, DropEntries, PutSize, DropSize}
 use Rattle.ft_content.specs.Content.{Column, Documents, is_cell, is_document}
 use Rattle.ft_content.specs.Index.{Key, key_cmp, StoredSpot}
-use Rattle.ft_content.proofs.IndexLemmas.{key_cmp_total}
+use Rattle.ft_content.proofs.IndexLemmas.{key_cmp_total, key_cmp_exact}
 use Rattle.ft_documents.specs.Rewrite.{Rewrite, befores, afters, document_if, under_docids, FitIfAny, IsPackable}
 use Rattle.ft_documents.specs.RewriteRows.{same_cell, same_spots, gone, changed, numbered_cells, goes, dropped_documents, put_cells, put_documents, dropped_lists, put_lists, dropped_sizes, put_sizes, index_lists_of, sizes_of, list_changes, rewrite_changes, AreShortNumbers}
 use Rattle.ft_documents.specs.MadeIndex.{HaveShortNumbers}
 use Rattle.ft_documents.proofs.NearLemmas.{all_changes, All-flat_map}
-use Rattle.ft_documents.proofs.NewLemmas.{all_found}
+use Rattle.ft_documents.proofs.KeyedRows.{each_found}
 use Rattle.ft_documents.proofs.RewriteLemmas.{sorted_held}
 use Rattle.ft_documents.proofs.RowKinds.{lists_are}
 use Rattle.ft_documents.proofs.PackLemmas.{list_packed, AreShortTexts, short_texts}
@@ -35,7 +35,7 @@ module _ (columns : List Column) where
       let rows = index_lists_of columns documents in
       All-weaker (λ (l : Key × List StoredSpot). find key_cmp l.0 rows ≡ Some l.1) (λ (l : Key × List StoredSpot). CanPack l.1)
       (λ l is. list_packed columns l.0 (find int_cmp l.0.1 documents) l.1 few (found_short l.0.1 documents short) (sym ((lists_are columns).found l.0 documents rising) ∙ is)) rows
-      (all_found key_cmp key_cmp_total rows ((lists_are columns).sorted documents rising))
+      (All-from_recursion (λ (l : Key × List StoredSpot). find key_cmp l.0 rows ≡ Some l.1) rows (each_found key_cmp key_cmp_total key_cmp_exact rows ((lists_are columns).sorted documents rising)))
 
   -- documents of a table have short texts
   pub document_short : (d : ℤ × List Cell) → is_document (length columns) d ≡ true → AreShortNumbers columns d.1 → ShortDocument d
