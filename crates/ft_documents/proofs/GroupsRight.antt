@@ -7,7 +7,9 @@ use Rattle.std.specs.FinMap.{int_cmp-IsAntisymmetric}
 use Rattle.std.specs.FinMap.Entries.{find, put, below_all, is_sorted, by_order}
 use Rattle.std.proofs.lemmas.Bool.{and_parts, and_from}
 use Rattle.std.proofs.lemmas.List.{map-append}
-use Rattle.std.proofs.lemmas.List.Elements.{All-nil, All-append, recursion_from_All, All-from_recursion}
+use Rattle.std.proofs.lemmas.List.Elements.{All-nil, All-append, All-map, recursion_from_All, All-from_recursion}
+use Rattle.sqlite_trees.proofs.ListLemmas.{all_of}
+use Rattle.sqlite_keyed.proofs.ListLemmas.{all_from_test, test_from_all, all_weaker}
 use Rattle.ft_values.specs.Cells.{Cell}
 use Rattle.ft_rows.specs.Store.{Change, all_applied}
 use Rattle.ft_content.specs.Content.{Column, Documents, Content, is_document, content_rows}
@@ -15,7 +17,7 @@ use Rattle.ft_content.specs.Index.{index_rows}
 use Rattle.ft_documents.specs.Tables.{table_rows, table_index, IsOfDocids}
 use Rattle.ft_documents.specs.Rewrite.{Rewrite, with_cells, rewritten, rewritten_content, rewritten_docids, under_docids, FitIfAny, AreOf, HasContent, AreRight}
 use Rattle.ft_documents.specs.RewriteRows.{rewrite_changes}
-use Rattle.ft_documents.proofs.KeyedRows.{below_apart}
+use Rattle.ft_documents.proofs.KeyedRows.{below_apart, found_holds, each_found}
 use Rattle.ft_documents.proofs.AppliedLemmas.{applied_append}
 use Rattle.ft_documents.proofs.RewriteLemmas.{sorted_rewritten, written, find_rewritten}
 use Rattle.ft_documents.proofs.RightLemmas.{order_after, are_right}
@@ -23,39 +25,25 @@ use Rattle.ft_documents.proofs.NearLemmas.{changes_near, contains_own}
 
 -- ---- two lists, one after the other
 
-first_all : {X : Type 0} (P : X → Type 0) (xs ys : List X) → AllByRecursion P (xs ++ ys) → AllByRecursion P xs
-first_all P [] ys all = tt
-first_all P (x ∷ xs) ys all = (all.0, first_all P xs ys all.1)
+all_parts : {X : Type 0} (P : X → Type 0) (xs ys : List X) → AllByRecursion P (xs ++ ys) → AllByRecursion P xs × AllByRecursion P ys
+all_parts P [] ys all = (tt, all)
+all_parts P (x ∷ xs) ys all = let rest = all_parts P xs ys all.1 in ((all.0, rest.0), rest.1)
 
-last_all : {X : Type 0} (P : X → Type 0) (xs ys : List X) → AllByRecursion P (xs ++ ys) → AllByRecursion P ys
-last_all P [] ys all = all
-last_all P (x ∷ xs) ys all = last_all P xs ys all.1
-
-below_first : (docid : ℤ) (xs ys : List (ℤ × Rewrite)) → below_all int_cmp docid (xs ++ ys) ≡ true → below_all int_cmp docid xs ≡ true
-below_first docid [] ys h = refl
-below_first docid (x ∷ xs) ys h =
+below_parts : (docid : ℤ) (xs ys : List (ℤ × Rewrite)) → below_all int_cmp docid (xs ++ ys) ≡ true → (below_all int_cmp docid xs ≡ true) × (below_all int_cmp docid ys ≡ true)
+below_parts docid [] ys h = (refl, h)
+below_parts docid (x ∷ xs) ys h =
     let parts = and_parts (is_lt (int_cmp docid x.0)) (below_all int_cmp docid (xs ++ ys)) h in
-    and_from (is_lt (int_cmp docid x.0)) (below_all int_cmp docid xs) parts.0 (below_first docid xs ys parts.1)
+    let rest = below_parts docid xs ys parts.1 in
+    (and_from (is_lt (int_cmp docid x.0)) (below_all int_cmp docid xs) parts.0 rest.0, rest.1)
 
-below_last : (docid : ℤ) (xs ys : List (ℤ × Rewrite)) → below_all int_cmp docid (xs ++ ys) ≡ true → below_all int_cmp docid ys ≡ true
-below_last docid [] ys h = h
-below_last docid (x ∷ xs) ys h = below_last docid xs ys (and_parts (is_lt (int_cmp docid x.0)) (below_all int_cmp docid (xs ++ ys)) h).1
-
-sorted_first : (xs ys : List (ℤ × Rewrite)) → is_sorted int_cmp (xs ++ ys) ≡ true → is_sorted int_cmp xs ≡ true
-sorted_first [] ys h = refl
-sorted_first (x ∷ xs) ys h =
+sorted_parts : (xs ys : List (ℤ × Rewrite)) → is_sorted int_cmp (xs ++ ys) ≡ true → (is_sorted int_cmp xs ≡ true) × (is_sorted int_cmp ys ≡ true)
+sorted_parts [] ys h = (refl, h)
+sorted_parts (x ∷ xs) ys h =
     let parts = and_parts (below_all int_cmp x.0 (xs ++ ys)) (is_sorted int_cmp (xs ++ ys)) h in
-    and_from (below_all int_cmp x.0 xs) (is_sorted int_cmp xs) (below_first x.0 xs ys parts.0) (sorted_first xs ys parts.1)
-
-sorted_last : (xs ys : List (ℤ × Rewrite)) → is_sorted int_cmp (xs ++ ys) ≡ true → is_sorted int_cmp ys ≡ true
-sorted_last [] ys h = h
-sorted_last (x ∷ xs) ys h = sorted_last xs ys (and_parts (below_all int_cmp x.0 (xs ++ ys)) (is_sorted int_cmp (xs ++ ys)) h).1
+    let rest = sorted_parts xs ys parts.1 in
+    (and_from (below_all int_cmp x.0 xs) (is_sorted int_cmp xs) (below_parts x.0 xs ys parts.0).0 rest.0, rest.1)
 
 -- the documents of those after aren't among the first
-none_yet : (rs : List Rewrite) → AllByRecursion (λ (r : Rewrite). find int_cmp r.docid (under_docids []) ≡ None) rs
-none_yet [] = tt
-none_yet (r ∷ rs) = (refl, none_yet rs)
-
 nor_this : (x : ℤ × Rewrite) (xs : List (ℤ × Rewrite)) (rs : List Rewrite) → below_all int_cmp x.0 (under_docids rs) ≡ true → AllByRecursion (λ (r : Rewrite). find int_cmp r.docid xs ≡ None) rs → AllByRecursion (λ (r : Rewrite). find int_cmp r.docid (x ∷ xs) ≡ None) rs
 nor_this x xs [] below none = tt
 nor_this x xs (r ∷ rs) below none =
@@ -64,40 +52,30 @@ nor_this x xs (r ∷ rs) below none =
     (ap (λ b. cond b (Some x.1) (find int_cmp r.docid xs)) other ∙ none.0, nor_this x xs rs parts.1 none.1)
 
 not_among : (xs : List (ℤ × Rewrite)) (rs : List Rewrite) → is_sorted int_cmp (xs ++ under_docids rs) ≡ true → AllByRecursion (λ (r : Rewrite). find int_cmp r.docid xs ≡ None) rs
-not_among [] rs h = none_yet rs
+not_among [] rs h = all_of (λ (r : Rewrite). find int_cmp r.docid (under_docids []) ≡ None) (λ _. refl) rs
 not_among (x ∷ xs) rs h =
     let parts = and_parts (below_all int_cmp x.0 (xs ++ under_docids rs)) (is_sorted int_cmp (xs ++ under_docids rs)) h in
-    nor_this x xs rs (below_last x.0 xs (under_docids rs) parts.0) (not_among xs rs parts.1)
+    nor_this x xs rs (below_parts x.0 xs (under_docids rs) parts.0).1 (not_among xs rs parts.1)
 
 -- ---- documents stay documents of their table
 
-fit_put : (width : ℕ) (docid : ℤ) (cells : List Cell) (documents : Documents) → is_document width (docid, cells) ≡ true → list_all (is_document width) documents ≡ true → list_all (is_document width) (put int_cmp docid cells documents) ≡ true
-fit_put width docid cells [] new h = and_from (is_document width (docid, cells)) true new refl
-fit_put width docid cells (d ∷ ds) new h =
-    let parts = and_parts (is_document width d) (list_all (is_document width) ds) h in
-    elim (int_cmp docid d.0) as (λ o. int_cmp docid d.0 ≡ o → list_all (is_document width) (by_order o ((docid, cells) ∷ d ∷ ds) ((d.0, cells) ∷ ds) (d ∷ put int_cmp docid cells ds)) ≡ true) [
-      | Less ↦ λ _. and_from (is_document width (docid, cells)) (is_document width d && list_all (is_document width) ds) new h
-      | Equal ↦ λ same. and_from (is_document width (d.0, cells)) (list_all (is_document width) ds) (subst (λ (x : ℤ). is_document width (x, cells) ≡ true) (int_cmp-IsAntisymmetric docid d.0 same) new) parts.1
-      | Greater ↦ λ _. and_from (is_document width d) (list_all (is_document width) (put int_cmp docid cells ds)) parts.0 (fit_put width docid cells ds new parts.1)
-    ] refl
+module _ (width : ℕ) (rewrites : List Rewrite) (documents : Documents) (rising : is_sorted int_cmp (under_docids rewrites) ≡ true) (fit : All (FitIfAny width) rewrites) (fits : list_all (is_document width) documents ≡ true) where
+  abbrev IsFit : ℤ × List Cell → Type 0
+  IsFit d = is_document width d ≡ true
 
-fit_without : (width : ℕ) (docid : ℤ) (documents : Documents) → list_all (is_document width) documents ≡ true → list_all (is_document width) (with_cells docid None documents) ≡ true
-fit_without width docid [] h = refl
-fit_without width docid (d ∷ ds) h =
-    let parts = and_parts (is_document width d) (list_all (is_document width) ds) h in
-    let rest = fit_without width docid ds parts.1 in
-    elim (not (int_eq docid d.0)) as (λ b. list_all (is_document width) (cond b (d ∷ with_cells docid None ds) (with_cells docid None ds)) ≡ true) [
-      | true ↦ and_from (is_document width d) (list_all (is_document width) (with_cells docid None ds)) parts.0 rest
-      | false ↦ rest
-    ]
+  abbrev Fits : ℤ × Rewrite → Type 0
+  Fits e = IfSome e.1.after (λ cells. IsTrue (is_document width (e.0, cells)))
 
-fit_with : (width : ℕ) (docid : ℤ) (cells : Option (List Cell)) (documents : Documents) → IfSome cells (λ cs. IsTrue (is_document width (docid, cs))) → list_all (is_document width) documents ≡ true → list_all (is_document width) (with_cells docid cells documents) ≡ true
-fit_with width docid None documents new h = fit_without width docid documents h
-fit_with width docid (Some cells) documents new h = fit_put width docid cells documents new h
+  found_fit : (docid : ℤ) (cells : List Cell) (r : Option Rewrite) → find int_cmp docid (under_docids rewrites) ≡ r → written r (find int_cmp docid documents) ≡ Some cells → IsFit (docid, cells)
+  found_fit docid cells None is found = found_holds int_cmp int_cmp_total int_cmp-IsAntisymmetric IsFit docid cells documents (All-from_recursion IsFit documents (all_from_test (is_document width) documents fits)) found
+  found_fit docid cells (Some r) is found = subst (λ o. IfSome o (λ cells. IsTrue (is_document width (docid, cells)))) found (found_holds int_cmp int_cmp_total int_cmp-IsAntisymmetric Fits docid r (under_docids rewrites) (All-map Fits (λ (r : Rewrite). (r.docid, r)) rewrites fit) is)
 
-fit_rewritten : (width : ℕ) (rewrites : List Rewrite) (documents : Documents) → AllByRecursion (FitIfAny width) rewrites → list_all (is_document width) documents ≡ true → list_all (is_document width) (rewritten rewrites documents) ≡ true
-fit_rewritten width [] documents fit h = h
-fit_rewritten width (r ∷ rs) documents fit h = fit_rewritten width rs (with_cells r.docid r.after documents) fit.1 (fit_with width r.docid r.after documents fit.0 h)
+  fit_rewritten : is_sorted int_cmp documents ≡ true → list_all (is_document width) (rewritten rewrites documents) ≡ true
+  fit_rewritten sorted =
+      let all = rewritten rewrites documents in
+      test_from_all (is_document width) all
+      (all_weaker (λ d. find int_cmp d.0 all ≡ Some d.1) IsFit (λ d found. found_fit d.0 d.1 (find int_cmp d.0 (under_docids rewrites)) refl (sym (find_rewritten d.0 rewrites documents rising) ∙ found)) all
+      (each_found int_cmp int_cmp_total int_cmp-IsAntisymmetric all (sorted_rewritten rewrites documents sorted)))
 
 -- ---- what is known of documents after the first
 
@@ -131,17 +109,17 @@ module _ (first rest : List Rewrite) (content : Content) (are : AreOf content (f
 
   first_of : AreOf content first
   first_of = record {
-    rising = sorted_first (under_docids first) (under_docids rest) rising;
-    befores = All-from_recursion known first (first_all known first rest all_known);
-    afters = All-from_recursion (FitIfAny width) first (first_all (FitIfAny width) first rest all_fit);
+    rising = (sorted_parts (under_docids first) (under_docids rest) rising).0;
+    befores = All-from_recursion known first (all_parts known first rest all_known).0;
+    afters = All-from_recursion (FitIfAny width) first (all_parts (FitIfAny width) first rest all_fit).0;
   }
 
   rest_of : AreOf (rewritten_content first content) rest
   rest_of = record {
-    rising = sorted_last (under_docids first) (under_docids rest) rising;
+    rising = (sorted_parts (under_docids first) (under_docids rest) rising).1;
     befores = All-from_recursion (λ (r : Rewrite). r.before ≡ find int_cmp r.docid (rewritten first content.documents)) rest
-        (known_still first rest content.documents first_of.rising (not_among (under_docids first) rest rising) (last_all known first rest all_known));
-    afters = All-from_recursion (FitIfAny width) rest (last_all (FitIfAny width) first rest all_fit);
+        (known_still first rest content.documents first_of.rising (not_among (under_docids first) rest rising) (all_parts known first rest all_known).1);
+    afters = All-from_recursion (FitIfAny width) rest (all_parts (FitIfAny width) first rest all_fit).1;
   }
 
 -- ---- groups
@@ -156,7 +134,7 @@ then_right tab columns first rest changes right name content store has same are 
       order = order_after tab columns first store has.order;
       is_content = record {
         columns = has.is_content.columns;
-        documents = fit_rewritten (length content.columns) first content.documents (recursion_from_All (FitIfAny (length content.columns)) first of_first.afters) has.is_content.documents;
+        documents = fit_rewritten (length content.columns) first content.documents of_first.rising of_first.afters has.is_content.documents has.is_content.rising;
         rising = sorted_rewritten first content.documents has.is_content.rising;
       };
       rows = done.0;
@@ -178,8 +156,8 @@ each_near tab columns docids (group ∷ groups) own =
     let D : Rewrite → Type 0 = λ r. Contains docids r.docid in
     All-append (IsOfDocids tab docids) (rewrite_changes tab columns group) (flat_map (rewrite_changes tab columns) groups)
     (changes_near (Contains docids) (IsOfDocids tab docids) tab columns group (λ docid is. (refl, is)) (λ docid column cell is. (refl, is)) (λ term docid is. (refl, is)) (λ term docid spots is. (refl, is)) (λ docid column is. (refl, is)) (λ docid column n is. (refl, is))
-    (All-from_recursion D group (first_all D group (flat_map (λ g. g) groups) own)))
-    (each_near tab columns docids groups (last_all D group (flat_map (λ g. g) groups) own))
+    (All-from_recursion D group (all_parts D group (flat_map (λ g. g) groups) own).0))
+    (each_near tab columns docids groups (all_parts D group (flat_map (λ g. g) groups) own).1)
 
 pub groups_near : (tab : ℤ) (columns : List Column) (groups : List (List Rewrite)) → All (IsOfDocids tab (rewritten_docids (flat_map (λ group. group) groups))) (flat_map (rewrite_changes tab columns) groups)
 groups_near tab columns groups =

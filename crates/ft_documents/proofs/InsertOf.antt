@@ -6,7 +6,7 @@ use Rattle.std.specs.FinMap.Entries.{find, below_all, is_sorted}
 use Rattle.std.proofs.lemmas.Bool.{and_parts}
 use Rattle.std.proofs.lemmas.List.Elements.{All-from_recursion}
 use Rattle.std.proofs.lemmas.Map.Lookups.{exact_signed}
-use Rattle.sqlite_keyed.proofs.ListLemmas.{all_from_test}
+use Rattle.sqlite_keyed.proofs.ListLemmas.{all_from_test, all_unmap}
 use Rattle.ft_values.specs.Cells.{Cell}
 use Rattle.ft_content.specs.Content.{Documents, Content, IsContent, is_document}
 use Rattle.ft_documents.specs.Rewrite.{Rewrite, AreOf, FitIfAny, under_docids, rewritten}
@@ -17,11 +17,7 @@ use Rattle.ft_documents.proofs.KeyedRows as keyed
 -- ---- each rewrite is found under its docid
 
 pub each_found : (rs : List Rewrite) → is_sorted int_cmp (under_docids rs) ≡ true → AllByRecursion (λ (r : Rewrite). find int_cmp r.docid (under_docids rs) ≡ Some r) rs
-each_found rs sorted = of_each rs (keyed.each_found int_cmp int_cmp_total exact_signed (under_docids rs) sorted)
-  where
-    of_each : (ss : List Rewrite) → AllByRecursion (λ (e : ℤ × Rewrite). find int_cmp e.0 (under_docids rs) ≡ Some e.1) (under_docids ss) → AllByRecursion (λ (r : Rewrite). find int_cmp r.docid (under_docids rs) ≡ Some r) ss
-    of_each [] found = tt
-    of_each (s ∷ ss) found = (found.0, of_each ss found.1)
+each_found rs sorted = all_unmap (λ (e : ℤ × Rewrite). find int_cmp e.0 (under_docids rs) ≡ Some e.1) (λ (r : Rewrite). (r.docid, r)) rs (keyed.each_found int_cmp int_cmp_total exact_signed (under_docids rs) sorted)
 
 -- a document that is found among fit ones is fit
 found_fit : (width : ℕ) (documents : Documents) (docid : ℤ) (cells : List Cell) → list_all (is_document width) documents ≡ true → find int_cmp docid documents ≡ Some cells → is_document width (docid, cells) ≡ true

@@ -4,7 +4,7 @@ use Rattle.std.specs.List.{AllByRecursion}
 use Rattle.std.specs.Ordering.{eq_by_cmp, ordering_then}
 use Rattle.std.specs.Cmp.{IsTotalOrder, eq_by_cmp_equiv, int_cmp_total, tied_itself}
 use Rattle.std.specs.FinMap.{int_cmp-IsAntisymmetric}
-use Rattle.std.specs.FinMap.Entries.{put, find, below_all, is_sorted, is_sorted-put, is_sorted-where_key, find-put, find-where_key, same_entries}
+use Rattle.std.specs.FinMap.Entries.{by_order, put, find, below_all, is_sorted, is_sorted-put, is_sorted-where_key, find-put, find-where_key, same_entries}
 use Rattle.std.proofs.lemmas.Bool.{and_parts, and_from}
 use Rattle.std.proofs.lemmas.List.Elements.{All-head, All-tail}
 use Rattle.std.proofs.lemmas.Map.Lookups.{CmpEqualImpliesEq}
@@ -47,6 +47,11 @@ then_equal _ r h = absurd (let no = h in cc)
 pub then_apart : (o r : Ordering) → is_eq o ≡ false → is_eq (ordering_then o r) ≡ false
 then_apart Equal r h = absurd (let no = h in cc)
 then_apart _ r h = refl
+
+-- a claim of keys still holds after one is put
+pub keys_put : {K V : Type 0} (R : K → K → Ordering) (P : K → Type 0) (k : K) (v : V) (es : List (K × V)) → P k → AllByRecursion (λ (e : K × V). P e.0) es → AllByRecursion (λ (e : K × V). P e.0) (put R k v es)
+keys_put R P k v [] h all = (h, tt)
+keys_put {K} {V} R P k v (e ∷ es) h all = elim (R k e.0) as (λ o. AllByRecursion (λ (e : K × V). P e.0) (by_order o ((k, v) ∷ e ∷ es) ((e.0, v) ∷ es) (e ∷ put R k v es))) [ Less ↦ (h, all) | Equal ↦ all | Greater ↦ (all.0, keys_put R P k v es h all.1) ]
 
 -- ---- values that are mapped
 

@@ -1,8 +1,8 @@
 -- The row changes of rewrites name their documents alone.
 use Rattle.std.proofs.Common.{ℕ, List, [], ◌∷◌, ◌++◌, map, Option, Some, None, ℤ, refl, sym, filter, length, All, Contains, unwrap_or, nat_lt, flat_map, Ordering, Less, Equal, Greater, int_cmp, int_eq}
-use Rattle.std.specs.List.{enumerate_from}
+use Rattle.std.specs.List.{AllByRecursion, enumerate_from}
 use Rattle.std.specs.FinMap.Entries.{by_order, put, find}
-use Rattle.std.proofs.lemmas.List.Elements.{All-nil, All-cons, All-head, All-tail, All-append, All-map, All-filter, All-weaker, All-same, All-contains_itself}
+use Rattle.std.proofs.lemmas.List.Elements.{recursion_from_All, All-from_recursion, All-nil, All-cons, All-head, All-tail, All-append, All-map, All-filter, All-weaker, All-same, All-contains_itself}
 use Rattle.ft_query.specs.Tokens.{PlainToken}
 use Rattle.ft_values.specs.Cells.{Cell}
 use Rattle.ft_rows.specs.Store.{column_key_cmp, Change, PutCell, DropCells, PutEntries, DropEntries, PutSize, DropSize}
@@ -12,26 +12,15 @@ use Rattle.ft_documents.specs.Tables.{IsOfDocids}
 use Rattle.ft_documents.specs.Rewrite.{Rewrite, befores, afters, document_if, rewritten_docids}
 use Rattle.ft_documents.specs.RewriteRows.{with_entries, all_put, sized, same_cell, same_spots, gone, changed, numbered_cells, goes, dropped_documents, put_cells, put_documents, dropped_lists, put_lists, dropped_sizes, put_sizes, lists_joined_by, index_lists_of, sizes_of, list_changes, rewrite_changes}
 use Rattle.ft_documents.proofs.IndexOf.{lists_made}
+use Rattle.ft_documents.proofs.KeyedRows.{keys_put}
 
 pub All-flat_map : {X Y : Type 0} (P : Y → Type 0) (f : X → List Y) (xs : List X) → All (λ x. All P (f x)) xs → All P (flat_map f xs)
 All-flat_map P f [] h = All-nil P
 All-flat_map P f (x ∷ xs) h = All-append P (f x) (flat_map f xs) (All-head (λ x. All P (f x)) x xs h) (All-flat_map P f xs (All-tail (λ x. All P (f x)) x xs h))
 
--- a key that is put
-keys_put : {K V : Type 0} (R : K → K → Ordering) (Q : K → Type 0) (k : K) (v : V) (es : List (K × V)) → Q k → All (λ e. Q e.0) es → All (λ e. Q e.0) (put R k v es)
-keys_put R Q k v [] q h = All-cons (λ e. Q e.0) (k, v) [] q h
-keys_put R Q k v (e ∷ es) q h =
-    let first = All-head (λ e. Q e.0) e es h in
-    let rest = All-tail (λ e. Q e.0) e es h in
-    elim (R k e.0) as (λ o. All (λ e. Q e.0) (by_order o ((k, v) ∷ e ∷ es) ((e.0, v) ∷ es) (e ∷ put R k v es))) [
-      | Less ↦ All-cons (λ e. Q e.0) (k, v) (e ∷ es) q h
-      | Equal ↦ All-cons (λ e. Q e.0) (e.0, v) es first rest
-      | Greater ↦ All-cons (λ e. Q e.0) e (put R k v es) first (keys_put R Q k v es q rest)
-    ]
-
-pub keys_all_put : {K V : Type 0} (R : K → K → Ordering) (Q : K → Type 0) (es rows : List (K × V)) → All (λ e. Q e.0) es → All (λ e. Q e.0) rows → All (λ e. Q e.0) (all_put R es rows)
+keys_all_put : {K V : Type 0} (R : K → K → Ordering) (Q : K → Type 0) (es rows : List (K × V)) → AllByRecursion (λ (e : K × V). Q e.0) es → AllByRecursion (λ (e : K × V). Q e.0) rows → AllByRecursion (λ (e : K × V). Q e.0) (all_put R es rows)
 keys_all_put R Q [] rows h g = g
-keys_all_put R Q (e ∷ es) rows h g = keys_all_put R Q es (put R e.0 e.1 rows) (All-tail (λ e. Q e.0) e es h) (keys_put R Q e.0 e.1 rows (All-head (λ e. Q e.0) e es h) g)
+keys_all_put R Q (e ∷ es) rows h g = keys_all_put R Q es (put R e.0 e.1 rows) h.1 (keys_put R Q e.0 e.1 rows h.0 g)
 
 -- a claim of changes, kind by kind
 module _ (P : Change → Type 0) (tab : ℤ) (columns : List Column) (rewrites : List Rewrite) where
@@ -69,15 +58,17 @@ module _ (D : ℤ → Type 0) where
   entries_near columns documents h = All-flat_map (λ (e : Entry). D e.docid) (document_entries columns) documents
       (All-weaker (λ (d : ℤ × List Cell). D d.0) (λ d. All (λ (e : Entry). D e.docid) (document_entries columns d)) (λ d is. All-map (λ (e : Entry). D e.docid) (entry_at d.0) (document_postings columns d.1) (λ _ _ _. is)) documents h)
 
-  joined_near : (es : List Entry) (lists : List (Key × List StoredSpot)) → All (λ (e : Entry). D e.docid) es → All (λ (l : Key × List StoredSpot). D l.0.1) lists → All (λ (l : Key × List StoredSpot). D l.0.1) (with_entries es lists)
+  joined_near : (es : List Entry) (lists : List (Key × List StoredSpot)) → AllByRecursion (λ (e : Entry). D e.docid) es → AllByRecursion (λ (l : Key × List StoredSpot). D l.0.1) lists → AllByRecursion (λ (l : Key × List StoredSpot). D l.0.1) (with_entries es lists)
   joined_near [] lists h g = g
   joined_near (e ∷ es) lists h g =
-      joined_near es (put key_cmp (key_of e) (unwrap_or (find key_cmp (key_of e) lists) [] ++ stored_spot e.spot ∷ []) lists) (All-tail (λ (e : Entry). D e.docid) e es h)
-      (keys_put key_cmp (λ (k : Key). D k.1) (key_of e) (unwrap_or (find key_cmp (key_of e) lists) [] ++ stored_spot e.spot ∷ []) lists (All-head (λ (e : Entry). D e.docid) e es h) g)
+      let spots = unwrap_or (find key_cmp (key_of e) lists) [] ++ stored_spot e.spot ∷ [] in
+      joined_near es (put key_cmp (key_of e) spots lists) h.1 (keys_put key_cmp (λ (k : Key). D k.1) (key_of e) spots lists h.0 g)
 
   pub lists_near : (columns : List Column) (documents : Documents) → OfDocuments documents → All (λ (l : Key × List StoredSpot). D l.0.1) (index_lists_of columns documents)
-  lists_near columns documents h = All-same (λ (l : Key × List StoredSpot). D l.0.1) (index_lists_of columns documents) (lists_joined_by columns documents []) (sym (lists_made columns documents))
-      (joined_near (flat_map (document_entries columns) documents) [] (entries_near columns documents h) (All-nil (λ (l : Key × List StoredSpot). D l.0.1)))
+  lists_near columns documents h =
+      let es = flat_map (document_entries columns) documents in
+      All-same (λ (l : Key × List StoredSpot). D l.0.1) (index_lists_of columns documents) (lists_joined_by columns documents []) (sym (lists_made columns documents))
+      (All-from_recursion _ _ (joined_near es [] (recursion_from_All (λ (e : Entry). D e.docid) es (entries_near columns documents h)) tt))
 
   document_near : (columns : List Column) (d : ℤ × List Cell) → D d.0 → All (λ (s : Size). D s.docid) (document_sizes columns d)
   document_near columns d is =
@@ -89,9 +80,8 @@ module _ (D : ℤ → Type 0) where
   sizes_near columns documents h =
       let ss = flat_map (document_sizes columns) documents in
       let near : All (λ (s : Size). D s.docid) ss = All-flat_map (λ (s : Size). D s.docid) (document_sizes columns) documents (All-weaker (λ (d : ℤ × List Cell). D d.0) (λ d. All (λ (s : Size). D s.docid) (document_sizes columns d)) (document_near columns) documents h) in
-      keys_all_put column_key_cmp (λ (k : ℤ × ℤ). D k.0) (sized (map size_row ss)) []
-      (All-map (λ (s : (ℤ × ℤ) × ℤ). D s.0.0) (λ (s : SizeRow). ((s.docid, s.column), s.n)) (map size_row ss) (All-map (λ (s : SizeRow). D s.docid) size_row ss near))
-      (All-nil (λ (s : (ℤ × ℤ) × ℤ). D s.0.0))
+      let S : (ℤ × ℤ) × ℤ → Type 0 = λ s. D s.0.0 in
+      All-from_recursion S _ (keys_all_put column_key_cmp (λ (k : ℤ × ℤ). D k.0) (sized (map size_row ss)) [] (recursion_from_All S (sized (map size_row ss)) (All-map S (λ (s : SizeRow). ((s.docid, s.column), s.n)) (map size_row ss) (All-map (λ (s : SizeRow). D s.docid) size_row ss near))) tt)
 
   if_near : (docid : ℤ) (cells : Option (List Cell)) → D docid → OfDocuments (document_if docid cells)
   if_near docid None is = All-nil (λ (d : ℤ × List Cell). D d.0)

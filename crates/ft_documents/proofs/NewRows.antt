@@ -44,15 +44,6 @@ all_put_more docid cells new documents rising sorted =
     ∙ elim (eq_by_cmp int_cmp q docid) as (λ b. or_else int_cmp int_cmp_total exact_signed (cond b (Some cells) (find int_cmp q new)) (find int_cmp q documents) ≡ cond b (Some cells) (or_else int_cmp int_cmp_total exact_signed (find int_cmp q new) (find int_cmp q documents))) [ true ↦ refl | false ↦ refl ]
     ∙ sym (find-put int_cmp int_cmp_total q docid cells (all_put int_cmp new documents) ∙ ap (cond (eq_by_cmp int_cmp q docid) (Some cells)) (find_all_put int_cmp int_cmp_total exact_signed q new documents rising)))
 
-pub apart_put : (P : ℤ → Type 0) (docid : ℤ) (cells : List Cell) (new : Documents) → P docid → AllByRecursion (λ (d : ℤ × List Cell). P d.0) new → AllByRecursion (λ (d : ℤ × List Cell). P d.0) (put int_cmp docid cells new)
-apart_put P docid cells [] h all = (h, tt)
-apart_put P docid cells (d ∷ ds) h all =
-    elim (int_cmp docid d.0) as (λ o. AllByRecursion (λ (d : ℤ × List Cell). P d.0) (by_order o ((docid, cells) ∷ d ∷ ds) ((d.0, cells) ∷ ds) (d ∷ put int_cmp docid cells ds))) [
-      | Less ↦ (h, all)
-      | Equal ↦ (all.0, all.1)
-      | Greater ↦ (all.0, apart_put P docid cells ds h all.1)
-    ]
-
 -- a docid that neither the table nor the new documents have
 pub not_stored : (docid : ℤ) (new documents : Documents) → is_sorted int_cmp new ≡ true → find int_cmp docid (all_put int_cmp new documents) ≡ None → find int_cmp docid documents ≡ None
 not_stored docid new documents rising none = go (find int_cmp docid new) (sym (find_all_put int_cmp int_cmp_total exact_signed docid new documents rising) ∙ none)

@@ -13,9 +13,9 @@ use Rattle.ft_content.specs.Views.{cells_of, column_of, placed, last_docid}
 use Rattle.ft_documents.specs.NewDocuments.{shown_new, shown_documents, with_new, Places}
 use Rattle.ft_documents.specs.RewriteRows.{all_put}
 use Rattle.ft_documents.proofs.MapSteps.{find_looked_up, is_some_shown}
-use Rattle.ft_documents.proofs.KeyedRows.{true_of, of_true, find-values, sorted_put}
+use Rattle.ft_documents.proofs.KeyedRows.{keys_put, true_of, of_true, find-values, sorted_put}
 use Rattle.ft_documents.proofs.TokenSteps.{insert_put}
-use Rattle.ft_documents.proofs.NewRows.{taken_is, row_is_new, put_shown, all_put_more, apart_put, not_stored}
+use Rattle.ft_documents.proofs.NewRows.{taken_is, row_is_new, put_shown, all_put_more, not_stored}
 use Rattle.ft_documents.proofs.new_documents.NewDocuments.add.Goals as goal
 use Rattle.ft_documents.proofs.new_documents.NewDocuments.add.Goals.{then-is_stored, else-is_stored}
 
@@ -85,7 +85,7 @@ returns c documents beside stored =
       record {
         sorted = beside.sorted;
         rising = ap (is_sorted int_cmp) grown ∙ true_of _ (is_sorted-put int_cmp int_cmp_total docid added new (of_true _ beside.rising));
-        apart = subst (AllByRecursion (λ (d : ℤ × List Cell). find int_cmp d.0 documents ≡ None)) (sym grown) (apart_put (λ k. find int_cmp k documents ≡ None) docid added new (not_stored docid new documents beside.rising none) beside.apart);
+        apart = subst (AllByRecursion (λ (d : ℤ × List Cell). find int_cmp d.0 documents ≡ None)) (sym grown) (keys_put int_cmp (λ k. find int_cmp k documents ≡ None) docid added new (not_stored docid new documents beside.rising none) beside.apart);
         last = ap last_docid with_it ∙ ap (λ k. last_docid (put int_cmp k added all)) (sym passed)
             ∙ c.last_docid_after.ensures all added (sorted_put int_cmp int_cmp_total exact_signed new documents beside.sorted) beside.last ∙ ap Some (sym (to_z-of_z last_fits));
       },
