@@ -1,21 +1,22 @@
 -- a row more
-use Rattle.std.proofs.Common.{◌≡◌, ◌+◌, inl, inr, Err, Result, map, zip, drop, refl, sym, ap, subst, ◌∙◌, rules, true, false, None, ℤ, unwrap_or, get_or, ℕ, zero, suc, Bool, List, [], ◌∷◌, slice_get, int_cmp}
+use Rattle.std.proofs.Common.{◌≡◌, ◌+◌, inl, inr, Err, Result, map, zip, drop, refl, sym, ap, subst, ◌∙◌, rules, true, false, None, ℤ, unwrap_or, get_or, ℕ, zero, suc, Bool, List, [], ◌∷◌, slice_get, int_cmp, IsTrue}
 use Rattle.std.proofs.lemmas.List.{drop_all}
 use Rattle.std.proofs.lemmas.Option.{slice_get_read}
 use Rattle.ft_values.specs.declared.fault.Fault.{Fault}
-use Rattle.ft_content.specs.Deserved.{inserted_rows}
+use Rattle.ft_content.specs.Deserved.{inserted_rows, insert_row, docids_named, new_cells}
 use Rattle.ft_content.specs.Views.{cells_of, column_of, last_docid}
 use Rattle.ft_documents.specs.declared.new_documents.NewDocuments.{NewDocuments}
 use Rattle.std.specs.List.{AllByRecursion}
 use Rattle.std.specs.FinMap.Entries.{find, is_sorted}
 use Rattle.ft_values.specs.Cells.{Cell}
 use Rattle.ft_content.specs.Content.{Documents}
-use Rattle.ft_documents.specs.NewDocuments.{shown_new, shown_documents, with_new, AreBeside}
-use Rattle.ft_documents.specs.Inserted.{MakesDocuments}
+use Rattle.ft_documents.specs.NewDocuments.{shown_new, shown_documents, with_new, AreBeside, Places}
+use Rattle.ft_documents.specs.Inserted.{AreKnown, MakesDocuments}
 use Rattle.ft_documents.specs.RewriteRows.{all_put}
 use Rattle.ft_documents.proofs.Steps.{taken_more}
 use Rattle.ft_documents.proofs.InsertRows.{rows_step, rows_fail, rows_none, row_at}
 use Rattle.ft_documents.proofs.new_documents.made_documents.Goals as goal
+use Rattle.ft_documents.proofs.new_documents.made_documents.Goals.{After-add}
 
 got_or : (xs : List Bool) (k : ℕ) (d : Bool) → unwrap_or (slice_get xs k) d ≡ get_or xs k d
 got_or [] k d = refl
@@ -38,44 +39,40 @@ loop-place-init c documents sorted last known =
       ap (λ new. inserted_rows (map column_of c.args.columns.now) (map (zip (map (λ n. n.now) c.args.names.now)) (map cells_of c.args.rows.now)) (all_put int_cmp new documents)) none,
     )
 
+module _ (c : After-add) (documents : Documents) (sorted : IsTrue (is_sorted int_cmp documents)) (last : last_docid documents ≡ c.args.last)
+    (known : AreKnown documents (map (zip (map (λ n. n.now) c.args.names.now)) (map cells_of c.args.rows.now)) c.args.stored.now) where
+  abbrev values : List (List ℕ × Cell)
+  values = zip (map (λ n. n.now) c.args.names.now) (cells_of c.index-rows-place.result)
+
+  abbrev row_tells : Result Documents Fault
+  row_tells = insert_row (with_new c.loop-place.new documents) (docids_named values) (new_cells values (map column_of c.args.columns.now))
+
+  placed : Places documents row_tells c.add.new.self c.add.result
+  placed =
+      let rows = c.args.rows.now in
+      let place = c.loop-place.place in
+      let stored_here : c.unwrap_or-is_stored.result ≡ unwrap_or (slice_get c.args.stored.now place) false = c.unwrap_or-is_stored.ensures ∙ ap (λ o. unwrap_or o false) c.copied.ensures ∙ c.get.ensures.lookup.4 (search rules) false ∙ sym (got_or c.args.stored.now place false) in
+      let here = slice_get_read rows _ place c.index-rows-place.result refl c.loop-place-test.true c.index-rows-place.is in
+      (simp (c.as_slice.ensures.value, stored_here) at c.add.ensures) documents (c.loop-place.invariant documents sorted last known).0 (known place values (row_at (map (λ n. n.now) c.args.names.now) cells_of rows place c.index-rows-place.result here))
+
+  first : inserted_rows (map column_of c.args.columns.now) (map (zip (map (λ n. n.now) c.args.names.now)) (map cells_of c.args.rows.now)) documents ≡ inserted_rows (map column_of c.args.columns.now) (values ∷ map (zip (map (λ n. n.now) c.args.names.now)) (map cells_of (drop (c.loop-place.place + 1) c.args.rows.now))) (with_new c.loop-place.new documents)
+  first = sym (c.loop-place.invariant documents sorted last known).1
+      ∙ taken_more (λ xs. inserted_rows (map column_of c.args.columns.now) (map (zip (map (λ n. n.now) c.args.names.now)) (map cells_of xs)) (with_new c.loop-place.new documents)) c.args.rows.now c.loop-place.place c.index-rows-place.result c.loop-place-test.true c.index-rows-place.is
+
 pub loop-place-preserved : goal.loop-place-preserved
 loop-place-preserved c documents sorted last known =
-    let names = map (λ n. n.now) c.args.names.now in
-    let columns = map column_of c.args.columns.now in
-    let row = c.index-rows-place.result in
-    let values = zip names (cells_of row) in
-    let rows = c.args.rows.now in
-    let place = c.loop-place.place in
-    let rest = map (zip names) (map cells_of (drop (place + 1) rows)) in
-    let all = with_new c.loop-place.new documents in
-    let stored_here : c.unwrap_or-is_stored.result ≡ unwrap_or (slice_get c.args.stored.now place) false = c.unwrap_or-is_stored.ensures ∙ ap (λ o. unwrap_or o false) c.copied.ensures ∙ c.get.ensures.lookup.4 (search rules) false ∙ sym (got_or c.args.stored.now place false) in
-    let so_far = c.loop-place.invariant documents sorted last known in
-    let here = slice_get_read rows _ place row refl c.loop-place-test.true c.index-rows-place.is in
-    let stored = known place values (row_at names cells_of rows place row here) in
-    let first = taken_more (λ xs. inserted_rows columns (map (zip names) (map cells_of xs)) all) rows place row c.loop-place-test.true c.index-rows-place.is in
-    let step = (simp (c.as_slice.ensures.value, stored_here) at c.in_ok-add.ensures) documents so_far.0 stored in
-    (step.0, sym (rows_step columns values rest all (with_new c.add.new.self documents) step.1) ∙ sym first ∙ so_far.1)
+    let at = (goal.at.loop-place-preserved c).After-add in
+    let step = subst (Places documents (row_tells at documents sorted last known) c.add.new.self) c.in_ok-add.was (placed at documents sorted last known) in
+    (step.0, sym (rows_step _ _ _ _ (with_new c.add.new.self documents) step.1) ∙ sym (first at documents sorted last known))
 
 pub returns-in_err-add : goal.returns-in_err-add
 returns-in_err-add c documents sorted last known =
-    let names = map (λ n. n.now) c.args.names.now in
-    let columns = map column_of c.args.columns.now in
-    let row = c.index-rows-place.result in
-    let values = zip names (cells_of row) in
-    let rows = c.args.rows.now in
-    let place = c.loop-place.place in
-    let rest = map (zip names) (map cells_of (drop (place + 1) rows)) in
-    let all = with_new c.loop-place.new documents in
-    let stored_here : c.unwrap_or-is_stored.result ≡ unwrap_or (slice_get c.args.stored.now place) false = c.unwrap_or-is_stored.ensures ∙ ap (λ o. unwrap_or o false) c.copied.ensures ∙ c.get.ensures.lookup.4 (search rules) false ∙ sym (got_or c.args.stored.now place false) in
-    let so_far = c.loop-place.invariant documents sorted last known in
-    let here = slice_get_read rows _ place row refl c.loop-place-test.true c.index-rows-place.is in
-    let stored = known place values (row_at names cells_of rows place row here) in
-    let first = taken_more (λ xs. inserted_rows columns (map (zip names) (map cells_of xs)) all) rows place row c.loop-place-test.true c.index-rows-place.is in
+    let at = (goal.at.returns-in_err-add c).After-add in
     let fault : Fault = c.in_err-add.field-0.0 in
     let is : c.from_residual.result ≡ Err fault = search rules in
-    let failed = (simp (c.as_slice.ensures.value, stored_here) at c.in_err-add.ensures) documents so_far.0 stored in
-    subst (λ (r : Result NewDocuments Fault). MakesDocuments documents (inserted_rows columns (map (zip names) (map cells_of rows)) documents) r) (sym is)
-    (elim failed [ inl memory ↦ inl memory | inr row_is ↦ inr (sym so_far.1 ∙ first ∙ rows_fail columns values rest all fault row_is) ])
+    let failed = subst (Places documents (row_tells at documents sorted last known) c.add.new.self) c.in_err-add.was (placed at documents sorted last known) in
+    subst (MakesDocuments documents (inserted_rows (map column_of c.args.columns.now) (map (zip (map (λ n. n.now) c.args.names.now)) (map cells_of c.args.rows.now)) documents)) (sym is)
+    (elim failed [ inl memory ↦ inl memory | inr row_is ↦ inr (first at documents sorted last known ∙ rows_fail _ _ _ _ fault row_is) ])
 
 pub returns : goal.returns
 returns c documents sorted last known =
