@@ -10,10 +10,11 @@ use Rattle.std.proofs.lemmas.List.Elements.{recursion_from_All}
 use Rattle.std.proofs.lemmas.List.Sums.{sum_by-cons}
 use Rattle.std.proofs.lemmas.List.Sorted.{IsPermutation-refl, IsPermutation-cons, IsPermutation-trans, IsPermutation-sym, IsPermutation-middle, IsPermutation-map, length_permutation}
 use Rattle.sqlite_trees.specs.Tree.{IsAscending}
-use Rattle.sqlite_keyed.proofs.ListLemmas.{map-map, flat_map-map, flat_map-filter, all_weaker, all-map, all-flat_map, ascending-append, ascending-map, ascending_weaker, ascending-filter}
+use Rattle.sqlite_keyed.proofs.ListLemmas.{all_map, all_weaker, all-map, all-flat_map, ascending-append, ascending-map, ascending_weaker, ascending-filter}
 use Rattle.sqlite_keyed.proofs.SortLemmas.{sorted_unique}
 use Rattle.ft_query.specs.declared.lists.place.Place.{Place}
 use Rattle.ft_query.specs.Documents.{Posting, Document, IsBefore, AreDocuments, PlaceList, is_filled, has_places, places_with, lists_with, place_count}
+use Rattle.ft_query.proofs.PhrasePasses.{all_filter}
 use Rattle.ft_rows.specs.Store.{ListKey, list_key_cmp}
 use Rattle.ft_values.specs.declared.rows.ListRow.{ListRow}
 use Rattle.ft_rows.specs.Shown.{shown_list, bare_list, spot_count}
@@ -165,51 +166,36 @@ ascending_from_pairs R [] pairs = tt
 ascending_from_pairs R (x ∷ xs) pairs =
     (recursion_from_All (R x) xs (λ k d inside. pairs 0 (suc k) d (omega arith) (omega arith)), ascending_from_pairs R xs (λ i j d before inside. pairs (suc i) (suc j) d (omega arith) (omega arith)))
 
+-- lists by rising docid, each with places that rise
+pub lists_up : (ls : List PlaceList) → IsAscending (λ a b. a.docid <ℤ b.docid) ls → AllByRecursion (λ (l : PlaceList). IsAscending Below (map (placed_in l.docid) l.places)) ls → IsAscending Below (all_in ls)
+lists_up [] up each = tt
+lists_up (l ∷ ls) up each =
+    ascending-append Below (map (placed_in l.docid) l.places) (all_in ls) each.0 (lists_up ls up.1 each.1)
+    (all-map (λ (x : Placed). AllByRecursion (Below x) (all_in ls)) (placed_in l.docid)
+    (λ p. all-flat_map (Below (placed_in l.docid p)) (λ (m : PlaceList). map (placed_in m.docid) m.places) ls
+    (all_weaker (λ (m : PlaceList). l.docid <ℤ m.docid) (λ (m : PlaceList). AllByRecursion (Below (placed_in l.docid p)) (map (placed_in m.docid) m.places))
+    (λ m h. all-map (Below (placed_in l.docid p)) (placed_in m.docid) (λ q. below_docid (placed_in l.docid p) (placed_in m.docid q) h) m.places) ls up.0)) l.places)
+
 module _ (test : List ℕ → Bool) where
-  abbrev passing : Document → List Posting
-  passing d = filter (λ (p : Posting). test p.term) d.postings
-
-  abbrev own_places : Document → List Placed
-  own_places d = map (λ (p : Posting). placed_in d.docid p.place) (passing d)
-
-  -- the places of the lists, document by document
-  by_document : (ds : List Document) → all_in (lists_with test ds) ≡ flat_map own_places ds
-  by_document ds =
-      flat_map-filter (λ (l : PlaceList). map (placed_in l.docid) l.places) has_places none (map (places_with test) ds)
-      ∙ flat_map-map (λ (l : PlaceList). map (placed_in l.docid) l.places) (places_with test) ds
-      ∙ each ds
-    where
-      none : (l : PlaceList) → has_places l ≡ false → map (placed_in l.docid) l.places ≡ []
-      none l empty = go l.places empty
-        where
-          go : (ps : List Place) → is_filled ps ≡ false → map (placed_in l.docid) ps ≡ []
-          go [] h = refl
-          go (p ∷ ps) h = absurd (let no = h in cc)
-
-      each : (ds : List Document) → flat_map (λ (d : Document). map (placed_in d.docid) (map (λ (p : Posting). p.place) (passing d))) ds ≡ flat_map own_places ds
-      each [] = refl
-      each (d ∷ ds) = λ i. map-map (placed_in d.docid) (λ (p : Posting). p.place) (passing d) i ++ each ds i
-
-  one_rises : (d : Document) → AllPairs IsBefore d.postings → IsAscending Below (own_places d)
+  one_rises : (d : Document) → AllPairs IsBefore d.postings → IsAscending Below (map (placed_in d.docid) (places_with test d).places)
   one_rises d pairs =
-      ascending-map Below (λ (p : Posting). placed_in d.docid p.place) (passing d)
-      (ascending_weaker IsBefore (λ (p q : Posting). Below (placed_in d.docid p.place) (placed_in d.docid q.place)) (below_place d.docid) (passing d)
-      (ascending-filter IsBefore (λ (p : Posting). test p.term) d.postings (ascending_from_pairs IsBefore d.postings pairs)))
+      let passing = filter (λ (p : Posting). test p.term) d.postings in
+      ascending-map Below (placed_in d.docid) (map (λ (p : Posting). p.place) passing)
+      (ascending-map (λ (p q : Place). Below (placed_in d.docid p) (placed_in d.docid q)) (λ (p : Posting). p.place) passing
+      (ascending_weaker IsBefore (λ (p q : Posting). Below (placed_in d.docid p.place) (placed_in d.docid q.place)) (below_place d.docid) passing
+      (ascending-filter IsBefore (λ (p : Posting). test p.term) d.postings (ascending_from_pairs IsBefore d.postings pairs))))
 
-  all_rise : (ds : List Document) → IsAscending (λ a b. a.docid <ℤ b.docid) ds → AllByRecursion (λ (d : Document). AllPairs IsBefore d.postings) ds → IsAscending Below (flat_map own_places ds)
-  all_rise [] up each = tt
-  all_rise (d ∷ ds) up each =
-      ascending-append Below (own_places d) (flat_map own_places ds) (one_rises d each.0) (all_rise ds up.1 each.1)
-      (all-map (λ (x : Placed). AllByRecursion (Below x) (flat_map own_places ds)) (λ (p : Posting). placed_in d.docid p.place)
-      (λ p. all-flat_map (Below (placed_in d.docid p.place)) own_places ds
-      (all_weaker (λ (b : Document). d.docid <ℤ b.docid) (λ (b : Document). AllByRecursion (Below (placed_in d.docid p.place)) (own_places b))
-      (λ b h. all-map (Below (placed_in d.docid p.place)) (λ (q : Posting). placed_in b.docid q.place) (λ q. below_docid (placed_in d.docid p.place) (placed_in b.docid q.place) h) (passing b)) ds up.0))
-      (passing d))
+  docids_up : (ds : List Document) → AreDocuments ds → IsAscending (λ a b. a.docid <ℤ b.docid) (lists_with test ds)
+  docids_up ds order =
+      ascending-filter (λ a b. a.docid <ℤ b.docid) has_places (map (places_with test) ds)
+      (ascending-map (λ a b. a.docid <ℤ b.docid) (places_with test) ds (ascending_from_pairs (λ a b. a.docid <ℤ b.docid) ds order.rising))
 
   -- what a walk wants rises
   pub lists_rise : (ds : List Document) → AreDocuments ds → IsAscending Below (all_in (lists_with test ds))
-  lists_rise ds order = subst (IsAscending Below) (sym (by_document ds))
-      (all_rise ds (ascending_from_pairs (λ a b. a.docid <ℤ b.docid) ds order.rising) (recursion_from_All (λ (d : Document). AllPairs IsBefore d.postings) ds order.ordered))
+  lists_rise ds order =
+      let P : PlaceList → Type 0 = λ l. IsAscending Below (map (placed_in l.docid) l.places) in
+      lists_up (lists_with test ds) (docids_up ds order) (all_filter P has_places (map (places_with test) ds) (all_map P (places_with test) ds
+      (all_weaker (λ (d : Document). AllPairs IsBefore d.postings) (λ (d : Document). P (places_with test d)) one_rises ds (recursion_from_All (λ (d : Document). AllPairs IsBefore d.postings) ds order.ordered))))
 
 -- ---- places in order, by document
 
@@ -240,10 +226,7 @@ all_groups (l ∷ ls) filled up =
     apart (b ∷ bs) up = ap is_eq (sym (int_cmp_is l.docid b.docid Less up.0))
 
 pub lists_group : (test : List ℕ → Bool) (ds : List Document) → AreDocuments ds → lists_by_docid (all_in (lists_with test ds)) ≡ lists_with test ds
-lists_group test ds order =
-    all_groups (lists_with test ds) (filter_passes has_places (map (places_with test) ds))
-    (ascending-filter (λ a b. a.docid <ℤ b.docid) has_places (map (places_with test) ds)
-    (ascending-map (λ a b. a.docid <ℤ b.docid) (places_with test) ds (ascending_from_pairs (λ a b. a.docid <ℤ b.docid) ds order.rising)))
+lists_group test ds order = all_groups (lists_with test ds) (filter_passes has_places (map (places_with test) ds)) (docids_up test ds order)
 
 -- ---- the rows' lists
 

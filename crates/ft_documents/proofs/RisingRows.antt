@@ -6,15 +6,15 @@ use Rattle.std.proofs.lemmas.Bool.Decides.{nat_tests}
 use Rattle.std.proofs.lemmas.Int.{ints}
 use Rattle.std.proofs.lemmas.List.Sorted.{IsPermutation-refl}
 use Rattle.sqlite_trees.specs.Tree.{IsAscending}
-use Rattle.sqlite_keyed.proofs.ListLemmas.{all_weaker, all_map, all-map, all-append, ascending-append, ascending-map}
+use Rattle.sqlite_keyed.proofs.ListLemmas.{all_from_test, all_weaker, all_map, ascending-map}
 use Rattle.ft_query.specs.declared.lists.place.Place.{Place}
-use Rattle.ft_query.specs.Documents.{is_filled, has_places}
+use Rattle.ft_query.specs.Documents.{PlaceList, is_filled, has_places}
 use Rattle.ft_values.specs.declared.rows.ListRow.{ListRow}
 use Rattle.ft_values.specs.declared.rows.Spot.{Spot}
 use Rattle.ft_rows.proofs.ListLemmas.{and_first, and_second}
 use Rattle.ft_documents.specs.declared.lists.Placed.{Placed}
 use Rattle.ft_documents.specs.Placed.{place_of, list_of, placed_in, all_in, placed_cmp, is_before, rise, is_in_order, are_in_order, AreListsOf}
-use Rattle.ft_documents.proofs.AskedLemmas.{placed_total, Below, below_docid, below_column, below_pos, all_groups}
+use Rattle.ft_documents.proofs.AskedLemmas.{placed_total, Below, lists_up, below_column, below_pos, all_groups}
 
 -- ---- what std says of neighbours, as a test
 
@@ -53,10 +53,6 @@ ascending_from_rise before R says after (x ∷ y ∷ xs) up =
     let rest = ascending_from_rise before R says after (y ∷ xs) (and_second (before x y) _ up) in
     ((first, all_weaker (R y) (R x) (λ z h. after x y z first h) xs rest.0), rest)
 
-all_pass : {X : Type 0} (test : X → Bool) (xs : List X) → list_all test xs ≡ true → AllByRecursion (λ x. test x ≡ true) xs
-all_pass test [] h = tt
-all_pass test (x ∷ xs) h = (and_first _ _ h, all_pass test xs (and_second (test x) _ h))
-
 sorted_up : (ps : List Placed) → IsAscending Below ps → IsSorted placed_cmp ps
 sorted_up [] up k d low within = absurd (omega (arith, within))
 sorted_up (p ∷ []) up k d low within = absurd (omega (arith, within))
@@ -94,19 +90,6 @@ earlier (negsuc a) (negsuc b) h = grind (arith, nat_tests)
 later : (a b c : ℤ) → a <ℤ b → b <ℤ c → a <ℤ c
 later a b c h k = omega (arith, ints)
 
-rows_rise : (rows : List ListRow) → AllByRecursion (λ row. is_in_order row ≡ true) rows → IsAscending IsEarlier rows → IsAscending Below (all_in (map list_of rows))
-rows_rise [] each up = tt
-rows_rise (r ∷ rows) each up =
-    ascending-append Below (map (placed_in r.docid) (map place_of r.spots.items)) (all_in (map list_of rows)) (row_rises r each.0) (rows_rise rows each.1 up.1)
-    (all-map (λ (x : Placed). AllByRecursion (Below x) (all_in (map list_of rows))) (placed_in r.docid) (λ p. above p rows up.0) (map place_of r.spots.items))
-  where
-    above : (p : Place) (rows : List ListRow) → AllByRecursion (IsEarlier r) rows → AllByRecursion (Below (placed_in r.docid p)) (all_in (map list_of rows))
-    above p [] later = tt
-    above p (q ∷ rows) later =
-        all-append (Below (placed_in r.docid p)) (map (placed_in q.docid) (map place_of q.spots.items)) (all_in (map list_of rows))
-        (all-map (Below (placed_in r.docid p)) (placed_in q.docid) (λ x. below_docid (placed_in r.docid p) (placed_in q.docid x) later.0) (map place_of q.spots.items))
-        (above p rows later.1)
-
 has_some : (row : ListRow) → is_in_order row ≡ true → has_places (list_of row) ≡ true
 has_some row h = go row.spots.items (and_first _ _ h)
   where
@@ -116,13 +99,13 @@ has_some row h = go row.spots.items (and_first _ _ h)
 
 pub rows_in_order : (rows : List ListRow) → are_in_order rows ≡ true → AreListsOf rows (map list_of rows)
 rows_in_order rows h =
-    let each = all_pass is_in_order rows (and_second (rise (λ (a b : ListRow). int_lt a.docid b.docid) rows) _ h) in
+    let each = all_from_test is_in_order rows (and_second (rise (λ (a b : ListRow). int_lt a.docid b.docid) rows) _ h) in
     let up = ascending_from_rise (λ (a b : ListRow). int_lt a.docid b.docid) IsEarlier (λ a b e. earlier a.docid b.docid e) (λ a b c. later a.docid b.docid c.docid) rows (and_first _ _ h) in
+    let docids = ascending-map (λ a b. a.docid <ℤ b.docid) list_of rows up in
+    let rises : PlaceList → Type 0 = λ l. IsAscending Below (map (placed_in l.docid) l.places) in
     record {
       places = all_in (map list_of rows);
       same = IsPermutation-refl _;
-      sorted = sorted_up (all_in (map list_of rows)) (rows_rise rows each up);
-      lists =
-          sym (all_groups (map list_of rows) (all_map (λ l. has_places l ≡ true) list_of rows (all_weaker (λ row. is_in_order row ≡ true) (λ row. has_places (list_of row) ≡ true) has_some rows each))
-          (ascending-map (λ a b. a.docid <ℤ b.docid) list_of rows up));
+      sorted = sorted_up (all_in (map list_of rows)) (lists_up (map list_of rows) docids (all_map rises list_of rows (all_weaker (λ row. is_in_order row ≡ true) (λ row. rises (list_of row)) row_rises rows each)));
+      lists = sym (all_groups (map list_of rows) (all_map (λ l. has_places l ≡ true) list_of rows (all_weaker (λ row. is_in_order row ≡ true) (λ row. has_places (list_of row) ≡ true) has_some rows each)) docids);
     }
