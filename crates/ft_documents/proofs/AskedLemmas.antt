@@ -1,30 +1,124 @@
 -- The rows that are asked for a content's terms are the lists that a walk wants.
-use Rattle.std.proofs.Common.{◌≡◌, ℕ, ℤ, ◌+◌, ◌≤◌, ◌<◌, Bool, true, false, cond, ◌&&◌, inl, inr, List, [], ◌∷◌, ◌++◌, map, Some, None, Option, length, suc, refl, sym, ap, subst, ◌∙◌, arith, IsPermutation, filter, is_some, AllPairs, ◌<ℤ◌, flat_map, Ordering, Less, Equal, Greater, nat_cmp, int_eq, is_eq}
-use Rattle.std.specs.List.{AllByRecursion}
-use Rattle.std.specs.Ordering.{ordering_then}
+use Rattle.std.proofs.Common.{◌≡◌, ℕ, ℤ, ◌+◌, Bool, true, false, cond, Some, None, List, [], ◌∷◌, ◌++◌, map, length, refl, sym, ap, ◌∙◌, suc, arith, take, drop, subst, append_assoc, append-nil, IsPermutation, slice_get, int_eq, ◌≤◌, ◌<◌, ◌&&◌, inl, inr, Option, filter, is_some, AllPairs, ◌<ℤ◌, flat_map, Ordering, Less, Equal, Greater, nat_cmp, is_eq, add-one, zero, get_or, pos, negsuc, is_lt, nat_lt, ◌==◌, ◌||◌, IsSorted, int_lt}
+use Rattle.std.specs.List.{prefix_len, AllByRecursion, AllAdjacentBelow, IsAllAdjacentAnswer, list_all}
+use Rattle.std.proofs.lemmas.Map.Lookups.{exact_signed}
+use Rattle.std.proofs.lemmas.List.{map-append, length-map}
+use Rattle.std.proofs.lemmas.List.Sorted.{IsPermutation-refl, IsPermutation-cons, IsPermutation-trans, IsPermutation-sym, IsPermutation-middle, IsPermutation-map, length_permutation}
+use Rattle.std.proofs.lemmas.List.Sums.{sum_by-cons}
+use Rattle.std.specs.Ordering.{ordering_then, ordering_reverse}
 use Rattle.std.specs.Cmp.{IsTotalOrder, nat_cmp_total, int_cmp_total, nat_cmp_is, int_cmp_is, tied_itself}
 use Rattle.std.specs.FinMap.Entries.{by_order, put, find, length-put, where_key}
 use Rattle.std.proofs.lemmas.Cmp.{on_total, then_total}
-use Rattle.std.proofs.lemmas.List.{length-map}
 use Rattle.std.proofs.lemmas.List.Elements.{recursion_from_All}
-use Rattle.std.proofs.lemmas.List.Sums.{sum_by-cons}
-use Rattle.std.proofs.lemmas.List.Sorted.{IsPermutation-refl, IsPermutation-cons, IsPermutation-trans, IsPermutation-sym, IsPermutation-middle, IsPermutation-map, length_permutation}
+use Rattle.std.proofs.lemmas.Bool.Decides.{nat_tests}
+use Rattle.std.proofs.lemmas.Int.{ints}
 use Rattle.sqlite_trees.specs.Tree.{IsAscending}
-use Rattle.sqlite_keyed.proofs.ListLemmas.{all_map, all_weaker, all-map, all-flat_map, ascending-append, ascending-map, ascending_weaker, ascending-filter}
+use Rattle.sqlite_keyed.proofs.ListLemmas.{all_map, all_weaker, all-map, all-flat_map, ascending-append, ascending-map, ascending_weaker, ascending-filter, all_from_test}
 use Rattle.sqlite_keyed.proofs.SortLemmas.{sorted_unique}
+use Rattle.ft_query.specs.declared.lists.doc_list.DocList.{DocList}
+use Rattle.ft_query.specs.Documents.{PlaceList, plain_list, place_count, Posting, Document, IsBefore, AreDocuments, is_filled, has_places, places_with, lists_with}
 use Rattle.ft_query.specs.declared.lists.place.Place.{Place}
-use Rattle.ft_query.specs.Documents.{Posting, Document, IsBefore, AreDocuments, PlaceList, is_filled, has_places, places_with, lists_with, place_count}
 use Rattle.ft_query.proofs.PhrasePasses.{all_filter}
-use Rattle.ft_rows.specs.Store.{ListKey, list_key_cmp}
 use Rattle.ft_values.specs.declared.rows.ListRow.{ListRow}
+use Rattle.ft_values.specs.declared.rows.Spot.{Spot}
+use Rattle.ft_rows.specs.Store.{ListKey, list_key_cmp}
 use Rattle.ft_rows.specs.Shown.{shown_list, bare_list, spot_count}
-use Rattle.ft_rows.proofs.ListLemmas.{filter_passes}
+use Rattle.ft_rows.proofs.ListLemmas.{filter_passes, and_first, and_second}
 use Rattle.ft_content.specs.Index.{Entry, Key, StoredSpot}
 use Rattle.ft_content.specs.Meaning.{plain_spot, entries_in, entry_cmp, entry_set, posting_of, with_entry, grouped, documents_in, lists_with_terms, all_places}
 use Rattle.ft_content.proofs.MeaningLemmas.{entry_total, sorted_set}
 use Rattle.ft_documents.specs.declared.lists.Placed.{Placed}
-use Rattle.ft_documents.specs.Placed.{place_of, list_of, placed_in, all_in, placed_cmp, with_placed, lists_by_docid, AreListsOf}
-use Rattle.ft_documents.proofs.PlacedLemmas.{docids_same, counted}
+use Rattle.ft_documents.specs.Placed.{place_in, list_with, with_placed, lists_by_docid, place_of, list_of, placed_in, all_in, placed_cmp, AreListsOf, is_before, rise, is_in_order, are_in_order}
+use Rattle.ft_documents.proofs.KeyedRows.{tie, turned_round, itself}
+
+-- ---- places by document
+
+pub docids_same : (x y : ℤ) → int_eq x y ≡ true → x ≡ y
+docids_same x y h = exact_signed x y (tie _ h)
+
+-- how many of the first places are in the document of this one
+abbrev pub run_with : Placed → List Placed → ℕ
+run_with first ps = prefix_len (λ p. int_eq p.docid first.docid) ps
+
+-- the first list is of the first place's docid
+apart : (p q : Placed) (ls : List PlaceList) → int_eq p.docid q.docid ≡ false → with_placed p (with_placed q ls) ≡ list_with p (p ∷ []) ∷ with_placed q ls
+apart p q [] h = ap (λ b. cond b (list_with p (p ∷ q ∷ []) ∷ []) (list_with p (p ∷ []) ∷ list_with q (q ∷ []) ∷ [])) h
+apart p q (l ∷ ls) h = elim (int_eq q.docid l.docid) as (λ b.
+    with_placed p (cond b (record { docid = q.docid; places = place_in q ∷ l.places } ∷ ls) (list_with q (q ∷ []) ∷ l ∷ ls))
+    ≡ list_with p (p ∷ []) ∷ cond b (record { docid = q.docid; places = place_in q ∷ l.places } ∷ ls) (list_with q (q ∷ []) ∷ l ∷ ls)) [
+      | true ↦ ap (λ b. cond b (record { docid = p.docid; places = place_in p ∷ place_in q ∷ l.places } ∷ ls) (list_with p (p ∷ []) ∷ record { docid = q.docid; places = place_in q ∷ l.places } ∷ ls)) h
+      | false ↦ ap (λ b. cond b (list_with p (p ∷ q ∷ []) ∷ l ∷ ls) (list_with p (p ∷ []) ∷ list_with q (q ∷ []) ∷ l ∷ ls)) h
+    ]
+
+-- a place before one of its document, or of another
+step : (p q : Placed) (qs : List Placed) (b : Bool) → int_eq q.docid p.docid ≡ b → with_placed q (lists_by_docid qs) ≡ list_with q (q ∷ take (run_with q qs) qs) ∷ lists_by_docid (drop (run_with q qs) qs) →
+    with_placed p (lists_by_docid (q ∷ qs)) ≡ list_with p (p ∷ take (cond b (1 + run_with p qs) 0) (q ∷ qs)) ∷ lists_by_docid (drop (cond b (1 + run_with p qs) 0) (q ∷ qs))
+unfolding lists_by_docid
+step p q qs true e rest =
+    let same = docids_same q.docid p.docid e in
+    let more : suc (run_with p qs) ≡ 1 + run_with p qs = omega arith in
+    ap (with_placed p) (rest ∙ ap (λ d. list_with q (q ∷ take (prefix_len (λ (r : Placed). int_eq r.docid d) qs) qs) ∷ lists_by_docid (drop (prefix_len (λ (r : Placed). int_eq r.docid d) qs) qs)) same)
+    ∙ ap (λ b. cond b (list_with p (p ∷ q ∷ take (run_with p qs) qs) ∷ lists_by_docid (drop (run_with p qs) qs)) (list_with p (p ∷ []) ∷ list_with q (q ∷ take (run_with p qs) qs) ∷ lists_by_docid (drop (run_with p qs) qs)))
+    (ap (int_eq p.docid) same ∙ itself p.docid)
+    ∙ ap (λ n. list_with p (p ∷ take n (q ∷ qs)) ∷ lists_by_docid (drop n (q ∷ qs))) more
+step p q qs false e rest = apart p q (lists_by_docid qs) (turned_round p.docid q.docid ∙ e)
+
+-- a place before those of its document, and the rest
+runs : (p : Placed) (ps : List Placed) → with_placed p (lists_by_docid ps) ≡ list_with p (p ∷ take (run_with p ps) ps) ∷ lists_by_docid (drop (run_with p ps) ps)
+unfolding lists_by_docid
+runs p [] = refl
+runs p (q ∷ qs) = step p q qs (int_eq q.docid p.docid) refl (runs q qs)
+
+-- the first list, and the lists of the rest
+pub first_list : (p : Placed) (ps : List Placed) → lists_by_docid (p ∷ ps) ≡ list_with p (take (run_with p (p ∷ ps)) (p ∷ ps)) ∷ lists_by_docid (drop (run_with p (p ∷ ps)) (p ∷ ps))
+unfolding lists_by_docid
+first_list p ps =
+    let more : suc (run_with p ps) ≡ 1 + run_with p ps = omega arith in
+    runs p ps ∙ ap (λ n. list_with p (take n (p ∷ ps)) ∷ lists_by_docid (drop n (p ∷ ps))) (more ∙ ap (λ b. cond b (1 + run_with p ps) 0) (sym (itself p.docid)))
+
+pub first_lists : (ps : List Placed) (p : Placed) → slice_get ps 0 ≡ Some p → lists_by_docid ps ≡ list_with p (take (run_with p ps) ps) ∷ lists_by_docid (drop (run_with p ps) ps)
+first_lists [] p is = absurd (let no = is in cc)
+first_lists (q ∷ qs) p is = let same : q ≡ p = (let e = is in cc) in
+    subst (λ (p : Placed). lists_by_docid (q ∷ qs) ≡ list_with p (take (run_with p (q ∷ qs)) (q ∷ qs)) ∷ lists_by_docid (drop (run_with p (q ∷ qs)) (q ∷ qs))) same (first_list q qs)
+
+pub no_lists : lists_by_docid [] ≡ []
+unfolding lists_by_docid
+no_lists = refl
+
+with_count : (p : Placed) (ls : List PlaceList) → place_count (with_placed p ls) ≡ suc (place_count ls)
+with_count p [] = refl
+with_count p (l ∷ ls) =
+    let old = sum_by-cons (λ (l : PlaceList). length l.places) l ls in
+    let longer = sum_by-cons (λ (l : PlaceList). length l.places) (record { docid = p.docid; places = place_in p ∷ l.places }) ls in
+    let added = sum_by-cons (λ (l : PlaceList). length l.places) (list_with p (p ∷ [])) (l ∷ ls) in
+    elim (int_eq p.docid l.docid) as (λ b. place_count (cond b (record { docid = p.docid; places = place_in p ∷ l.places } ∷ ls) (list_with p (p ∷ []) ∷ l ∷ ls)) ≡ suc (place_count (l ∷ ls))) [ true ↦ omega arith | false ↦ omega arith ]
+
+-- as many places as there are
+pub counted : (ps : List Placed) → place_count (lists_by_docid ps) ≡ length ps
+unfolding lists_by_docid
+counted [] = refl
+counted (p ∷ ps) = with_count p (lists_by_docid ps) ∙ ap suc (counted ps)
+
+-- the lists so far with one more
+pub next_lists : (lists more : List DocList) (ps own others : List Placed) (p : Placed) (list : DocList) (n : ℕ) → slice_get ps 0 ≡ Some p → more ≡ lists ++ list ∷ [] → plain_list list ≡ list_with p own →
+    n ≡ run_with p ps → own ≡ take n ps → others ≡ drop n ps → map plain_list more ++ lists_by_docid others ≡ map plain_list lists ++ lists_by_docid ps
+next_lists lists more ps own others p list n here longer shows count front back =
+    let first : plain_list list ≡ list_with p (take (run_with p ps) ps) = shows ∙ ap (list_with p) (front ∙ ap (λ k. take k ps) count) in
+    let rest : others ≡ drop (run_with p ps) ps = back ∙ ap (λ k. drop k ps) count in
+    ap (λ ls. map plain_list ls ++ lists_by_docid others) longer
+    ∙ ap (λ ls. ls ++ lists_by_docid others) (map-append plain_list lists (list ∷ []))
+    ∙ append_assoc (map plain_list lists) (plain_list list ∷ []) (lists_by_docid others)
+    ∙ ap (λ ls. map plain_list lists ++ ls) ((λ i. first i ∷ lists_by_docid (rest i)) ∙ sym (first_lists ps p here))
+
+-- the lists where no place is left
+pub last_lists : (lists : List DocList) (ps : List Placed) → slice_get ps 0 ≡ None → map plain_list lists ≡ map plain_list lists ++ lists_by_docid ps
+last_lists lists [] none = sym (append-nil (map plain_list lists)) ∙ ap (λ ls. map plain_list lists ++ ls) (sym no_lists)
+last_lists lists (p ∷ ps) none = absurd (let no = none in cc)
+
+pub same_places : (ps : List Placed) → IsPermutation ps ps
+same_places ps = IsPermutation-refl ps
+
+-- ---- the rows that are asked for a content's terms are the lists that a walk wants
 
 -- ---- rows as entries
 
@@ -152,10 +246,10 @@ module _ (x : ℤ) (p q : Place) where
       ∙ ap (λ o. ordering_then o by_pos) (sym (nat_cmp_is p.column q.column Less column))
 
   pub below_pos : p.column ≡ q.column → p.pos < q.pos → Below (placed_in x p) (placed_in x q)
-  below_pos column pos =
+  below_pos column before =
       ap (λ o. ordering_then o (ordering_then (nat_cmp p.column q.column) by_pos)) (tied_itself int_cmp_total x)
       ∙ ap (λ o. ordering_then o by_pos) (sym (nat_cmp_is p.column q.column Equal column))
-      ∙ ap (λ o. ordering_then o by_size) (sym (nat_cmp_is p.pos q.pos Less pos))
+      ∙ ap (λ o. ordering_then o by_size) (sym (nat_cmp_is p.pos q.pos Less before))
 
 below_place : (x : ℤ) (p q : Posting) → IsBefore p q → Below (placed_in x p.place) (placed_in x q.place)
 below_place x p q (inl column) = below_column x p.place q.place column
@@ -265,3 +359,99 @@ same_count (r ∷ rows) =
 pub rows_count : (rows : List ListRow) (found : List PlaceList) → AreListsOf rows found → place_count found ≡ spot_count (map shown_list rows)
 rows_count rows found shown =
     ap place_count shown.lists ∙ counted shown.places ∙ length_permutation (all_in (map list_of rows)) shown.places shown.same ∙ all_count (map list_of rows) ∙ same_count rows
+
+-- ---- rows that stand in order are lists
+
+-- ---- what std says of neighbours, as a test
+
+module _ {X : Type 0} (before : X → X → Bool) where
+  each_next : (xs : List X) → AllAdjacentBelow (λ x y. true ≡ before x y) xs (length xs) → true ≡ rise before xs
+  each_next [] next = refl
+  each_next (x ∷ []) next = refl
+  each_next (x ∷ y ∷ xs) next =
+      let first : true ≡ before x y = next 0 x (omega arith) in
+      let rest = each_next (y ∷ xs) (λ k d within. rw add-one (rw add-one at (next (suc k) d (omega (arith, within))))) in
+      λ i. first i && rest i
+
+  and_false : (a b : Bool) → false ≡ b → false ≡ (a && b)
+  and_false true b h = h
+  and_false false b h = refl
+
+  some_not : (xs : List X) (k : ℕ) → k + 1 < length xs → ((d : X) → false ≡ before (get_or xs k d) (get_or xs (k + 1) d)) → false ≡ rise before xs
+  some_not [] k within not = absurd (omega (arith, within))
+  some_not (x ∷ []) k within not = absurd (omega (arith, within))
+  some_not (x ∷ y ∷ xs) zero within not = ap (λ b. b && rise before (y ∷ xs)) (not x)
+  some_not (x ∷ y ∷ xs) (suc k) within not =
+      and_false (before x y) (rise before (y ∷ xs)) (some_not (y ∷ xs) k (omega (arith, within)) (λ d. rw add-one (rw add-one at (not d))))
+
+  pub neighbours_tell : (xs : List X) (answer : Bool) → IsAllAdjacentAnswer (λ x y b. b ≡ before x y) xs answer → answer ≡ rise before xs
+  neighbours_tell xs true next = each_next xs next
+  neighbours_tell xs false not = some_not xs not.0 not.1 not.2
+
+-- ---- places that rise
+
+-- what stands before each next one stands before all that come
+ascending_from_rise : {X : Type 0} (before : X → X → Bool) (R : X → X → Type 0) → ((a b : X) → before a b ≡ true → R a b) → ((a b c : X) → R a b → R b c → R a c) → (xs : List X) → rise before xs ≡ true → IsAscending R xs
+ascending_from_rise before R says after [] up = tt
+ascending_from_rise before R says after (x ∷ []) up = (tt, tt)
+ascending_from_rise before R says after (x ∷ y ∷ xs) up =
+    let first : R x y = says x y (and_first _ _ up) in
+    let rest = ascending_from_rise before R says after (y ∷ xs) (and_second (before x y) _ up) in
+    ((first, all_weaker (R y) (R x) (λ z h. after x y z first h) xs rest.0), rest)
+
+sorted_up : (ps : List Placed) → IsAscending Below ps → IsSorted placed_cmp ps
+sorted_up [] up k d low within = absurd (omega (arith, within))
+sorted_up (p ∷ []) up k d low within = absurd (omega (arith, within))
+sorted_up (p ∷ q ∷ ps) up zero d low within = ap is_lt (placed_total.antisymm q p ∙ ap ordering_reverse up.0.0)
+sorted_up (p ∷ q ∷ ps) up (suc k) d low within = rw add-one (rw add-one at (sorted_up (q ∷ ps) up.1 k d (omega arith) (omega (arith, within))))
+
+before_below : (x : ℤ) (p q : Place) → is_before p q ≡ true → Below (placed_in x p) (placed_in x q)
+before_below x p q h = go (nat_lt p.column q.column) refl h
+  where
+    go : (b : Bool) → nat_lt p.column q.column ≡ b → (b || (p.column == q.column && nat_lt p.pos q.pos)) ≡ true → Below (placed_in x p) (placed_in x q)
+    go true e h = below_column x p q (grind (arith, nat_tests))
+    go false e h =
+        let same = and_first (p.column == q.column) (nat_lt p.pos q.pos) h in
+        let less = and_second (p.column == q.column) (nat_lt p.pos q.pos) h in
+        below_pos x p q (grind (arith, nat_tests)) (grind (arith, nat_tests))
+
+row_rises : (row : ListRow) → is_in_order row ≡ true → IsAscending Below (map (placed_in row.docid) (map place_of row.spots.items))
+row_rises row h =
+    ascending-map Below (placed_in row.docid) (map place_of row.spots.items)
+    (ascending-map (λ p q. Below (placed_in row.docid p) (placed_in row.docid q)) place_of row.spots.items
+    (ascending_from_rise (λ s t. is_before (place_of s) (place_of t)) (λ s t. Below (placed_in row.docid (place_of s)) (placed_in row.docid (place_of t)))
+    (λ s t e. before_below row.docid (place_of s) (place_of t) e) (λ a b c. placed_total.trans (placed_in row.docid (place_of a)) (placed_in row.docid (place_of b)) (placed_in row.docid (place_of c))) row.spots.items (and_second (is_filled row.spots.items) _ h)))
+
+-- ---- rows that rise
+
+abbrev IsEarlier : ListRow → ListRow → Type 0
+IsEarlier a b = a.docid <ℤ b.docid
+
+earlier : (a b : ℤ) → int_lt a b ≡ true → a <ℤ b
+earlier (pos a) (pos b) h = grind (arith, nat_tests)
+earlier (pos a) (negsuc b) h = absurd (let no = h in cc)
+earlier (negsuc a) (pos b) h = omega arith
+earlier (negsuc a) (negsuc b) h = grind (arith, nat_tests)
+
+later : (a b c : ℤ) → a <ℤ b → b <ℤ c → a <ℤ c
+later a b c h k = omega (arith, ints)
+
+has_some : (row : ListRow) → is_in_order row ≡ true → has_places (list_of row) ≡ true
+has_some row h = go row.spots.items (and_first _ _ h)
+  where
+    go : (ss : List Spot) → is_filled ss ≡ true → is_filled (map place_of ss) ≡ true
+    go [] some = some
+    go (s ∷ ss) some = refl
+
+pub rows_in_order : (rows : List ListRow) → are_in_order rows ≡ true → AreListsOf rows (map list_of rows)
+rows_in_order rows h =
+    let each = all_from_test is_in_order rows (and_second (rise (λ (a b : ListRow). int_lt a.docid b.docid) rows) _ h) in
+    let up = ascending_from_rise (λ (a b : ListRow). int_lt a.docid b.docid) IsEarlier (λ a b e. earlier a.docid b.docid e) (λ a b c. later a.docid b.docid c.docid) rows (and_first _ _ h) in
+    let docids = ascending-map (λ a b. a.docid <ℤ b.docid) list_of rows up in
+    let rises : PlaceList → Type 0 = λ l. IsAscending Below (map (placed_in l.docid) l.places) in
+    record {
+      places = all_in (map list_of rows);
+      same = IsPermutation-refl _;
+      sorted = sorted_up (all_in (map list_of rows)) (lists_up (map list_of rows) docids (all_map rises list_of rows (all_weaker (λ row. is_in_order row ≡ true) (λ row. rises (list_of row)) row_rises rows each)));
+      lists = sym (all_groups (map list_of rows) (all_map (λ l. has_places l ≡ true) list_of rows (all_weaker (λ row. is_in_order row ≡ true) (λ row. has_places (list_of row) ≡ true) has_some rows each)) docids);
+    }

@@ -18,10 +18,9 @@ use Rattle.ft_documents.specs.Tables.{table_rows, table_index, IsOfDocids}
 use Rattle.ft_documents.specs.Rewrite.{Rewrite, with_cells, rewritten, rewritten_content, rewritten_docids, under_docids, FitIfAny, AreOf, HasContent, AreRight}
 use Rattle.ft_documents.specs.RewriteRows.{rewrite_changes}
 use Rattle.ft_documents.proofs.KeyedRows.{below_apart, found_holds, each_found}
-use Rattle.ft_documents.proofs.AppliedLemmas.{applied_append}
+use Rattle.ft_documents.proofs.RightLemmas.{applied_append, order_after, are_right}
 use Rattle.ft_documents.proofs.RewriteLemmas.{sorted_rewritten, written, find_rewritten}
-use Rattle.ft_documents.proofs.RightLemmas.{order_after, are_right}
-use Rattle.ft_documents.proofs.NearLemmas.{changes_near, contains_own}
+use Rattle.ft_documents.proofs.NewLemmas.{changes_near, contains_own}
 
 -- ---- two lists, one after the other
 

@@ -1,19 +1,98 @@
 -- The lists and sizes of documents that join one after another are those made from scratch.
-use Rattle.std.proofs.Common.{◌≡◌, true, false, cond, List, [], ◌∷◌, ◌++◌, map, None, ℤ, refl, sym, ap, ◌∙◌, filter, option_map, flat_map, Ordering}
-use Rattle.std.specs.Ordering.{eq_by_cmp}
-use Rattle.std.specs.FinMap.Entries.{put}
-use Rattle.std.proofs.lemmas.List.{map-append}
+use Rattle.std.proofs.Common.{◌≡◌, ℕ, zero, suc, ◌+◌, ◌≤◌, true, cond, List, [], ◌∷◌, ◌++◌, map, length, drop, min, ℤ, refl, sym, ap, ◌∙◌, arith, nat_lt, filter, flat_map, false, None, option_map, Ordering, subst, All, ◌<◌, ◌^◌, length-append, get_or, pos, Less, Equal, Greater}
+use Rattle.std.specs.List.{enumerate_from, range_with_len}
+use Rattle.std.proofs.lemmas.List.{map-append, get_or-map}
+use Rattle.std.proofs.lemmas.Simd.{map-map}
+use Rattle.std.proofs.lemmas.Bool.Decides.{nat_tests}
+use Rattle.std.specs.Ordering.{eq_by_cmp, match_ordering}
+use Rattle.std.specs.FinMap.Entries.{put, by_order}
 use Rattle.std.proofs.lemmas.List.Concat.{flat_map-append}
+use Rattle.std.proofs.lemmas.List.Elements.{All-nil, All-append, All-head, All-tail}
+use Rattle.std.specs.Char.{to_ascii_lowercase}
+use Rattle.std.specs.BTreeMap.{insert_entry}
+use Rattle.std.proofs.lemmas.List.FromFn.{get_or-range_with_len}
+use Rattle.ft_query.specs.Tokens.{PlainToken, Scan, is_eligible, token_of, ended, tokens_from, tokens_of}
+use Rattle.ft_query.specs.Documents.{posting}
+use Rattle.ft_query.proofs.TokenLaw.{computed_tokens}
+use Rattle.ft_values.specs.Cells.{Cell}
 use Rattle.ft_rows.specs.Store.{column_key_cmp}
-use Rattle.ft_content.specs.Content.{Column, Documents}
-use Rattle.ft_content.specs.Index.{Spot, Entry, Key, key_cmp, key_of, StoredSpot, stored_spot, spot_lists, SizeRow, size_row, document_entries, document_sizes, entries, sizes, index_rows}
+use Rattle.ft_content.specs.Content.{Column, Documents, cell_text}
+use Rattle.ft_content.specs.Index.{Entry, entry_at, Key, StoredSpot, Size, size_row, document_tokens, Spot, key_cmp, key_of, stored_spot, spot_lists, SizeRow, document_entries, document_sizes, entries, sizes, index_rows}
 use Rattle.ft_content.specs.Laws.{spots_of_key, some_if_any}
 use Rattle.ft_content.proofs.IndexLemmas.{lists_are_entries}
 use Rattle.ft_content.proofs.PlanLemmas.{sorted_lists}
-use Rattle.ft_documents.specs.RewriteRows.{with_entries, entry_spot, all_put, sized, lists_joined_by, sizes_with, index_lists_of, sizes_of}
+use Rattle.ft_documents.specs.RewriteRows.{with_spots, with_entries, entry_spot, all_put, sized, cell_entries, cell_sizes, AreShortNumbers, lists_joined_by, sizes_with, index_lists_of, sizes_of}
+use Rattle.ft_documents.specs.declared.document_index.DocumentIndex.{DocumentIndex}
+use Rattle.ft_documents.specs.MadeIndex.{lists_in, sizes_in, HaveShortNumbers, AddsDocuments, IsIndexOf, AreSmall, IsTextOf}
+use Rattle.ft_documents.proofs.TermOrder.{with_spots-append, spots_under, joined, made_of}
 use Rattle.ft_documents.proofs.KeyedRows.{true_of, find-values, sorted-values}
-use Rattle.ft_documents.proofs.DocumentSteps.{with_entries-append}
-use Rattle.ft_documents.proofs.SpotLists.{spots_under, joined, made_of}
+
+-- ---- the entries and sizes of a document, cell by cell
+
+-- entries and sizes of the columns from one on
+abbrev pub entries_from : ℤ → ℕ → List (List PlainToken) → List Entry
+entries_from docid k columns = map (entry_at docid) (flat_map (λ c. map (posting c.0) c.1) (enumerate_from k columns))
+
+abbrev pub size_at : ℤ → ℕ × List PlainToken → Size
+size_at docid c = record { docid = docid; column = c.0; n = length c.1 }
+
+abbrev pub sizes_from : ℤ → ℕ → List (List PlainToken) → List ((ℤ × ℤ) × ℤ)
+sizes_from docid k columns = sized (map size_row (filter (λ (s : Size). nat_lt 0 s.n) (map (size_at docid) (enumerate_from k columns))))
+
+pub with_entries-append : (es fs : List Entry) (lists : List (Key × List StoredSpot)) → with_entries (es ++ fs) lists ≡ with_entries fs (with_entries es lists)
+with_entries-append es fs lists = ap (λ xs. with_spots xs lists) (map-append entry_spot es fs) ∙ with_spots-append (map entry_spot es) (map entry_spot fs) lists
+
+entries_first : (docid : ℤ) (k : ℕ) (tokens : List PlainToken) (columns : List (List PlainToken)) → entries_from docid k (tokens ∷ columns) ≡ cell_entries docid k tokens ++ entries_from docid (k + 1) columns
+entries_first docid k tokens columns =
+    map-append (entry_at docid) (map (posting k) tokens) (flat_map (λ c. map (posting c.0) c.1) (enumerate_from (k + 1) columns))
+    ∙ ap (λ es. es ++ entries_from docid (k + 1) columns) (map-map (entry_at docid) (posting k) tokens)
+
+-- a column more
+pub lists_more : (docid : ℤ) (k : ℕ) (tokens : List PlainToken) (columns : List (List PlainToken)) (old new all : List (Key × List StoredSpot)) → new ≡ with_entries (cell_entries docid k tokens) old →
+    with_entries (entries_from docid k (tokens ∷ columns)) old ≡ all → with_entries (entries_from docid (k + 1) columns) new ≡ all
+lists_more docid k tokens columns old new all grown so_far =
+    ap (with_entries (entries_from docid (k + 1) columns)) grown ∙ sym (with_entries-append (cell_entries docid k tokens) (entries_from docid (k + 1) columns) old)
+    ∙ ap (λ es. with_entries es old) (sym (entries_first docid k tokens columns)) ∙ so_far
+
+size_more : (docid : ℤ) (k n : ℕ) (rest : List Size) (old : List ((ℤ × ℤ) × ℤ)) →
+    all_put column_key_cmp (sized (map size_row rest)) (all_put column_key_cmp (sized (cell_sizes docid k n)) old) ≡ all_put column_key_cmp (sized (map size_row (cond (nat_lt 0 n) (record { docid = docid; column = k; n = n } ∷ rest) rest))) old
+size_more docid k zero rest old = refl
+size_more docid k (suc n) rest old =
+    let yes : nat_lt 0 (suc n) ≡ true = grind (arith, nat_tests) in
+    ap (λ b. all_put column_key_cmp (sized (map size_row (cond b (record { docid = docid; column = k; n = suc n } ∷ rest) rest))) old) (sym yes)
+
+pub sizes_more : (docid : ℤ) (k : ℕ) (tokens : List PlainToken) (columns : List (List PlainToken)) (old new all : List ((ℤ × ℤ) × ℤ)) → new ≡ all_put column_key_cmp (sized (cell_sizes docid k (length tokens))) old →
+    all_put column_key_cmp (sizes_from docid k (tokens ∷ columns)) old ≡ all → all_put column_key_cmp (sizes_from docid (k + 1) columns) new ≡ all
+sizes_more docid k tokens columns old new all grown so_far =
+    ap (all_put column_key_cmp (sizes_from docid (k + 1) columns)) grown
+    ∙ size_more docid k (length tokens) (filter (λ (s : Size). nat_lt 0 s.n) (map (size_at docid) (enumerate_from (k + 1) columns))) old ∙ so_far
+
+-- where one list is at its end no column is left
+pub none_left : (k : ℕ) (columns : List Column) (cells : List Cell) → min (length columns) (length cells) ≤ k → document_tokens (drop k columns) (drop k cells) ≡ []
+none_left zero [] cells past = refl
+none_left zero (column ∷ columns) [] past = refl
+none_left zero (column ∷ columns) (cell ∷ cells) past = absurd (omega arith)
+none_left (suc k) [] cells past = refl
+none_left (suc k) (column ∷ columns) [] past = nothing (drop k columns)
+  where
+    nothing : (cs : List Column) → document_tokens cs [] ≡ []
+    nothing [] = refl
+    nothing (c ∷ cs) = refl
+none_left (suc k) (column ∷ columns) (cell ∷ cells) past = none_left k columns cells (omega arith)
+
+pub no_numbers : (k : ℕ) (columns : List Column) (cells : List Cell) → min (length columns) (length cells) ≤ k → AreShortNumbers (drop k columns) (drop k cells)
+no_numbers zero [] cells past = tt
+no_numbers zero (column ∷ columns) [] past = tt
+no_numbers zero (column ∷ columns) (cell ∷ cells) past = absurd (omega arith)
+no_numbers (suc k) [] cells past = tt
+no_numbers (suc k) (column ∷ columns) [] past = nothing (drop k columns)
+  where
+    nothing : (cs : List Column) → AreShortNumbers cs []
+    nothing [] = tt
+    nothing (c ∷ cs) = tt
+no_numbers (suc k) (column ∷ columns) (cell ∷ cells) past = no_numbers k columns cells (omega arith)
+
+-- ---- the lists and sizes of documents that join one after another are those made from scratch
 
 -- ---- one after another
 
@@ -57,3 +136,85 @@ lists_made columns documents =
 pub sizes_made : (columns : List Column) (documents : Documents) → sizes_with columns documents [] ≡ sizes_of columns documents
 unfolding index_rows sizes
 sizes_made columns documents = refl
+
+-- ---- the documents of an index, one after another
+
+-- what is left of documents joins an index, so that it is that of all
+pub record ToJoin (columns : List Column) (left all : Documents) (index : DocumentIndex) : Type 0 where
+  pub lists : lists_joined_by columns left (lists_in index) ≡ lists_joined_by columns all []
+  pub sizes : sizes_with columns left (sizes_in index) ≡ sizes_with columns all []
+  pub numbers : HaveShortNumbers columns left → HaveShortNumbers columns all
+
+-- some documents more
+pub more_joined : (columns : List Column) (some rest left all : Documents) (old new : DocumentIndex) → left ≡ some ++ rest → AddsDocuments columns some old new → ToJoin columns left all old → ToJoin columns rest all new
+more_joined columns some rest left all old new is adds so_far =
+    let P : ℤ × List Cell → Type 0 = λ d. AreShortNumbers columns d.1 in
+    record {
+      lists = ap (lists_joined_by columns rest) adds.lists ∙ sym (lists_with-append columns some rest (lists_in old)) ∙ ap (λ ds. lists_joined_by columns ds (lists_in old)) (sym is) ∙ so_far.lists;
+      sizes = ap (sizes_with columns rest) adds.sizes ∙ sym (sizes_with-append columns some rest (sizes_in old)) ∙ ap (λ ds. sizes_with columns ds (sizes_in old)) (sym is) ∙ so_far.sizes;
+      numbers = λ more. so_far.numbers (subst (All P) (sym is) (All-append P some rest adds.numbers more));
+    }
+
+-- none is left
+pub all_joined : (columns : List Column) (left all : Documents) (index : DocumentIndex) → left ≡ [] → ToJoin columns left all index → IsIndexOf columns all index
+all_joined columns left all index none so_far =
+    let P : ℤ × List Cell → Type 0 = λ d. AreShortNumbers columns d.1 in
+    record {
+      lists = ap (λ ds. lists_joined_by columns ds (lists_in index)) (sym none) ∙ so_far.lists ∙ lists_made columns all;
+      sizes = ap (λ ds. sizes_with columns ds (sizes_in index)) (sym none) ∙ so_far.sizes ∙ sizes_made columns all;
+      numbers = so_far.numbers (subst (All P) (sym none) (All-nil P));
+    }
+
+-- ---- the tokens of a cell, one after another
+
+number_at : (ts : List PlainToken) → map (λ (t : PlainToken). t.pos) ts ≡ range_with_len 0 (length ts) → All (λ t. t.pos < length ts) ts
+number_at ts e k d within =
+    let is : (get_or ts k d).pos ≡ 0 + k = sym (get_or-map (λ (t : PlainToken). t.pos) ts k d d.pos within) ∙ ap (λ xs. get_or xs k d.pos) e ∙ get_or-range_with_len 0 (length ts) k d.pos within in
+    omega (arith, is, within)
+
+all_small : (most size : ℕ) (ts : List PlainToken) → most < 2 ^ 63 → size < 2 ^ 63 → All (λ t. t.pos < most) ts → All (λ t. t.start + t.size ≤ size) ts → AreSmall ts
+all_small most size [] m s h g = tt
+all_small most size (t ∷ ts) m s h g =
+    let here = All-head (λ (x : PlainToken). x.pos < most) t ts h in
+    let within = All-head (λ (x : PlainToken). x.start + x.size ≤ size) t ts g in
+    let rest = all_small most size ts m s (All-tail (λ (x : PlainToken). x.pos < most) t ts h) (All-tail (λ (x : PlainToken). x.start + x.size ≤ size) t ts g) in
+    (omega (arith, here, m), omega (arith, within, s), omega (arith, within, s), rest)
+
+few_ended : (count start : ℕ) (run : List ℕ) → length (token_of count start run) ≤ length run
+few_ended count start [] = omega arith
+few_ended count start (b ∷ bs) = omega arith
+
+few_from : (s : Scan) (text : List ℕ) → length (tokens_from s text) ≤ length s.run + length text
+few_from s [] = omega (arith, few_ended s.count s.start s.run)
+few_from s (b ∷ bs) =
+    let longer = record s { run = s.run ++ to_ascii_lowercase b ∷ [] } in
+    let next : Scan = record { count = s.count + length (ended s); start = s.start + length s.run + 1; run = [] } in
+    elim (is_eligible b) as (λ e. length (cond e [] (ended s) ++ tokens_from (cond e longer next) bs) ≤ length s.run + length (b ∷ bs)) [
+      | true ↦ omega (arith, few_from longer bs, length-append s.run (to_ascii_lowercase b ∷ []))
+      | false ↦ omega (arith, few_from next bs, few_ended s.count s.start s.run, length-append (ended s) (tokens_from next bs))
+    ]
+
+-- a text has at most as many tokens as bytes
+few_in : (text : List ℕ) → length (tokens_of text) ≤ length text
+few_in text = omega (arith, few_from (record { count = 0; start = 0; run = [] }) text)
+
+pub small_tokens : (text : List ℕ) → length text < 2 ^ 63 → AreSmall (tokens_of text)
+small_tokens text short =
+    let are = computed_tokens text in
+    all_small (length (tokens_of text)) (length text) (tokens_of text) (omega (arith, few_in text, short)) short (number_at (tokens_of text) are.positions) are.within
+
+pub few_tokens : {cell : Cell} {bytes : List ℕ} → IsTextOf cell bytes → length (tokens_of (cell_text cell)) < 2 ^ 63
+few_tokens {cell} {bytes} is = subst (λ text. length (tokens_of text) < 2 ^ 63) is.text (omega (arith, few_in bytes, is.short))
+
+pub insert_put : {K V : Type 0} (R : K → K → Ordering) (k : K) (v : V) (es : List (K × V)) → insert_entry R es k v ≡ put R k v es
+insert_put R k v [] = refl
+insert_put R k v (e ∷ es) = elim (R k e.0) as (λ o. match_ordering o ((k, v) ∷ e ∷ es) ((e.0, v) ∷ es) (e ∷ insert_entry R es k v) ≡ by_order o ((k, v) ∷ e ∷ es) ((e.0, v) ∷ es) (e ∷ put R k v es)) [
+  | Less ↦ refl
+  | Equal ↦ refl
+  | Greater ↦ ap (λ xs. e ∷ xs) (insert_put R k v es)
+]
+
+-- the size of a cell that has tokens, and of one that has none
+pub size_some : (docid : ℤ) (place n : ℕ) (old new : List ((ℤ × ℤ) × ℤ)) → 0 < n → new ≡ put column_key_cmp (docid, pos place) (pos n) old → new ≡ all_put column_key_cmp (sized (cell_sizes docid place n)) old
+size_some docid place zero old new some is = absurd (omega arith)
+size_some docid place (suc n) old new some is = is

@@ -1,26 +1,207 @@
 -- The row changes of documents put lists that can be packed.
-use Rattle.std.proofs.Common.{◌≡◌, ℕ, ◌≤◌, true, false, cond, List, [], ◌∷◌, map, length, get_or, Option, Some, None, ℤ, sym, subst, ◌∙◌, ◌==◌, filter, All, IfSome, unwrap_or, int_cmp, int_eq}
-use Rattle.std.specs.List.{list_all}
-use Rattle.std.proofs.lemmas.Bool.{and_parts}
+use Rattle.std.proofs.Common.{◌≡◌, ℕ, ◌+◌, ◌<◌, ◌≤◌, Bool, true, false, cond, not, ◌&&◌, ◌||◌, List, [], ◌∷◌, map, length, Option, Some, None, ℤ, refl, sym, ap, subst, ◌∙◌, arith, inl, inr, nat_lt, ◌==◌, nat_le, filter, All, AllPairs, option_map, unwrap_or, IfSome, get_or, int_cmp, int_eq}
+use Rattle.std.specs.List.{list_all, range_with_len, AllByRecursion}
+use Rattle.std.specs.Ordering.{eq_by_cmp}
+use Rattle.std.proofs.lemmas.Bool.{and_parts, and_from}
+use Rattle.std.proofs.lemmas.Bool.Decides.{nat_tests}
+use Rattle.std.proofs.lemmas.List.Elements.{All-nil, All-cons, All-head, All-tail, All-append, All-filter, recursion_from_All, All-from_recursion, All-map, All-weaker}
+use Rattle.std.proofs.lemmas.List.Kept.{AllPairs-filter}
 use Rattle.std.specs.FinMap.Entries.{find, is_sorted}
-use Rattle.std.proofs.lemmas.List.Elements.{All-from_recursion, All-nil, All-cons, All-head, All-tail, All-append, All-map, All-filter, All-weaker}
+use Rattle.ft_query.specs.Tokens.{PlainToken, tokens_of}
+use Rattle.ft_query.specs.Documents.{Posting, posting, IsBefore, postings_of}
+use Rattle.ft_query.proofs.TokenLaw.{computed_tokens}
+use Rattle.ft_query.proofs.TokenOnce.{pairs_head, pairs_tail}
+use Rattle.ft_query.proofs.Bridge.{from_column, postings_rise}
+use Rattle.ft_values.specs.Cells.{Cell, Null, Int, Text}
 use Rattle.ft_values.specs.declared.rows.RowChange.{RowChange}
 use Rattle.ft_values.specs.declared.rows.RowChange.TheVariants as row
+use Rattle.ft_rows.specs.Packed as packing
 use Rattle.ft_rows.specs.Changes.{shown_change, CanApply}
 use Rattle.ft_rows.specs.Packed.{CanPack}
-use Rattle.ft_values.specs.Cells.{Cell}
 use Rattle.ft_rows.specs.Store.{column_key_cmp, PutCell, DropCells, PutEntries, DropEntries, PutSize, DropSize}
-use Rattle.ft_content.specs.Content.{Column, Documents, is_cell, is_document}
-use Rattle.ft_content.specs.Index.{Key, key_cmp, StoredSpot}
-use Rattle.ft_content.proofs.IndexLemmas.{key_cmp_total, key_cmp_exact}
+use Rattle.ft_content.specs.Content.{Column, cell_text, is_cell, has_nul, Documents, is_document}
+use Rattle.ft_content.specs.Index.{Spot, Entry, entry_at, Key, key_cmp, key_of, StoredSpot, stored_spot, indexed_text, cell_tokens, document_tokens, document_postings, document_entries}
+use Rattle.ft_content.specs.Laws.{spots_of_key, some_if_any}
+use Rattle.ft_content.proofs.IndexLemmas.{lists_are_entries, key_cmp_total, key_cmp_exact}
+use Rattle.ft_content.proofs.MeaningLemmas.{document_texts, tokens_are}
+use Rattle.ft_documents.specs.RewriteRows.{IsShortNumber, AreShortNumbers, same_cell, same_spots, gone, changed, numbered_cells, goes, dropped_documents, put_cells, put_documents, dropped_lists, put_lists, dropped_sizes, put_sizes, index_lists_of, sizes_of, list_changes, rewrite_changes}
 use Rattle.ft_documents.specs.Rewrite.{Rewrite, befores, afters, document_if, under_docids, FitIfAny, IsPackable}
-use Rattle.ft_documents.specs.RewriteRows.{same_cell, same_spots, gone, changed, numbered_cells, goes, dropped_documents, put_cells, put_documents, dropped_lists, put_lists, dropped_sizes, put_sizes, index_lists_of, sizes_of, list_changes, rewrite_changes, AreShortNumbers}
 use Rattle.ft_documents.specs.MadeIndex.{HaveShortNumbers}
-use Rattle.ft_documents.proofs.NearLemmas.{all_changes, All-flat_map}
+use Rattle.ft_documents.proofs.RowKinds.{one_list, lists_are}
+use Rattle.ft_documents.proofs.NewLemmas.{all_changes, All-flat_map}
 use Rattle.ft_documents.proofs.KeyedRows.{each_found}
 use Rattle.ft_documents.proofs.RewriteLemmas.{sorted_held}
-use Rattle.ft_documents.proofs.RowKinds.{lists_are}
-use Rattle.ft_documents.proofs.PackLemmas.{list_packed, AreShortTexts, short_texts}
+
+-- ---- the lists of documents can be packed
+
+-- ---- tokens stand within their text
+
+abbrev IsLow : PlainToken → Type 0
+IsLow t = t.pos ≤ t.start
+
+later_starts : (n : ℕ) (t : PlainToken) (ts : List PlainToken) → n ≤ t.start → AllByRecursion (λ u. t.start + t.size < u.start) ts → AllByRecursion (λ (u : PlainToken). n + 1 ≤ u.start) ts
+later_starts n t [] low apart = tt
+later_starts n t (u ∷ us) low apart = let behind = apart.0 in (omega arith, later_starts n t us low apart.1)
+
+all_low : (n : ℕ) (ts : List PlainToken) → map (λ (t : PlainToken). t.pos) ts ≡ range_with_len n (length ts) → AllPairs (λ a b. a.start + a.size < b.start) ts → AllByRecursion (λ (t : PlainToken). n ≤ t.start) ts → AllByRecursion IsLow ts
+all_low n [] numbered apart low = tt
+all_low n (t ∷ ts) numbered apart low =
+    let first : t.pos ≡ n = cc in
+    let rest : map (λ (u : PlainToken). u.pos) ts ≡ range_with_len (n + 1) (length ts) = cc in
+    let here = low.0 in (
+      omega (arith, first, here),
+      all_low (n + 1) ts rest (pairs_tail (λ a b. a.start + a.size < b.start) t ts apart)
+          (later_starts n t ts here (recursion_from_All (λ u. t.start + t.size < u.start) ts (pairs_head (λ a b. a.start + a.size < b.start) t ts apart))),
+    )
+
+from_zero : (ts : List PlainToken) → AllByRecursion (λ (t : PlainToken). 0 ≤ t.start) ts
+from_zero [] = tt
+from_zero (t ∷ ts) = (omega arith, from_zero ts)
+
+abbrev IsSmall : PlainToken → Type 0
+IsSmall t = (t.pos < 1000000) × (t.start < 1000000) × (0 < t.size) × (t.size ≤ 1000000)
+
+small : (most : ℕ) (ts : List PlainToken) → most ≤ 1000000 → AllByRecursion IsLow ts → All (λ t. 0 < t.size) ts → All (λ t. t.start + t.size ≤ most) ts → AllByRecursion IsSmall ts
+small most [] few low filled within = tt
+small most (t ∷ ts) few low filled within =
+    let a = low.0 in
+    let b = All-head (λ (t : PlainToken). 0 < t.size) t ts filled in
+    let c = All-head (λ (t : PlainToken). t.start + t.size ≤ most) t ts within in
+    ((omega (arith, a, b, c, few), omega (arith, b, c, few), b, omega (arith, c, few)), small most ts few low.1 (All-tail (λ (t : PlainToken). 0 < t.size) t ts filled) (All-tail (λ (t : PlainToken). t.start + t.size ≤ most) t ts within))
+
+small_tokens : (text : List ℕ) → length text ≤ 1000000 → AllByRecursion IsSmall (tokens_of text)
+small_tokens text few = let are = computed_tokens text in small (length text) (tokens_of text) few (all_low 0 (tokens_of text) are.positions are.apart (from_zero (tokens_of text))) are.filled are.within
+
+-- ---- postings of a document
+
+abbrev IsPlace : Posting → Type 0
+IsPlace p = (p.place.column ≤ 99) × (p.place.pos < 1000000) × (p.place.start < 1000000) × (0 < p.place.size) × (p.place.size ≤ 1000000)
+
+column_places : (c : ℕ) (ts : List PlainToken) → c ≤ 99 → AllByRecursion IsSmall ts → All IsPlace (map (posting c) ts)
+column_places c [] few are = All-nil IsPlace
+column_places c (t ∷ ts) few are = All-cons IsPlace (posting c t) (map (posting c) ts) (few, are.0.0, are.0.1, are.0.2, are.0.3) (column_places c ts few are.1)
+
+-- indexed texts of at most 1,000,000 bytes, as documents have
+abbrev pub AreShortTexts : List Column → List Cell → Type 0
+AreShortTexts [] cells = Unit {0}
+AreShortTexts (column ∷ columns) [] = Unit {0}
+AreShortTexts (column ∷ columns) (cell ∷ cells) = (length (indexed_text column cell) ≤ 1000000) × AreShortTexts columns cells
+
+cell_short : (cell : Cell) → is_cell cell ≡ true → IsShortNumber cell → length (cell_text cell) ≤ 1000000
+cell_short Null is number = omega arith
+cell_short (Int n) is number = omega (arith, number)
+cell_short (Text t) is number = let short = (and_parts (not (nat_lt 1000000 (length t))) (not (has_nul (Text t))) is).0 in not_less (length t) short
+  where
+    not_less : (n : ℕ) → not (nat_lt 1000000 n) ≡ true → n ≤ 1000000
+    not_less n h = grind (arith, nat_tests)
+
+text_short : (column : Column) (cell : Cell) → is_cell cell ≡ true → (column.indexed ≡ true → IsShortNumber cell) → length (indexed_text column cell) ≤ 1000000
+text_short column cell is number = elim column.indexed as (λ b. column.indexed ≡ b → length (cond b (cell_text cell) []) ≤ 1000000) [ true ↦ λ indexed. cell_short cell is (number indexed) | false ↦ λ _. omega arith ] refl
+
+pub short_texts : (columns : List Column) (cells : List Cell) → list_all is_cell cells ≡ true → AreShortNumbers columns cells → AreShortTexts columns cells
+short_texts [] cells is numbers = tt
+short_texts (column ∷ columns) [] is numbers = tt
+short_texts (column ∷ columns) (cell ∷ cells) is numbers =
+    let parts = and_parts (is_cell cell) (list_all is_cell cells) is in
+    (text_short column cell parts.0 numbers.0, short_texts columns cells parts.1 numbers.1)
+
+places : (c : ℕ) (columns : List Column) (cells : List Cell) → c + length columns ≤ 100 → AreShortTexts columns cells → All IsPlace (from_column c (document_tokens columns cells))
+places c [] cells few short = All-nil IsPlace
+places c (column ∷ columns) [] few short = All-nil IsPlace
+places c (column ∷ columns) (cell ∷ cells) few short =
+    let here : c ≤ 99 = omega (arith, few) in
+    let more : (c + 1) + length columns ≤ 100 = omega (arith, few) in
+    All-append IsPlace (map (posting c) (cell_tokens column cell)) (from_column (c + 1) (document_tokens columns cells))
+    (column_places c (cell_tokens column cell) here (small_tokens (indexed_text column cell) short.0))
+    (places (c + 1) columns cells more short.1)
+
+in_order : (columns : List Column) (cells : List Cell) → AllPairs IsBefore (document_postings columns cells)
+in_order columns cells = subst (λ ts. AllPairs IsBefore (postings_of ts)) (tokens_are columns cells) (postings_rise (document_texts columns cells))
+
+-- ---- spots that can be packed
+
+abbrev place_of : Posting → packing.Spot
+place_of p = record { column = p.place.column; pos = p.place.pos; place = p.place.start; size = p.place.size }
+
+is_place : (p : Posting) → IsPlace p → packing.is_spot (place_of p) ≡ true
+is_place p is =
+    let a : nat_le p.place.column 99 ≡ true = grind (arith, nat_tests, is.0) in
+    let b : nat_lt p.place.pos 1000000 ≡ true = grind (arith, nat_tests, is.1) in
+    let c : nat_lt p.place.start 1000000 ≡ true = grind (arith, nat_tests, is.2) in
+    let d : nat_lt 0 p.place.size ≡ true = grind (arith, nat_tests, is.3) in
+    let e : nat_le p.place.size 1000000 ≡ true = grind (arith, nat_tests, is.4) in
+    λ i. a i && b i && c i && d i && e i
+
+is_behind : (p q : Posting) → IsBefore p q → packing.is_after (place_of p) (place_of q) ≡ true
+is_behind p q before = elim before [
+  | inl less ↦ let yes : nat_lt p.place.column q.place.column ≡ true = grind (arith, nat_tests, less) in ap (λ b. b || (p.place.column == q.place.column && nat_lt p.place.pos q.place.pos && nat_lt p.place.start q.place.start)) yes
+  | inr h ↦
+      let a : (p.place.column == q.place.column) ≡ true = grind (arith, nat_tests, h.0) in
+      let b : nat_lt p.place.pos q.place.pos ≡ true = grind (arith, nat_tests, h.1) in
+      let c : nat_lt p.place.start q.place.start ≡ true = grind (arith, nat_tests, h.2) in
+      (λ i. nat_lt p.place.column q.place.column || (a i && b i && c i)) ∙ either_way (nat_lt p.place.column q.place.column)
+]
+  where
+    either_way : (b : Bool) → (b || true) ≡ true
+    either_way true = refl
+    either_way false = refl
+
+places_rise : (p : Posting) (ps : List Posting) → All IsPlace ps → AllPairs IsBefore (p ∷ ps) → packing.rise_after (place_of p) (map place_of ps) ≡ true
+places_rise p [] are rise = refl
+places_rise p (q ∷ qs) are rise =
+    and_from (packing.is_spot (place_of q) && packing.is_after (place_of p) (place_of q)) (packing.rise_after (place_of q) (map place_of qs))
+    (and_from (packing.is_spot (place_of q)) (packing.is_after (place_of p) (place_of q)) (is_place q (All-head IsPlace q qs are)) (is_behind p q (All-head (IsBefore p) q qs (pairs_head IsBefore p (q ∷ qs) rise))))
+    (places_rise q qs (All-tail IsPlace q qs are) (pairs_tail IsBefore p (q ∷ qs) rise))
+
+are_places : (p : Posting) (ps : List Posting) → All IsPlace (p ∷ ps) → AllPairs IsBefore (p ∷ ps) → packing.are_spots (map place_of (p ∷ ps)) ≡ true
+are_places p ps are rise = and_from (packing.is_spot (place_of p)) (packing.rise_after (place_of p) (map place_of ps)) (is_place p (All-head IsPlace p ps are)) (places_rise p ps (All-tail IsPlace p ps are) rise)
+
+-- the spots of some postings, as the store has them
+abbrev stored_places : List Posting → List StoredSpot
+stored_places ps = map (λ (p : Posting). packing.stored_spot (place_of p)) ps
+
+plain_again : (ps : List Posting) → map packing.packed_spot (stored_places ps) ≡ map place_of ps
+plain_again [] = refl
+plain_again (p ∷ ps) = ap (λ ss. place_of p ∷ ss) (plain_again ps)
+
+stored_again : (ps : List Posting) → stored_places ps ≡ map packing.stored_spot (map place_of ps)
+stored_again [] = refl
+stored_again (p ∷ ps) = ap (λ ss. packing.stored_spot (place_of p) ∷ ss) (stored_again ps)
+
+can_pack : (p : Posting) (ps : List Posting) → All IsPlace (p ∷ ps) → AllPairs IsBefore (p ∷ ps) → packing.CanPack (stored_places (p ∷ ps))
+can_pack p ps are rise = record {
+  plain = stored_again (p ∷ ps) ∙ ap (map packing.stored_spot) (sym (plain_again (p ∷ ps)));
+  rise = ap packing.are_spots (plain_again (p ∷ ps)) ∙ are_places p ps are rise;
+}
+
+-- the spots of a key are those of the postings with its term
+spots_of : (q : Key) (docid : ℤ) (ps : List Posting) → map stored_spot (spots_of_key q (map (entry_at docid) ps)) ≡ stored_places (filter (λ (p : Posting). eq_by_cmp key_cmp q (key_of (entry_at docid p))) ps)
+spots_of q docid [] = refl
+spots_of q docid (p ∷ ps) =
+    let entries = filter (λ (e : Entry). eq_by_cmp key_cmp q (key_of e)) (map (entry_at docid) ps) in
+    let kept = filter (λ (p : Posting). eq_by_cmp key_cmp q (key_of (entry_at docid p))) ps in
+    elim (eq_by_cmp key_cmp q (key_of (entry_at docid p))) as (λ b. map stored_spot (map (λ (e : Entry). e.spot) (cond b (entry_at docid p ∷ entries) entries)) ≡ stored_places (cond b (p ∷ kept) kept)) [
+      | true ↦ ap (λ ss. packing.stored_spot (place_of p) ∷ ss) (spots_of q docid ps)
+      | false ↦ spots_of q docid ps
+    ]
+
+some_packed : (ps : List Posting) (spots : List Spot) (ss : List StoredSpot) → map stored_spot spots ≡ stored_places ps → All IsPlace ps → AllPairs IsBefore ps → option_map (map stored_spot) (some_if_any spots) ≡ Some ss → packing.CanPack ss
+some_packed ps [] ss same are rise is = absurd (let no = is in cc)
+some_packed [] (s ∷ spots) ss same are rise is = absurd (let no = same in cc)
+some_packed (p ∷ ps) (s ∷ spots) ss same are rise is = subst packing.CanPack (sym same ∙ ap (λ o. unwrap_or o []) is) (can_pack p ps are rise)
+
+-- Each list of a document can be packed.
+pub list_packed : (columns : List Column) (q : Key) (held : Option (List Cell)) (ss : List StoredSpot) → length columns ≤ 100 → IfSome held (AreShortTexts columns) → one_list columns q held ≡ Some ss → packing.CanPack ss
+list_packed columns q None ss few short is = absurd (let no = is in cc)
+list_packed columns q (Some cells) ss few short is =
+    let ps = document_postings columns cells in
+    let test : Posting → Bool = λ p. eq_by_cmp key_cmp q (key_of (entry_at q.1 p)) in
+    let none_before : 0 + length columns ≤ 100 = omega (arith, few) in
+    some_packed (filter test ps) (spots_of_key q (document_entries columns (q.1, cells))) ss (spots_of q q.1 ps)
+    (All-filter test IsPlace ps (places 0 columns cells none_before short)) (AllPairs-filter IsBefore test ps (in_order columns cells))
+    (ap (option_map (map stored_spot)) (sym (lists_are_entries (document_entries columns (q.1, cells)) q.0 q.1)) ∙ is)
+
+-- ---- the row changes of documents put lists that can be packed
 
 module _ (columns : List Column) where
   abbrev pub ShortDocument : ℤ × List Cell → Type 0

@@ -1,31 +1,243 @@
 -- The row changes of rewrites lead to the rows and the index rows of the documents as they are to
 -- be.
-use Rattle.std.proofs.Common.{◌≡◌, ℕ, true, false, cond, ◌&&◌, List, [], ◌∷◌, ◌++◌, map, length, Option, Some, None, ℤ, refl, sym, ap, subst, ◌∙◌, arith, filter, All, ◌==◌, flat_map, int_cmp, int_eq}
-use Rattle.std.specs.List.{list_all}
-use Rattle.std.specs.Cmp.{int_cmp_total}
-use Rattle.std.specs.FinMap.Entries.{find}
-use Rattle.std.proofs.lemmas.Bool.{and_parts}
-use Rattle.std.proofs.lemmas.Bool.Decides.{nat_tests}
-use Rattle.std.proofs.lemmas.List.Elements.{All-nil, All-cons, All-head, All-tail, All-from_recursion}
-use Rattle.std.proofs.lemmas.Map.Lookups.{exact_signed}
+use Rattle.std.proofs.Common.{◌≡◌, true, false, cond, not, ◌&&◌, List, [], ◌∷◌, ◌++◌, map, ℤ, refl, sym, ap, ◌∙◌, filter, unwrap_or, int_cmp, int_eq, ℕ, ◌+◌, ◌≤◌, Bool, ◌||◌, length, Option, Some, None, pos, subst, arith, is_some, All, ◌==◌, flat_map}
+use Rattle.std.specs.FinMap.Entries.{put, where_key, is_sorted, is_sorted-where_key, find, below_all, find-where_key, same_entries}
+use Rattle.std.proofs.lemmas.List.{map-append}
 use Rattle.std.proofs.lemmas.Simd.{map-map}
+use Rattle.std.specs.List.{list_any, list_all}
+use Rattle.std.specs.Cmp.{int_cmp_total}
+use Rattle.std.specs.FinMap.{int_cmp-IsAntisymmetric}
+use Rattle.std.proofs.lemmas.Bool.{and_parts}
+use Rattle.std.proofs.lemmas.List.Elements.{All-map, All-nil, All-cons, All-head, All-tail, All-from_recursion}
+use Rattle.std.proofs.lemmas.Map.Lookups.{exact_signed}
+use Rattle.std.proofs.lemmas.Slice.Eq.{bytes_eq-Decides}
+use Rattle.std.proofs.lemmas.Bool.Decides.{nat_tests}
 use Rattle.sqlite_keyed.proofs.ListLemmas.{all_from_test}
-use Rattle.ft_values.specs.Cells.{Cell}
-use Rattle.ft_rows.specs.Store.{StoreValue, AreInOrder, CellKey, ListKey, cell_key_cmp, list_key_cmp, column_key_cmp, all_applied}
-use Rattle.ft_content.specs.Content.{Column, Documents, Content, is_cell, is_document, content_rows, document_rows}
-use Rattle.ft_content.specs.Index.{Key, key_cmp, StoredSpot, index_rows}
+use Rattle.ft_values.specs.Cells.{Cell, Null, Int, Text}
+use Rattle.ft_rows.specs.Store.{StoreValue, CellKey, cell_key_cmp, list_key_cmp, column_key_cmp, without_key, Change, PutCell, DropCells, all_applied, AreInOrder, ListKey}
+use Rattle.ft_content.specs.Index.{Key, StoredSpot, key_cmp, index_rows}
+use Rattle.ft_content.specs.Content.{Documents, Column, Content, is_cell, is_document, content_rows, document_rows}
 use Rattle.ft_content.proofs.IndexLemmas.{key_cmp_total, key_cmp_exact}
+use Rattle.ft_documents.specs.Rewrite.{Rewrite, under_docids, rewritten, befores, afters, rewritten_content, FitIfAny, AreOf, HasContent, AreRight}
+use Rattle.ft_documents.specs.RewriteRows.{all_put, same_cell, changed, numbered_cells, goes, dropped_documents, put_documents, dropped_lists, put_lists, dropped_sizes, put_sizes, was_there, same_spot, same_spots, gone, sized, index_lists_of, sizes_of, list_changes, size_changes, rewrite_changes}
 use Rattle.ft_documents.specs.Tables.{table_rows, table_index}
-use Rattle.ft_documents.specs.Rewrite.{Rewrite, befores, afters, under_docids, rewritten, rewritten_content, FitIfAny, AreOf, HasContent, AreRight}
-use Rattle.ft_documents.specs.RewriteRows.{all_put, same_spot, same_spots, gone, changed, numbered_cells, goes, dropped_documents, put_documents, dropped_lists, put_lists, dropped_sizes, put_sizes, sized, index_lists_of, sizes_of, list_changes, size_changes, rewrite_changes}
-use Rattle.ft_documents.proofs.StoreKeys.{list_exact, list_total, cell_exact, cell_total, column_exact, column_total, list_keys, cell_keys}
-use Rattle.ft_documents.proofs.KeyedRows.{found_holds, gone_is, tie, all_dropped, sorted_put, sorted_dropped}
-use Rattle.ft_documents.proofs.DocumentRows.{rows_by, one_by}
-use Rattle.ft_documents.proofs.RewriteLemmas.{sorted_rewritten, rows_renewed}
-use Rattle.ft_documents.proofs.RowKinds.{cell_row, keyed_cell, content_cells, keyed_again, one_list, lists_are, size_of, sized_again, sizes_again, counts, stored_sizes, sizes_are}
+use Rattle.ft_documents.proofs.StoreKeys.{list_exact, list_total, cell_exact, cell_total, list_keys, cell_keys, column_total, column_exact}
+use Rattle.ft_documents.proofs.KeyedRows.{true_of, of_true, all_dropped, found_holds, tie, none_below, sorted_put, find_all_put, or_else, fresh, changed_found, sorted-filter, turned_round, gone_is, sorted_dropped}
+use Rattle.ft_documents.proofs.DocumentRows.{under, rows_by, one_by, sorted_by, find_by, sorted_numbered}
 use Rattle.ft_documents.proofs.OwnRows.{own, joined, own_all_put, own_all_dropped}
-use Rattle.ft_documents.proofs.AppliedLemmas.{applied_append, put_lists_applied, dropped_lists_applied, put_sizes_applied, dropped_sizes_applied, new_cells, put_documents_applied, cells_dropped, documents_dropped, dropped_documents_applied, sorted_cells_dropped, own_dropped}
-use Rattle.ft_documents.proofs.CellsRight.{wide, cells_right}
+use Rattle.ft_documents.proofs.CellSteps.{numbered_from}
+use Rattle.ft_documents.proofs.RewriteLemmas.{Cells, written, before_found, sorted_rewritten, last_rows, rows_renewed}
+use Rattle.ft_documents.proofs.RowKinds.{cells_are, cell_row, keyed_cell, content_cells, keyed_again, one_list, lists_are, size_of, sized_again, sizes_again, counts, stored_sizes, sizes_are}
+
+-- ---- what the row changes of rewrites make of a store, kind by kind
+
+pub applied_append : (xs ys : List Change) (store : StoreValue) → all_applied (xs ++ ys) store ≡ all_applied ys (all_applied xs store)
+applied_append [] ys store = refl
+applied_append (x ∷ xs) ys store = applied_append xs ys (all_applied (x ∷ []) store)
+
+pub put_lists_applied : (tab : ℤ) (es : List (Key × List StoredSpot)) (store : StoreValue) → all_applied (put_lists tab es) store ≡ record store { lists = all_put list_key_cmp (joined list_keys tab es) store.lists }
+put_lists_applied tab [] store = refl
+put_lists_applied tab (e ∷ es) store = put_lists_applied tab es (record store { lists = put list_key_cmp (tab, e.0.0, e.0.1) e.1 store.lists })
+
+pub dropped_lists_applied : (tab : ℤ) (es : List (Key × List StoredSpot)) (store : StoreValue) → all_applied (dropped_lists tab es) store ≡ record store { lists = all_dropped list_key_cmp list_total list_exact (joined list_keys tab es) store.lists }
+dropped_lists_applied tab [] store = refl
+dropped_lists_applied tab (e ∷ es) store = dropped_lists_applied tab es (record store { lists = without_key list_key_cmp (tab, e.0.0, e.0.1) store.lists })
+
+pub put_sizes_applied : (tab : ℤ) (es : List ((ℤ × ℤ) × ℤ)) (store : StoreValue) → all_applied (put_sizes tab es) store ≡ record store { sizes = all_put cell_key_cmp (joined cell_keys tab es) store.sizes }
+put_sizes_applied tab [] store = refl
+put_sizes_applied tab (e ∷ es) store = put_sizes_applied tab es (record store { sizes = put cell_key_cmp (tab, e.0.0, e.0.1) e.1 store.sizes })
+
+pub dropped_sizes_applied : (tab : ℤ) (es : List ((ℤ × ℤ) × ℤ)) (store : StoreValue) → all_applied (dropped_sizes tab es) store ≡ record store { sizes = all_dropped cell_key_cmp cell_total cell_exact (joined cell_keys tab es) store.sizes }
+dropped_sizes_applied tab [] store = refl
+dropped_sizes_applied tab (e ∷ es) store = dropped_sizes_applied tab es (record store { sizes = without_key cell_key_cmp (tab, e.0.0, e.0.1) store.sizes })
+
+-- ---- cells
+
+-- the cells of a rewrite that are new or differ
+abbrev pub new_cells : Rewrite → List (ℤ × Cell)
+new_cells r = changed int_cmp same_cell (numbered_cells (unwrap_or r.before [])) (numbered_cells (unwrap_or r.after []))
+
+abbrev put_cell : ℤ → (ℤ × ℤ) × Cell → Change
+put_cell tab e = PutCell tab e.0.0 e.0.1 e.1
+
+cells_keyed : (tab : ℤ) (rewrites : List Rewrite) → put_documents tab rewrites ≡ map (put_cell tab) (rows_by new_cells (under_docids rewrites))
+cells_keyed tab [] = refl
+cells_keyed tab (r ∷ rs) =
+    (λ i. sym (map-map (put_cell tab) (λ (c : ℤ × Cell). ((r.docid, c.0), c.1)) (new_cells r)) i ++ cells_keyed tab rs i)
+    ∙ sym (map-append (put_cell tab) (under r.docid (new_cells r)) (rows_by new_cells (under_docids rs)))
+
+cells_applied : (tab : ℤ) (es : List ((ℤ × ℤ) × Cell)) (store : StoreValue) → all_applied (map (put_cell tab) es) store ≡ record store { cells = all_put cell_key_cmp (joined cell_keys tab es) store.cells }
+cells_applied tab [] store = refl
+cells_applied tab (e ∷ es) store = cells_applied tab es (record store { cells = put cell_key_cmp (tab, e.0.0, e.0.1) e.1 store.cells })
+
+pub put_documents_applied : (tab : ℤ) (rewrites : List Rewrite) (store : StoreValue) → all_applied (put_documents tab rewrites) store ≡ record store { cells = all_put cell_key_cmp (joined cell_keys tab (rows_by new_cells (under_docids rewrites))) store.cells }
+put_documents_applied tab rewrites store = ap (λ cs. all_applied cs store) (cells_keyed tab rewrites) ∙ cells_applied tab (rows_by new_cells (under_docids rewrites)) store
+
+-- documents that are dropped, from the rows of all tables and from those of one
+abbrev pub cells_dropped : ℤ → List Rewrite → List (CellKey × Cell) → List (CellKey × Cell)
+cells_dropped tab [] rows = rows
+cells_dropped tab (r ∷ rs) rows = cells_dropped tab rs (where_key cell_key_cmp (λ k. not (int_eq tab k.0 && int_eq r.docid k.1)) rows)
+
+abbrev pub documents_dropped : List Rewrite → List ((ℤ × ℤ) × Cell) → List ((ℤ × ℤ) × Cell)
+documents_dropped [] rows = rows
+documents_dropped (r ∷ rs) rows = documents_dropped rs (where_key column_key_cmp (λ k. not (int_eq r.docid k.0)) rows)
+
+pub dropped_documents_applied : (tab : ℤ) (rewrites : List Rewrite) (store : StoreValue) → all_applied (dropped_documents tab rewrites) store ≡ record store { cells = cells_dropped tab (filter goes rewrites) store.cells }
+dropped_documents_applied tab rewrites store = all (filter goes rewrites) store
+  where
+    all : (rs : List Rewrite) (store : StoreValue) → all_applied (map (λ (r : Rewrite). DropCells tab r.docid) rs) store ≡ record store { cells = cells_dropped tab rs store.cells }
+    all [] store = refl
+    all (r ∷ rs) store = all rs (record store { cells = where_key cell_key_cmp (λ k. not (int_eq tab k.0 && int_eq r.docid k.1)) store.cells })
+
+pub sorted_cells_dropped : (tab : ℤ) (rs : List Rewrite) (rows : List (CellKey × Cell)) → is_sorted cell_key_cmp rows ≡ true → is_sorted cell_key_cmp (cells_dropped tab rs rows) ≡ true
+sorted_cells_dropped tab [] rows h = h
+sorted_cells_dropped tab (r ∷ rs) rows h = sorted_cells_dropped tab rs (where_key cell_key_cmp (λ k. not (int_eq tab k.0 && int_eq r.docid k.1)) rows) (true_of _ (is_sorted-where_key cell_key_cmp (λ k. not (int_eq tab k.0 && int_eq r.docid k.1)) rows (of_true _ h)))
+
+one_dropped : (tab docid : ℤ) (rows : List (CellKey × Cell)) → own cell_keys tab (where_key cell_key_cmp (λ k. not (int_eq tab k.0 && int_eq docid k.1)) rows) ≡ where_key column_key_cmp (λ k. not (int_eq docid k.0)) (own cell_keys tab rows)
+one_dropped tab docid [] = refl
+one_dropped tab docid (e ∷ es) =
+    let left = where_key cell_key_cmp (λ (k : CellKey). not (int_eq tab k.0 && int_eq docid k.1)) es in
+    let bare : CellKey × Cell → (ℤ × ℤ) × Cell = λ e. ((e.0.1, e.0.2), e.1) in
+    let mine : List (CellKey × Cell) → List (CellKey × Cell) = filter (λ (e : CellKey × Cell). int_eq tab e.0.0) in
+    let kept = where_key column_key_cmp (λ (k : ℤ × ℤ). not (int_eq docid k.0)) (own cell_keys tab es) in
+    elim (int_eq tab e.0.0) as (λ b. int_eq tab e.0.0 ≡ b → own cell_keys tab (cond (not (b && int_eq docid e.0.1)) (e ∷ left) left) ≡ where_key column_key_cmp (λ k. not (int_eq docid k.0)) (map bare (cond b (e ∷ mine es) (mine es)))) [
+      | true ↦ λ same. elim (int_eq docid e.0.1) as (λ d. own cell_keys tab (cond (not d) (e ∷ left) left) ≡ cond (not d) (bare e ∷ kept) kept) [
+        | true ↦ one_dropped tab docid es
+        | false ↦ ap (λ b. map bare (cond b (e ∷ mine left) (mine left))) same ∙ ap (λ rows. bare e ∷ rows) (one_dropped tab docid es)
+      ]
+      | false ↦ λ apart. ap (λ b. map bare (cond b (e ∷ mine left) (mine left))) apart ∙ one_dropped tab docid es
+    ] refl
+
+pub own_dropped : (tab : ℤ) (rs : List Rewrite) (rows : List (CellKey × Cell)) → own cell_keys tab (cells_dropped tab rs rows) ≡ documents_dropped rs (own cell_keys tab rows)
+own_dropped tab [] rows = refl
+own_dropped tab (r ∷ rs) rows = own_dropped tab rs (where_key cell_key_cmp (λ k. not (int_eq tab k.0 && int_eq r.docid k.1)) rows) ∙ ap (documents_dropped rs) (one_dropped tab r.docid rows)
+
+-- ---- the cells after rewrites
+
+-- ---- documents that go
+
+either : {V : Type 0} (a b : Bool) (o : Option V) → cond a None (cond (not b) o None) ≡ cond (b || a) None o
+either true true o = refl
+either true false o = refl
+either false true o = refl
+either false false o = refl
+
+find_dropped : (q : ℤ × ℤ) (rs : List Rewrite) (rows : List ((ℤ × ℤ) × Cell)) → find column_key_cmp q (documents_dropped rs rows) ≡ cond (list_any (λ (r : Rewrite). int_eq q.0 r.docid) rs) None (find column_key_cmp q rows)
+find_dropped q [] rows = refl
+find_dropped q (r ∷ rs) rows =
+    let p = λ (k : ℤ × ℤ). not (int_eq r.docid k.0) in
+    let any = list_any (λ (r : Rewrite). int_eq q.0 r.docid) rs in
+    find_dropped q rs (where_key column_key_cmp p rows)
+    ∙ ap (cond any None) (find-where_key column_key_cmp p q (λ x t. ap p (sym (column_exact q x t))) rows ∙ ap (λ b. cond (not b) (find column_key_cmp q rows) None) (turned_round r.docid q.0))
+    ∙ either any (int_eq q.0 r.docid) (find column_key_cmp q rows)
+
+sorted_left : (rs : List Rewrite) (rows : List ((ℤ × ℤ) × Cell)) → is_sorted column_key_cmp rows ≡ true → is_sorted column_key_cmp (documents_dropped rs rows) ≡ true
+sorted_left [] rows h = h
+sorted_left (r ∷ rs) rows h = sorted_left rs (where_key column_key_cmp (λ k. not (int_eq r.docid k.0)) rows) (true_of _ (is_sorted-where_key column_key_cmp (λ k. not (int_eq r.docid k.0)) rows (of_true _ h)))
+
+abbrev goes_at : Option Rewrite → Bool
+goes_at None = false
+goes_at (Some r) = goes r
+
+goes_found : (docid : ℤ) (rs : List Rewrite) → is_sorted int_cmp (under_docids rs) ≡ true → list_any (λ (r : Rewrite). int_eq docid r.docid) (filter goes rs) ≡ goes_at (find int_cmp docid (under_docids rs))
+goes_found docid [] h = refl
+goes_found docid (r ∷ rs) h =
+    let parts = and_parts (below_all int_cmp r.docid (under_docids rs)) (is_sorted int_cmp (under_docids rs)) h in
+    let rest = goes_found docid rs parts.1 in
+    let any = list_any (λ (r : Rewrite). int_eq docid r.docid) in
+    elim (int_eq docid r.docid) as (λ b. int_eq docid r.docid ≡ b → any (cond (goes r) (r ∷ filter goes rs) (filter goes rs)) ≡ goes_at (cond b (Some r) (find int_cmp docid (under_docids rs)))) [
+      | true ↦ λ same. elim (goes r) as (λ g. any (cond g (r ∷ filter goes rs) (filter goes rs)) ≡ g) [
+        | true ↦ ap (λ b. b || any (filter goes rs)) same
+        | false ↦ rest ∙ ap goes_at (none_below int_cmp int_cmp_total int_cmp-IsAntisymmetric docid r.docid (under_docids rs) same parts.0)
+      ]
+      | false ↦ λ apart. elim (goes r) as (λ g. any (cond g (r ∷ filter goes rs) (filter goes rs)) ≡ goes_at (find int_cmp docid (under_docids rs))) [
+        | true ↦ ap (λ b. b || any (filter goes rs)) apart ∙ rest
+        | false ↦ rest
+      ]
+    ] refl
+
+-- ---- cells that are new or differ
+
+pub cell_sound : (a b : Cell) → same_cell a b ≡ true → a ≡ b
+cell_sound Null Null h = refl
+cell_sound Null (Int n) h = absurd (let no = h in cc)
+cell_sound Null (Text t) h = absurd (let no = h in cc)
+cell_sound (Int m) Null h = absurd (let no = h in cc)
+cell_sound (Int m) (Int n) h = ap Int (exact_signed m n (tie _ h))
+cell_sound (Int m) (Text t) h = absurd (let no = h in cc)
+cell_sound (Text s) Null h = absurd (let no = h in cc)
+cell_sound (Text s) (Int n) h = absurd (let no = h in cc)
+cell_sound (Text s) (Text t) h = ap Text ((bytes_eq-Decides s t).0 h)
+
+abbrev either_cell : Option Cell → Option Cell → Option Cell
+either_cell = or_else int_cmp int_cmp_total int_cmp-IsAntisymmetric
+
+cell_case : (old new : Option Cell) → (new ≡ None → old ≡ None) → either_cell (fresh int_cmp int_cmp_total int_cmp-IsAntisymmetric same_cell old new) old ≡ new
+cell_case old None short = short refl
+cell_case None (Some v) short = refl
+cell_case (Some w) (Some v) short =
+    elim (same_cell w v) as (λ b. same_cell w v ≡ b → either_cell (cond (not b) (Some v) None) (Some w) ≡ Some v) [
+      | true ↦ λ same. ap Some (cell_sound w v same)
+      | false ↦ λ _. refl
+    ] refl
+
+-- where a longer list has no element a shorter one has none
+none_shorter : (z : ℤ) (k : ℕ) (before after : List Cell) → length before ≤ length after → find int_cmp z (numbered_from k after) ≡ None → find int_cmp z (numbered_from k before) ≡ None
+none_shorter z k [] after short = λ none. refl
+none_shorter z k (x ∷ xs) [] short = absurd (omega arith)
+none_shorter z k (x ∷ xs) (y ∷ ys) short =
+    let less : length xs ≤ length ys = omega arith in
+    elim (int_eq z (pos k)) as (λ b. cond b (Some y) (find int_cmp z (numbered_from (k + 1) ys)) ≡ None → cond b (Some x) (find int_cmp z (numbered_from (k + 1) xs)) ≡ None) [
+      | true ↦ λ none. absurd (let no = none in cc)
+      | false ↦ λ none. none_shorter z (k + 1) xs ys less none
+    ]
+
+-- a document that is there and stays keeps its columns
+abbrev pub wide : Cells → Cells → Type 0
+wide None after = Unit {0}
+wide (Some before) None = Unit {0}
+wide (Some before) (Some after) = length before ≤ length after
+
+abbrev new_of : Cells → Cells → List (ℤ × Cell)
+new_of before after = changed int_cmp same_cell (numbered_cells (unwrap_or before [])) (numbered_cells (unwrap_or after []))
+
+written_cells : (q : ℤ × ℤ) (before after : Cells) → wide before after →
+    either_cell (find int_cmp q.1 (new_of before after)) (cond (is_some before && not (is_some after)) None (one_by numbered_cells q before)) ≡ one_by numbered_cells q after
+written_cells q None None w = refl
+written_cells q None (Some a) w =
+    ap (λ o. either_cell o None) (changed_found int_cmp int_cmp_total int_cmp-IsAntisymmetric same_cell q.1 [] (numbered_cells a) (sorted_numbered 0 a)) ∙ cell_case None (find int_cmp q.1 (numbered_cells a)) (λ _. refl)
+written_cells q (Some b) None w = refl
+written_cells q (Some b) (Some a) w =
+    ap (λ o. either_cell o (find int_cmp q.1 (numbered_cells b))) (changed_found int_cmp int_cmp_total int_cmp-IsAntisymmetric same_cell q.1 (numbered_cells b) (numbered_cells a) (sorted_numbered 0 a))
+    ∙ cell_case (find int_cmp q.1 (numbered_cells b)) (find int_cmp q.1 (numbered_cells a)) (none_shorter q.1 0 b a w)
+
+-- what holds of all rewrites holds of the one that is found
+pub found_passes : (P : Rewrite → Type 0) (docid : ℤ) (rewrites : List Rewrite) (r : Rewrite) → All P rewrites → find int_cmp docid (under_docids rewrites) ≡ Some r → P r
+found_passes P docid rewrites r h = found_holds int_cmp int_cmp_total int_cmp-IsAntisymmetric (λ (e : ℤ × Rewrite). P e.1) docid r (under_docids rewrites) (All-map (λ (e : ℤ × Rewrite). P e.1) (λ (r : Rewrite). (r.docid, r)) rewrites h)
+
+pub cells_right : (documents : Documents) (rewrites : List Rewrite) → is_sorted int_cmp documents ≡ true → is_sorted int_cmp (under_docids rewrites) ≡ true → All (λ (r : Rewrite). r.before ≡ find int_cmp r.docid documents) rewrites → All (λ (r : Rewrite). wide r.before r.after) rewrites →
+    all_put column_key_cmp (rows_by new_cells (under_docids rewrites)) (documents_dropped (filter goes rewrites) (rows_by numbered_cells documents)) ≡ rows_by numbered_cells (rewritten rewrites documents)
+cells_right documents rewrites ordered rising known fits =
+    let puts = rows_by new_cells (under_docids rewrites) in
+    let rows = rows_by numbered_cells documents in
+    let left = documents_dropped (filter goes rewrites) rows in
+    let each : (r : Rewrite) → is_sorted int_cmp (new_cells r) ≡ true = λ r. sorted-filter int_cmp int_cmp_total int_cmp-IsAntisymmetric (λ (c : ℤ × Cell). not (was_there same_cell (find int_cmp c.0 (numbered_cells (unwrap_or r.before []))) c.1)) (numbered_cells (unwrap_or r.after [])) (sorted_numbered 0 (unwrap_or r.after [])) in
+    let in_order = cells_are.sorted documents ordered in
+    let of_rewrite : ℤ × ℤ → Option Rewrite = λ q. find int_cmp q.0 (under_docids rewrites) in
+    let either_row = or_else column_key_cmp column_total column_exact in
+    same_entries column_key_cmp column_total column_exact (all_put column_key_cmp puts left) (rows_by numbered_cells (rewritten rewrites documents))
+    (of_true _ (sorted_put column_key_cmp column_total column_exact puts left (sorted_left (filter goes rewrites) rows in_order)))
+    (of_true _ (cells_are.sorted (rewritten rewrites documents) (sorted_rewritten rewrites documents ordered)))
+    (λ q. find_all_put column_key_cmp column_total column_exact q puts left (sorted_by new_cells (under_docids rewrites) rising each)
+    ∙ (λ i. either_row (find_by new_cells q (under_docids rewrites) rising i) ((find_dropped q (filter goes rewrites) rows ∙ (λ j. cond (goes_found q.0 rewrites rising j) None (cells_are.found q documents ordered j))) i))
+    ∙ elim (of_rewrite q) as (λ x. of_rewrite q ≡ x → either_row (one_by new_cells q x) (cond (goes_at x) None (one_by numbered_cells q (find int_cmp q.0 documents))) ≡ one_by numbered_cells q (written x (find int_cmp q.0 documents))) [
+      | None ↦ λ _. refl
+      | Some r ↦ λ is. ap (λ held. either_row (find int_cmp q.1 (new_cells r)) (cond (goes r) None (one_by numbered_cells q held))) (sym (before_found q.0 documents rewrites r known is))
+          ∙ written_cells q r.before r.after (found_passes (λ (r : Rewrite). wide r.before r.after) q.0 rewrites r fits is)
+    ] refl
+    ∙ sym (last_rows column_key_cmp column_total column_exact (λ k. k.0) (rows_by numbered_cells) (one_by numbered_cells) cells_are documents rewrites ordered rising known q))
+
+-- ---- the row changes of rewrites lead to the rows and the index rows of the documents as they are to be
 
 -- ---- the store after all changes
 

@@ -109,7 +109,7 @@ fn places_of(alloc: Global, rows: &[ListRow]) -> Result<Vec<Placed>, AllocError>
     Ok(places)
 }
 
-#[tactic(auto, using(crate::proofs::PlacedLemmas::same_places))]
+#[tactic(auto, using(crate::proofs::AskedLemmas::same_places))]
 // Puts places in order.
 fn put_in_order(places: &mut Vec<Placed>) -> Result<(), AllocError>
     ensures { IsPermutation places.old.items places.new.items

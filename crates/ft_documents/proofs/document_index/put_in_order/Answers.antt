@@ -8,7 +8,7 @@ use Rattle.ft_rows.specs.declared.terms.Posting.{Posting}
 use Rattle.ft_rows.specs.Terms.{spot_of}
 use Rattle.ft_documents.specs.Placed.{rise}
 use Rattle.ft_documents.specs.Terms.{by_docids}
-use Rattle.ft_documents.proofs.RisingRows.{neighbours_tell}
+use Rattle.ft_documents.proofs.AskedLemmas.{neighbours_tell}
 use Rattle.ft_documents.proofs.document_index.put_in_order.Goals as goal
 
 abbrev before : Posting → Posting → Bool

@@ -4,8 +4,7 @@ use Rattle.std.proofs.lemmas.List.{map-append}
 use Rattle.std.proofs.lemmas.List.Elements.{All-nil, All-cons, All-append}
 use Rattle.ft_rows.specs.declared.terms.TermLists.{TermLists}
 use Rattle.ft_documents.specs.Terms.{Group}
-use Rattle.ft_documents.proofs.GroupLemmas.{Has, has_in}
-use Rattle.ft_documents.proofs.TermOrder.{term_has, HasRisen, rising_from_sort, sorted_terms}
+use Rattle.ft_documents.proofs.TermOrder.{Has, has_in, term_has, HasRisen, rising_from_sort, sorted_terms}
 use Rattle.ft_documents.proofs.document_index.term_lists.Goals as goal
 
 pub loop-term-init : goal.loop-term-init

@@ -5,7 +5,7 @@ use Rattle.std.proofs.lemmas.Iterator.{YieldsList-from_slice}
 use Rattle.std.proofs.lemmas.Iterator.Search.{all_from_yields_List}
 use Rattle.std.proofs.lemmas.List.Sorted.{answers_always}
 use Rattle.ft_documents.specs.Placed.{is_in_order, docids_rise}
-use Rattle.ft_documents.proofs.RisingRows.{neighbours_tell}
+use Rattle.ft_documents.proofs.AskedLemmas.{neighbours_tell}
 use Rattle.ft_documents.proofs.lists.are_in_order.Goals as goal
 
 pub returns-then-is_sorted_by : goal.returns-then-is_sorted_by

@@ -2,7 +2,7 @@
 use Rattle.std.proofs.Common.{sym, subst, ap, ◌∙◌}
 use Rattle.std.proofs.lemmas.Result.{IfOk-weaker}
 use Rattle.ft_documents.specs.Placed.{are_in_order, AreListsOf}
-use Rattle.ft_documents.proofs.RisingRows.{rows_in_order}
+use Rattle.ft_documents.proofs.AskedLemmas.{rows_in_order}
 use Rattle.ft_documents.proofs.lists.doc_lists.Goals as goal
 
 pub returns-then-are_in_order : goal.returns-then-are_in_order

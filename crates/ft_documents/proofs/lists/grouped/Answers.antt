@@ -10,7 +10,7 @@ use Rattle.std.proofs.lemmas.Result.{IfOk-at_ok}
 use Rattle.ft_query.specs.Documents.{plain_list}
 use Rattle.ft_documents.specs.declared.lists.Placed.{Placed}
 use Rattle.ft_documents.specs.Placed.{place_in, list_with}
-use Rattle.ft_documents.proofs.PlacedLemmas.{next_lists, last_lists, run_with}
+use Rattle.ft_documents.proofs.AskedLemmas.{next_lists, last_lists, run_with}
 use Rattle.ft_documents.proofs.lists.grouped.Goals as goal
 
 pub split_at-requires : goal.split_at-requires

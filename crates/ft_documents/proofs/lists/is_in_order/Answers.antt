@@ -3,7 +3,7 @@ use Rattle.std.proofs.Common.{◌≡◌, ◌&&◌, true, sym, ap, ◌∙◌, rul
 use Rattle.std.proofs.lemmas.List.Sorted.{answers_always}
 use Rattle.ft_query.specs.Documents.{is_filled}
 use Rattle.ft_documents.specs.Placed.{place_of, is_before, places_rise}
-use Rattle.ft_documents.proofs.RisingRows.{neighbours_tell}
+use Rattle.ft_documents.proofs.AskedLemmas.{neighbours_tell}
 use Rattle.ft_documents.proofs.lists.is_in_order.Goals as goal
 
 pub returns-then-not-is_empty : goal.returns-then-not-is_empty

@@ -14,11 +14,10 @@ use Rattle.ft_documents.specs.Rewrite.{Rewrite, shown_rewrite, befores, afters, 
 use Rattle.ft_documents.specs.Terms.{Group, group_spots, lists_in_groups, kept_list}
 use Rattle.ft_documents.specs.RewriteRows.{index_lists_of, rewrite_changes, goes, dropped_documents, put_documents, dropped_lists, put_lists, dropped_sizes, put_sizes, gone, changed, same_spots}
 use Rattle.ft_documents.proofs.Steps.{kept_more, all_taken, taken_more, change_more, six_pieces}
-use Rattle.ft_documents.proofs.SpotLists.{sorted_joined}
-use Rattle.ft_documents.proofs.MadeIndexes.{more_joined, all_joined}
-use Rattle.ft_documents.proofs.NearLemmas.{near}
+use Rattle.ft_documents.proofs.TermOrder.{sorted_joined}
+use Rattle.ft_documents.proofs.IndexOf.{more_joined, all_joined}
+use Rattle.ft_documents.proofs.NewLemmas.{near, are_new}
 use Rattle.ft_documents.proofs.RightLemmas.{are_right}
-use Rattle.ft_documents.proofs.NewLemmas.{are_new}
 use Rattle.ft_documents.proofs.PackedChanges.{are_packable}
 use Rattle.ft_documents.proofs.rewrite.row_changes.Goals as goal
 use Rattle.ft_documents.proofs.rewrite.row_changes.Goals.{then-is_some+then-is_none+in_ok-push, else-is_some, else-is_some-via-then-is_some+else-is_none, else-is_some-via-else-is_some}

@@ -3,7 +3,7 @@ use Rattle.ft_rows.specs.Changes.{shown_change}
 use Rattle.ft_content.specs.Views.{column_of}
 use Rattle.ft_documents.specs.Rewrite.{shown_rewrite, befores, afters}
 use Rattle.ft_documents.specs.RewriteRows.{dropped_documents}
-use Rattle.ft_documents.proofs.MadeIndexes.{ToJoin}
+use Rattle.ft_documents.proofs.IndexOf.{ToJoin}
 use Rattle.ft_documents.proofs.rewrite.row_changes.Given as goal
 
 -- the documents so far are in the indexes, and the others join them; so do the changes of those

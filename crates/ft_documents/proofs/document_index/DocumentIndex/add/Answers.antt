@@ -11,7 +11,7 @@ use Rattle.ft_documents.specs.Rewrite.{document_if}
 use Rattle.ft_documents.specs.MadeIndex.{AddsDocuments, lists_in, sizes_in}
 use Rattle.ft_documents.specs.RewriteRows.{with_entries, cell_entries, cell_sizes, sized, all_put, IsShortNumber, AreShortNumbers}
 use Rattle.ft_documents.proofs.Steps.{mapped_more}
-use Rattle.ft_documents.proofs.DocumentSteps.{entries_from, sizes_from, lists_more, sizes_more, none_left, no_numbers}
+use Rattle.ft_documents.proofs.IndexOf.{entries_from, sizes_from, lists_more, sizes_more, none_left, no_numbers}
 use Rattle.ft_documents.proofs.document_index.DocumentIndex.add.Goals as goal
 use Rattle.ft_documents.proofs.document_index.DocumentIndex.add.Goals.{then-columns-place+in_ok-add_cell, else-columns-place}
 

@@ -5,7 +5,7 @@ use Rattle.ft_content.specs.Index.{document_tokens}
 use Rattle.ft_content.specs.Views.{column_of}
 use Rattle.ft_documents.specs.MadeIndex.{lists_in, sizes_in}
 use Rattle.ft_documents.specs.RewriteRows.{with_entries, all_put, lists_joined_by, sizes_with, AreShortNumbers}
-use Rattle.ft_documents.proofs.DocumentSteps.{entries_from, sizes_from}
+use Rattle.ft_documents.proofs.IndexOf.{entries_from, sizes_from}
 use Rattle.ft_documents.proofs.document_index.DocumentIndex.add.Given as goal
 
 -- the columns so far are in the index, and the others join them

@@ -4,7 +4,7 @@ use Rattle.ft_documents.specs.MadeIndex.{lists_in, AreSmall}
 use Rattle.ft_documents.specs.RewriteRows.{with_entries, cell_entries}
 use Rattle.std.specs.FinMap.Entries.{put}
 use Rattle.ft_rows.specs.Store.{column_key_cmp}
-use Rattle.ft_documents.proofs.TokenSteps.{small_tokens, few_tokens, insert_put, size_some}
+use Rattle.ft_documents.proofs.IndexOf.{small_tokens, few_tokens, insert_put, size_some}
 use Rattle.ft_documents.proofs.document_index.DocumentIndex.add_cell.Goals as goal
 
 pub loop-token-init : goal.loop-token-init

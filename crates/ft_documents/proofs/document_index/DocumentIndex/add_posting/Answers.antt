@@ -1,6 +1,6 @@
 use Rattle.std.proofs.Common.{◌++◌, ◌∷◌, [], refl, ap, subst, ◌∙◌, cond, Some, String, rules, IsSome, Global, string_eq}
 use Rattle.std.specs.Map.{lookup}
-use Rattle.ft_documents.proofs.GroupLemmas.{held, posting_joins}
+use Rattle.ft_documents.proofs.TermOrder.{held, posting_joins}
 use Rattle.ft_documents.proofs.document_index.DocumentIndex.add_posting.Goals as goal
 
 pub returns-in-Some : goal.returns-in-Some
