@@ -1,9 +1,9 @@
 -- The rows of a table that is made.
-use Rattle.std.proofs.Common.{◌≡◌, append-nil, ℕ, ◌+◌, ◌<◌, Bool, true, false, cond, not, List, [], ◌∷◌, ◌++◌, map, length, Some, None, ℤ, pos, refl, sym, ap, ◌∙◌, arith, filter, IsTrue, Ordering, Less, Equal, Greater, int_cmp, int_eq, is_lt, is_eq}
+use Rattle.std.proofs.Common.{◌≡◌, append-nil, ℕ, ◌+◌, Bool, true, false, cond, not, List, [], ◌∷◌, ◌++◌, map, length, Some, None, ℤ, pos, refl, sym, ap, ◌∙◌, arith, filter, IsTrue, Ordering, Equal, int_cmp, int_eq}
 use Rattle.std.specs.List.{AllByRecursion, enumerate_from}
-use Rattle.std.specs.Ordering.{eq_by_cmp, ordering_reverse, ordering_then}
-use Rattle.std.specs.Cmp.{IsTotalOrder, int_cmp_is, int_cmp_total, tied_itself}
-use Rattle.std.specs.FinMap.Entries.{put, find, by_order, where_key, below_all, is_sorted, is_sorted-put, is_sorted-where_key, find-put, find-where_key, same_entries}
+use Rattle.std.specs.Ordering.{eq_by_cmp}
+use Rattle.std.specs.Cmp.{IsTotalOrder, int_cmp_total}
+use Rattle.std.specs.FinMap.Entries.{put, find, where_key, is_sorted, is_sorted-put, is_sorted-where_key, find-put, find-where_key, same_entries}
 use Rattle.std.proofs.lemmas.Map.Lookups.{CmpEqualImpliesEq}
 use Rattle.sqlite_trees.proofs.ListLemmas.{filter_none}
 use Rattle.sqlite_keyed.proofs.ListLemmas.{all_weaker}

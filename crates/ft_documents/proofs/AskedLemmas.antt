@@ -1,6 +1,6 @@
 -- The rows that are asked for a content's terms are the lists that a walk wants.
 use Rattle.std.proofs.Common.{◌≡◌, ℕ, ℤ, ◌+◌, Bool, true, false, cond, Some, None, List, [], ◌∷◌, ◌++◌, map, length, refl, sym, ap, ◌∙◌, suc, arith, take, drop, subst, append_assoc, append-nil, IsPermutation, slice_get, int_eq, ◌≤◌, ◌<◌, ◌&&◌, inl, inr, Option, filter, is_some, AllPairs, ◌<ℤ◌, flat_map, Ordering, Less, Equal, Greater, nat_cmp, is_eq, add-one, zero, get_or, pos, negsuc, is_lt, nat_lt, ◌==◌, ◌||◌, IsSorted, int_lt}
-use Rattle.std.specs.List.{prefix_len, AllByRecursion, AllAdjacentBelow, IsAllAdjacentAnswer, list_all}
+use Rattle.std.specs.List.{prefix_len, AllByRecursion, AllAdjacentBelow, IsAllAdjacentAnswer}
 use Rattle.std.proofs.lemmas.Map.Lookups.{exact_signed}
 use Rattle.std.proofs.lemmas.List.{map-append, length-map}
 use Rattle.std.proofs.lemmas.List.Sorted.{IsPermutation-refl, IsPermutation-cons, IsPermutation-trans, IsPermutation-sym, IsPermutation-middle, IsPermutation-map, length_permutation}

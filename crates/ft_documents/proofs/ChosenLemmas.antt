@@ -1,7 +1,7 @@
 -- Documents that are chosen, found by their docids.
-use Rattle.std.proofs.Common.{◌≡◌, ℕ, Bool, true, false, cond, List, [], ◌∷◌, map, Option, Some, ℤ, refl, sym, ap, ◌∙◌, filter, unwrap_or, Ordering, Less, Equal, Greater, int_cmp, int_eq, is_eq, is_lt}
+use Rattle.std.proofs.Common.{◌≡◌, ℕ, Bool, true, false, cond, List, [], ◌∷◌, map, Option, Some, ℤ, refl, sym, ap, ◌∙◌, filter, unwrap_or, int_cmp, int_eq, is_lt}
 use Rattle.std.specs.List.{AllByRecursion}
-use Rattle.std.specs.Cmp.{int_cmp_total, tied_itself, eq_by_cmp_equiv}
+use Rattle.std.specs.Cmp.{int_cmp_total, eq_by_cmp_equiv}
 use Rattle.std.specs.FinMap.Entries.{find, below_all, is_sorted}
 use Rattle.std.proofs.lemmas.Bool.{and_parts}
 use Rattle.std.proofs.lemmas.Map.Lookups.{exact_signed}

@@ -1,10 +1,10 @@
 -- The row changes of documents that are written anew group by group, one group's after the
 -- other's.
-use Rattle.std.proofs.Common.{◌≡◌, ℕ, Less, Equal, Greater, true, false, cond, ◌&&◌, not, List, [], ◌∷◌, ◌++◌, length, Option, Some, None, ℤ, refl, sym, ap, subst, ◌∙◌, All, Contains, IfSome, IsTrue, flat_map, int_cmp, int_eq, is_lt}
+use Rattle.std.proofs.Common.{◌≡◌, ℕ, true, false, cond, List, [], ◌∷◌, ◌++◌, length, Option, Some, None, ℤ, refl, sym, ap, subst, ◌∙◌, All, Contains, IfSome, IsTrue, flat_map, int_cmp, int_eq, is_lt}
 use Rattle.std.specs.List.{list_all, AllByRecursion}
 use Rattle.std.specs.Cmp.{int_cmp_total, eq_by_cmp_equiv}
 use Rattle.std.specs.FinMap.{int_cmp-IsAntisymmetric}
-use Rattle.std.specs.FinMap.Entries.{find, put, below_all, is_sorted, by_order}
+use Rattle.std.specs.FinMap.Entries.{find, below_all, is_sorted}
 use Rattle.std.proofs.lemmas.Bool.{and_parts, and_from}
 use Rattle.std.proofs.lemmas.List.{map-append}
 use Rattle.std.proofs.lemmas.List.Elements.{All-nil, All-append, All-map, recursion_from_All, All-from_recursion}

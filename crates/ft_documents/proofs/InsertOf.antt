@@ -1,9 +1,8 @@
 -- The rewrites of an Insert are rewrites of its table's content.
-use Rattle.std.proofs.Common.{◌≡◌, ℕ, zero, suc, ◌<◌, Bool, true, false, cond, List, [], ◌∷◌, length, get_or, Option, Some, None, ℤ, ap, subst, ◌∙◌, arith, All, IfSome, IsTrue, unwrap_or, int_cmp, int_eq, is_lt, is_eq}
+use Rattle.std.proofs.Common.{◌≡◌, ℕ, true, List, [], ◌∷◌, length, Option, Some, None, ℤ, ap, ◌∙◌, IfSome, IsTrue, int_cmp}
 use Rattle.std.specs.List.{AllByRecursion, list_all}
-use Rattle.std.specs.Cmp.{int_cmp_total, tied_itself, eq_by_cmp_equiv}
-use Rattle.std.specs.FinMap.Entries.{find, below_all, is_sorted}
-use Rattle.std.proofs.lemmas.Bool.{and_parts}
+use Rattle.std.specs.Cmp.{int_cmp_total}
+use Rattle.std.specs.FinMap.Entries.{find, is_sorted}
 use Rattle.std.proofs.lemmas.List.Elements.{All-from_recursion}
 use Rattle.std.proofs.lemmas.Map.Lookups.{exact_signed}
 use Rattle.sqlite_keyed.proofs.ListLemmas.{all_from_test, all_unmap}

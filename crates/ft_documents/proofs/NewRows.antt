@@ -1,6 +1,5 @@
 -- New documents beside those of a table.
 use Rattle.std.proofs.Common.{◌≡◌, ◌^◌, ◌-◌, Bool, true, false, cond, ◌||◌, List, [], ◌∷◌, map, Option, Some, None, Result, Ok, Err, ℤ, pos, refl, sym, ap, ◌∙◌, arith, inl, inr, ◌+ℤ◌, unwrap_or, is_some, IfSome, ◌⊎◌, Vec, Global, Less, Equal, Greater, int_cmp, int_eq, is_eq, is_lt}
-use Rattle.std.specs.List.{AllByRecursion}
 use Rattle.std.specs.Ordering.{eq_by_cmp}
 use Rattle.std.specs.Cmp.{int_cmp_total, int_cmp_is}
 use Rattle.std.specs.FinMap.Entries.{by_order, put, find, below_all, is_sorted, find-put, is_sorted-put, same_entries}

@@ -18,14 +18,14 @@ use Rattle.ft_values.specs.declared.rows.RowChange.TheVariants as row
 use Rattle.ft_rows.specs.Packed as packing
 use Rattle.ft_rows.specs.Changes.{shown_change, CanApply}
 use Rattle.ft_rows.specs.Packed.{CanPack}
-use Rattle.ft_rows.specs.Store.{column_key_cmp, PutCell, DropCells, PutEntries, DropEntries, PutSize, DropSize}
+use Rattle.ft_rows.specs.Store.{PutCell}
 use Rattle.ft_content.specs.Content.{Column, cell_text, is_cell, has_nul, Documents, is_document}
 use Rattle.ft_content.specs.Index.{Spot, Entry, entry_at, Key, key_cmp, key_of, StoredSpot, stored_spot, indexed_text, cell_tokens, document_tokens, document_postings, document_entries}
 use Rattle.ft_content.specs.Laws.{spots_of_key, some_if_any}
 use Rattle.ft_content.proofs.IndexLemmas.{lists_are_entries, key_cmp_total, key_cmp_exact}
 use Rattle.ft_content.proofs.MeaningLemmas.{document_texts, tokens_are}
-use Rattle.ft_documents.specs.RewriteRows.{IsShortNumber, AreShortNumbers, same_cell, same_spots, gone, changed, numbered_cells, goes, dropped_documents, put_cells, put_documents, dropped_lists, put_lists, dropped_sizes, put_sizes, index_lists_of, sizes_of, list_changes, rewrite_changes}
-use Rattle.ft_documents.specs.Rewrite.{Rewrite, befores, afters, document_if, under_docids, FitIfAny, IsPackable}
+use Rattle.ft_documents.specs.RewriteRows.{IsShortNumber, AreShortNumbers, same_cell, changed, numbered_cells, put_cells, index_lists_of, rewrite_changes}
+use Rattle.ft_documents.specs.Rewrite.{Rewrite, afters, document_if, under_docids, FitIfAny, IsPackable}
 use Rattle.ft_documents.specs.MadeIndex.{HaveShortNumbers}
 use Rattle.ft_documents.proofs.RowKinds.{one_list, lists_are}
 use Rattle.ft_documents.proofs.NewLemmas.{all_changes, All-flat_map}

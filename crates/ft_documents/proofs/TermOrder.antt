@@ -15,7 +15,7 @@ use Rattle.std.proofs.lemmas.Map.Lookups.{exact_bytes}
 use Rattle.std.proofs.lemmas.Map.Made.{lookup-map_values, keys_of-map_values}
 use Rattle.std.proofs.lemmas.Map.Text.{is_eq-slice_cmp}
 use Rattle.std.specs.Option.{option_or}
-use Rattle.std.specs.Cmp.{IsStrictWeakOrder, IsTotalOrder, int_cmp_total, tied_itself}
+use Rattle.std.specs.Cmp.{IsStrictWeakOrder, IsTotalOrder, int_cmp_total}
 use Rattle.std.specs.Fn.{Called, ComparesAs}
 use Rattle.std.specs.List.Sorted.{IsStrictlySortedBy}
 use Rattle.std.proofs.lemmas.Bool.{and_parts, and_from}
@@ -32,7 +32,7 @@ use Rattle.ft_rows.specs.declared.terms.TermLists.{TermLists}
 use Rattle.ft_content.specs.Index.{Key, key_cmp, StoredSpot}
 use Rattle.ft_content.proofs.IndexLemmas.{key_cmp_total, key_cmp_exact}
 use Rattle.ft_documents.specs.RewriteRows.{with_spots}
-use Rattle.ft_documents.specs.Terms.{Group, group_spots, lists_in_groups, spots_of_docid, by_docids, under_term, lists_of_terms}
+use Rattle.ft_documents.specs.Terms.{Group, group_spots, lists_in_groups, spots_of_docid, by_docids, lists_of_terms}
 use Rattle.ft_documents.specs.Placed.{rise}
 use Rattle.ft_documents.proofs.KeyedRows.{true_of, of_true, tie, none_found, below_lower, same_int}
 use Rattle.ft_documents.proofs.DocumentRows.{find_under, below_under, sorted_under, or_none}

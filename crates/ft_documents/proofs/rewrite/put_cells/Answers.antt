@@ -1,5 +1,5 @@
 -- one value more, and all of them
-use Rattle.std.proofs.Common.{ℤ, ◌<◌, ◌^◌, ◌++◌, length, map, refl, ap, sym, ◌∙◌, rules, to_z, of_z, w64, to_z-of_z, filter, map-id}
+use Rattle.std.proofs.Common.{◌<◌, ◌^◌, ◌++◌, length, map, refl, ap, sym, ◌∙◌, rules, to_z-of_z, filter, map-id}
 use Rattle.std.proofs.lemmas.Iterator.Adapters.{YieldsList-from_vec}
 use Rattle.std.proofs.lemmas.Iterator.Consumers.{YieldsList-from_enumerate, YieldsList-end}
 use Rattle.ft_values.specs.Cells.{shown_value}
