@@ -120,8 +120,6 @@ same_places ps = IsPermutation-refl ps
 
 -- ---- the rows that are asked for a content's terms are the lists that a walk wants
 
--- ---- rows as entries
-
 -- an entry without its term
 abbrev pub bare : Entry → Placed
 bare e = placed_in e.docid (posting_of e).place
@@ -361,8 +359,6 @@ rows_count rows found shown =
     ap place_count shown.lists ∙ counted shown.places ∙ length_permutation (all_in (map list_of rows)) shown.places shown.same ∙ all_count (map list_of rows) ∙ same_count rows
 
 -- ---- rows that stand in order are lists
-
--- ---- what std says of neighbours, as a test
 
 module _ {X : Type 0} (before : X → X → Bool) where
   each_next : (xs : List X) → AllAdjacentBelow (λ x y. true ≡ before x y) xs (length xs) → true ≡ rise before xs

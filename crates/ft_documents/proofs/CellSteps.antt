@@ -3,9 +3,10 @@ use Rattle.std.proofs.Common.{◌≡◌, ℕ, zero, suc, ◌+◌, ◌^◌, ◌<�
 use Rattle.std.specs.List.{enumerate_from}
 use Rattle.std.specs.Option.{option_eq}
 use Rattle.std.proofs.lemmas.List.{length-map, get_or-map, map-append}
-use Rattle.std.specs.Cmp.{int_cmp_total, tied_itself}
+use Rattle.std.specs.Cmp.{int_cmp_is, int_cmp_total, tied_itself}
 use Rattle.std.specs.FinMap.Entries.{find}
-use Rattle.std.proofs.lemmas.Bool.Decides.{nat_tests}
+use Rattle.std.proofs.lemmas.Int.{ints}
+use Rattle.std.proofs.lemmas.Option.{slice_get_past, slice_get_read}
 use Rattle.ft_values.specs.declared.rows.Value.{Value}
 use Rattle.ft_values.specs.declared.rows.Value.TheVariants as value
 use Rattle.ft_values.specs.contracts.rows.ValuePartialEq.TheImpl as TheImpl
@@ -19,13 +20,10 @@ abbrev pub numbered_from : {X : Type 0} → ℕ → List X → List (ℤ × X)
 numbered_from {X} k xs = map (λ (c : ℕ × X). (pos c.0, c.1)) (enumerate_from k xs)
 
 pub pos_less : (a b : ℕ) → a < b → int_cmp (pos a) (pos b) ≡ Less
-pos_less a b h = let yes : nat_lt a b ≡ true = grind (arith, nat_tests) in ap (λ t. cond t Less (cond (nat_lt b a) Greater Equal)) yes
+pos_less a b h = sym (int_cmp_is (pos a) (pos b) Less (omega (arith, ints)))
 
 pub pos_greater : (a b : ℕ) → b < a → int_cmp (pos a) (pos b) ≡ Greater
-pos_greater a b h =
-    let no : nat_lt a b ≡ false = grind (arith, nat_tests) in
-    let yes : nat_lt b a ≡ true = grind (arith, nat_tests) in
-    ap (λ t. cond t Less (cond (nat_lt b a) Greater Equal)) no ∙ ap (λ t. cond t Greater Equal) yes
+pos_greater a b h = sym (int_cmp_is (pos a) (pos b) Greater (omega (arith, ints)))
 
 -- what is found under a number is the element there
 pub found_from : {X : Type 0} (k : ℕ) (xs : List X) (i : ℕ) → find int_cmp (pos (k + i)) (numbered_from k xs) ≡ slice_get xs i
@@ -38,16 +36,6 @@ found_from k (x ∷ xs) (suc i) =
     let same : k + suc i ≡ (k + 1) + i = omega arith in
     ap (λ o. cond (is_eq o) (Some x) (find int_cmp (pos (k + suc i)) (numbered_from (k + 1) xs))) (pos_greater (k + suc i) k above)
     ∙ ap (λ n. find int_cmp (pos n) (numbered_from (k + 1) xs)) same ∙ found_from (k + 1) xs i
-
-got_within : {X : Type 0} (xs : List X) (i : ℕ) (x : X) → i < length xs → x ≡ get_or xs i x → slice_get xs i ≡ Some x
-got_within [] i x within is = absurd (omega arith)
-got_within (y ∷ ys) zero x within is = ap Some (sym is)
-got_within (y ∷ ys) (suc i) x within is = got_within ys i x (omega arith) is
-
-got_past : {X : Type 0} (xs : List X) (i : ℕ) → length xs ≤ i → slice_get xs i ≡ None
-got_past [] i past = refl
-got_past (y ∷ ys) zero past = absurd (omega arith)
-got_past (y ∷ ys) (suc i) past = got_past ys i (omega arith)
 
 at_start : (i : ℕ) → i ≡ 0 + i
 at_start i = omega arith
@@ -77,9 +65,9 @@ put_at tab docid c = PutCell tab docid (to_z w64 c.0) c.1
 -- what is found at a place tells whether a value is put
 pub tells_put : (before : List Value) (place : ℕ) (v : Bor Value) (o : Option (Bor Value)) → MatchOption o (length before ≤ place) (λ x. (place < length before) × HoldsAt (λ y. x.now ≡ y) before place) → IfSome o (λ x. x.now ≡ get_or before place x.now) →
     not (option_eq (λ x y. (TheImpl.ghosts).eq x.now y.now) o (Some v)) ≡ is_put (map shown_value before) (place, shown_value v.now)
-tells_put before place v None past at = ap (λ o. not (was_there same_cell o (shown_value v.now))) (sym (got_past (map shown_value before) place (rw (length-map before shown_value) past)))
+tells_put before place v None past at = ap (λ o. not (was_there same_cell o (shown_value v.now))) (sym (slice_get_past (map shown_value before) place (rw (length-map before shown_value) past)))
 tells_put before place v (Some x) within at =
-    ap not (same_value x.now v.now) ∙ ap (λ o. not (was_there same_cell o (shown_value v.now))) (sym (got_within (map shown_value before) place (shown_value x.now) (rw (length-map before shown_value) within.0) (ap shown_value at ∙ sym (get_or-map shown_value before place x.now (shown_value x.now) within.0))))
+    ap not (same_value x.now v.now) ∙ ap (λ o. not (was_there same_cell o (shown_value v.now))) (sym (slice_get_read (map shown_value before) _ place (shown_value x.now) refl (rw (length-map before shown_value) within.0) (ap shown_value at ∙ sym (get_or-map shown_value before place x.now (shown_value x.now) within.0))))
 
 -- a value more
 pub one_more_put : (tab docid : ℤ) (before : List Cell) (place : ℕ) (value : Value) (yielded : List (ℕ × Value)) (b : Bool) (old new first : List Change) → is_put before (place, shown_value value) ≡ b → new ≡ cond b (old ++ put_at tab docid (place, shown_value value) ∷ []) old

@@ -68,33 +68,19 @@ sizes_more docid k tokens columns old new all grown so_far =
     ∙ size_more docid k (length tokens) (filter (λ (s : Size). nat_lt 0 s.n) (map (size_at docid) (enumerate_from (k + 1) columns))) old ∙ so_far
 
 -- where one list is at its end no column is left
-pub none_left : (k : ℕ) (columns : List Column) (cells : List Cell) → min (length columns) (length cells) ≤ k → document_tokens (drop k columns) (drop k cells) ≡ []
-none_left zero [] cells past = refl
-none_left zero (column ∷ columns) [] past = refl
+pub none_left : (k : ℕ) (columns : List Column) (cells : List Cell) → min (length columns) (length cells) ≤ k → (document_tokens (drop k columns) (drop k cells) ≡ []) × AreShortNumbers (drop k columns) (drop k cells)
+none_left zero [] cells past = (refl, tt)
+none_left zero (column ∷ columns) [] past = (refl, tt)
 none_left zero (column ∷ columns) (cell ∷ cells) past = absurd (omega arith)
-none_left (suc k) [] cells past = refl
+none_left (suc k) [] cells past = (refl, tt)
 none_left (suc k) (column ∷ columns) [] past = nothing (drop k columns)
   where
-    nothing : (cs : List Column) → document_tokens cs [] ≡ []
-    nothing [] = refl
-    nothing (c ∷ cs) = refl
+    nothing : (cs : List Column) → (document_tokens cs [] ≡ []) × AreShortNumbers cs []
+    nothing [] = (refl, tt)
+    nothing (c ∷ cs) = (refl, tt)
 none_left (suc k) (column ∷ columns) (cell ∷ cells) past = none_left k columns cells (omega arith)
 
-pub no_numbers : (k : ℕ) (columns : List Column) (cells : List Cell) → min (length columns) (length cells) ≤ k → AreShortNumbers (drop k columns) (drop k cells)
-no_numbers zero [] cells past = tt
-no_numbers zero (column ∷ columns) [] past = tt
-no_numbers zero (column ∷ columns) (cell ∷ cells) past = absurd (omega arith)
-no_numbers (suc k) [] cells past = tt
-no_numbers (suc k) (column ∷ columns) [] past = nothing (drop k columns)
-  where
-    nothing : (cs : List Column) → AreShortNumbers cs []
-    nothing [] = tt
-    nothing (c ∷ cs) = tt
-no_numbers (suc k) (column ∷ columns) (cell ∷ cells) past = no_numbers k columns cells (omega arith)
-
 -- ---- the lists and sizes of documents that join one after another are those made from scratch
-
--- ---- one after another
 
 all_put-append : {K V : Type 0} (R : K → K → Ordering) (es fs rows : List (K × V)) → all_put R (es ++ fs) rows ≡ all_put R fs (all_put R es rows)
 all_put-append R [] fs rows = refl

@@ -3,6 +3,7 @@ use Rattle.std.proofs.Common.{◌≡◌, ◌^◌, ◌-◌, Bool, true, false, co
 use Rattle.std.specs.Ordering.{eq_by_cmp}
 use Rattle.std.specs.Cmp.{int_cmp_total, int_cmp_is}
 use Rattle.std.specs.FinMap.Entries.{by_order, put, find, below_all, is_sorted, find-put, is_sorted-put, same_entries}
+use Rattle.std.proofs.Math.Bool.{or-false, or-true}
 use Rattle.std.proofs.lemmas.Bool.{and_parts}
 use Rattle.std.proofs.lemmas.Bool.Decides.{Decides-int_eq}
 use Rattle.std.proofs.lemmas.Int.{ints}
@@ -55,17 +56,9 @@ pub has_all : (docid : ℤ) (new documents : Documents) → is_sorted int_cmp ne
 has_all docid new documents rising =
     ap is_some (find_all_put int_cmp int_cmp_total exact_signed docid new documents rising)
     ∙ elim (find int_cmp docid new) as (λ o. is_some (or_else int_cmp int_cmp_total exact_signed o (find int_cmp docid documents)) ≡ (is_some (find int_cmp docid documents) || is_some o)) [
-      | None ↦ or_false (is_some (find int_cmp docid documents))
-      | Some v ↦ or_true (is_some (find int_cmp docid documents))
+      | None ↦ sym (or-false (is_some (find int_cmp docid documents)))
+      | Some v ↦ sym (or-true (is_some (find int_cmp docid documents)))
     ]
-  where
-    or_false : (b : Bool) → b ≡ (b || false)
-    or_false true = refl
-    or_false false = refl
-
-    or_true : (b : Bool) → true ≡ (b || true)
-    or_true true = refl
-    or_true false = refl
 
 -- ---- the docid of a row is new
 

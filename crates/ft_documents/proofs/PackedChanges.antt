@@ -34,8 +34,6 @@ use Rattle.ft_documents.proofs.RewriteLemmas.{sorted_held}
 
 -- ---- the lists of documents can be packed
 
--- ---- tokens stand within their text
-
 abbrev IsLow : PlainToken → Type 0
 IsLow t = t.pos ≤ t.start
 

@@ -114,8 +114,6 @@ own_dropped tab (r ∷ rs) rows = own_dropped tab rs (where_key cell_key_cmp (λ
 
 -- ---- the cells after rewrites
 
--- ---- documents that go
-
 either : {V : Type 0} (a b : Bool) (o : Option V) → cond a None (cond (not b) o None) ≡ cond (b || a) None o
 either true true o = refl
 either true false o = refl
@@ -160,14 +158,9 @@ goes_found docid (r ∷ rs) h =
 
 pub cell_sound : (a b : Cell) → same_cell a b ≡ true → a ≡ b
 cell_sound Null Null h = refl
-cell_sound Null (Int n) h = absurd (let no = h in cc)
-cell_sound Null (Text t) h = absurd (let no = h in cc)
-cell_sound (Int m) Null h = absurd (let no = h in cc)
 cell_sound (Int m) (Int n) h = ap Int (exact_signed m n (tie _ h))
-cell_sound (Int m) (Text t) h = absurd (let no = h in cc)
-cell_sound (Text s) Null h = absurd (let no = h in cc)
-cell_sound (Text s) (Int n) h = absurd (let no = h in cc)
 cell_sound (Text s) (Text t) h = ap Text ((bytes_eq-Decides s t).0 h)
+cell_sound _ _ h = absurd (let no = h in cc)
 
 abbrev either_cell : Option Cell → Option Cell → Option Cell
 either_cell = or_else int_cmp int_cmp_total int_cmp-IsAntisymmetric
@@ -238,8 +231,6 @@ cells_right documents rewrites ordered rising known fits =
     ∙ sym (last_rows column_key_cmp column_total column_exact (λ k. k.0) (rows_by numbered_cells) (one_by numbered_cells) cells_are documents rewrites ordered rising known q))
 
 -- ---- the row changes of rewrites lead to the rows and the index rows of the documents as they are to be
-
--- ---- the store after all changes
 
 module _ (tab : ℤ) (columns : List Column) (rewrites : List Rewrite) where
   abbrev lists_gone : List (Key × List StoredSpot)

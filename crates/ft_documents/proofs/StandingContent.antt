@@ -6,6 +6,8 @@ use Rattle.std.specs.Cmp.{int_cmp_total, tied_itself, eq_by_cmp_equiv}
 use Rattle.std.specs.Cmp.Lexicographic.{pointwise}
 use Rattle.std.specs.FinMap.{int_cmp-IsAntisymmetric}
 use Rattle.std.proofs.lemmas.Bool.{and_parts, and_from}
+use Rattle.std.proofs.lemmas.Bool.Decides.{Decides-int_eq}
+use Rattle.std.proofs.lemmas.Slice.Eq.{slice_eq-Decides}
 use Rattle.ft_content.specs.Content.{Column, Content, TableRows, content_in, are_columns, skipped_from, is_name, names_of, names_clash}
 use Rattle.ft_content.proofs.RowLemmas.{rows_are_read}
 use Rattle.ft_documents.specs.Standing.{AreContent, AreDocumentCells, numbered_from, columns_said}
@@ -61,31 +63,10 @@ parts_of name rows columns are h =
       });
     }
 
--- a table has between 1 and 100 columns
-pub some_columns : (name : List ℕ) (columns : List Column) → are_columns name columns ≡ true → 0 < length columns
-some_columns name columns h =
-    let a = and_parts (nat_lt 0 (length columns) && nat_le (length columns) 100 && list_all is_name (names_of columns)) _ h in
-    let b = and_parts (nat_lt 0 (length columns) && nat_le (length columns) 100) _ a.0 in
-    ltb-true 0 (length columns) (and_parts (nat_lt 0 (length columns)) _ b.0).0
-
 -- ---- tests of numbers and names
 
-pub same_numbers : (xs ys : List ℤ) → pointwise int_eq xs ys ≡ true → xs ≡ ys
-same_numbers [] [] h = refl
-same_numbers [] (y ∷ ys) h = absurd (let no = h in cc)
-same_numbers (x ∷ xs) [] h = absurd (let no = h in cc)
-same_numbers (x ∷ xs) (y ∷ ys) h =
-    let parts = and_parts (int_eq x y) (pointwise int_eq xs ys) h in
-    let here = int_cmp-IsAntisymmetric x y (tie _ parts.0) in
-    let rest = same_numbers xs ys parts.1 in
-    λ i. here i ∷ rest i
-
-numbers_themselves : (xs : List ℤ) → pointwise int_eq xs xs ≡ true
-numbers_themselves [] = refl
-numbers_themselves (x ∷ xs) = and_from (int_eq x x) (pointwise int_eq xs xs) (ap is_eq (tied_itself int_cmp_total x)) (numbers_themselves xs)
-
 pub compared : (xs ys : List ℤ) (b : Bool) → b ≡ pointwise int_eq xs ys → (IsTrue b → xs ≡ ys) × (xs ≡ ys → IsTrue b)
-compared xs ys b is = ((λ h. same_numbers xs ys (sym is ∙ h)), (λ same. is ∙ ap (pointwise int_eq xs) (sym same) ∙ numbers_themselves xs))
+compared xs ys b is = slice_eq-Decides Decides-int_eq xs ys b is
 
 pub turned_any : (n : ℤ) (xs : List ℤ) → list_any (λ x. int_eq x n) xs ≡ list_any (int_eq n) xs
 turned_any n [] = refl

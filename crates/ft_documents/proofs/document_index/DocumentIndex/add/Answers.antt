@@ -11,7 +11,7 @@ use Rattle.ft_documents.specs.Rewrite.{document_if}
 use Rattle.ft_documents.specs.MadeIndex.{AddsDocuments, lists_in, sizes_in}
 use Rattle.ft_documents.specs.RewriteRows.{with_entries, cell_entries, cell_sizes, sized, all_put, IsShortNumber, AreShortNumbers}
 use Rattle.ft_documents.proofs.Steps.{mapped_more}
-use Rattle.ft_documents.proofs.IndexOf.{entries_from, sizes_from, lists_more, sizes_more, none_left, no_numbers}
+use Rattle.ft_documents.proofs.IndexOf.{entries_from, sizes_from, lists_more, sizes_more, none_left}
 use Rattle.ft_documents.proofs.document_index.DocumentIndex.add.Goals as goal
 use Rattle.ft_documents.proofs.document_index.DocumentIndex.add.Goals.{then-columns-place+in_ok-add_cell, else-columns-place}
 
@@ -66,9 +66,9 @@ returns c =
     let none = none_left c.loop-place.place columns cells past in
     let so_far = rw t at c.loop-place.invariant in
     let made : AddsDocuments columns ((c.args.docid, cells) ∷ []) c.args.self.now c.loop-place.self = record {
-      lists = ap (λ left. with_entries (entries_from c.args.docid c.loop-place.place left) (lists_in c.loop-place.self)) (sym none) ∙ so_far.0;
-      sizes = ap (λ left. all_put column_key_cmp (sizes_from c.args.docid c.loop-place.place left) (sizes_in c.loop-place.self)) (sym none) ∙ so_far.1;
-      numbers = All-cons (λ d. AreShortNumbers columns d.1) (c.args.docid, cells) [] (c.loop-place.invariant.2 (no_numbers c.loop-place.place columns cells past)) (All-nil (λ d. AreShortNumbers columns d.1));
+      lists = ap (λ left. with_entries (entries_from c.args.docid c.loop-place.place left) (lists_in c.loop-place.self)) (sym none.0) ∙ so_far.0;
+      sizes = ap (λ left. all_put column_key_cmp (sizes_from c.args.docid c.loop-place.place left) (sizes_in c.loop-place.self)) (sym none.0) ∙ so_far.1;
+      numbers = All-cons (λ d. AreShortNumbers columns d.1) (c.args.docid, cells) [] (c.loop-place.invariant.2 none.1) (All-nil (λ d. AreShortNumbers columns d.1));
     } in
     subst (λ o. AddsDocuments columns (document_if c.args.docid (option_map cells_of o)) c.args.self.now c.loop-place.self) (sym c.in-Some.is)
     (subst (λ vs. AddsDocuments columns ((c.args.docid, map shown_value vs) ∷ []) c.args.self.now c.loop-place.self) c.as_slice-values.ensures.value made)
