@@ -1,5 +1,5 @@
 -- Documents as their cells are gathered from the front.
-use Rattle.std.proofs.Common.{◌≡◌, Bool, true, false, cond, List, [], ◌∷◌, ◌++◌, map, length, suc, ℤ, refl, sym, ap, ◌∙◌, arith, int_eq, is_eq}
+use Rattle.std.proofs.Common.{◌≡◌, append_assoc, Bool, true, false, cond, List, [], ◌∷◌, ◌++◌, map, length, suc, ℤ, refl, sym, ap, ◌∙◌, arith, int_eq, is_eq}
 use Rattle.std.specs.Cmp.{int_cmp_total, tied_itself}
 use Rattle.std.proofs.lemmas.List.{map-append}
 use Rattle.std.proofs.lemmas.Bool.Decides.{Decides-int_eq}
@@ -8,15 +8,14 @@ use Rattle.ft_content.specs.Content.{CellRow, Documents, with_cell, gathered}
 use Rattle.ft_documents.specs.declared.documents.Document.{Document}
 use Rattle.ft_documents.specs.Gathered.{shown_document, with_last}
 
-joins_last : (row : CellRow) (documents : Documents) (d : ℤ × List Cell) → int_eq d.0 row.docid ≡ true → with_last row (documents ++ d ∷ []) ≡ documents ++ (d.0, d.1 ++ row.value ∷ []) ∷ []
-joins_last row [] d same = ap (λ b. cond b ((d.0, d.1 ++ row.value ∷ []) ∷ []) (d ∷ (row.docid, row.value ∷ []) ∷ [])) same
-joins_last row (e ∷ []) d same = ap (λ l. e ∷ l) (joins_last row [] d same)
-joins_last row (e ∷ f ∷ es) d same = ap (λ l. e ∷ l) (joins_last row (f ∷ es) d same)
+at_last : (row : CellRow) (documents : Documents) (d : ℤ × List Cell) → with_last row (documents ++ d ∷ []) ≡ documents ++ with_last row (d ∷ [])
+at_last row [] d = refl
+at_last row (e ∷ []) d = refl
+at_last row (e ∷ f ∷ es) d = ap (λ l. e ∷ l) (at_last row (f ∷ es) d)
 
-goes_behind : (row : CellRow) (documents : Documents) (d : ℤ × List Cell) → int_eq d.0 row.docid ≡ false → with_last row (documents ++ d ∷ []) ≡ (documents ++ d ∷ []) ++ (row.docid, row.value ∷ []) ∷ []
-goes_behind row [] d other = ap (λ b. cond b ((d.0, d.1 ++ row.value ∷ []) ∷ []) (d ∷ (row.docid, row.value ∷ []) ∷ [])) other
-goes_behind row (e ∷ []) d other = ap (λ l. e ∷ l) (goes_behind row [] d other)
-goes_behind row (e ∷ f ∷ es) d other = ap (λ l. e ∷ l) (goes_behind row (f ∷ es) d other)
+-- by whether the row is of the last document
+last_is : (row : CellRow) (documents : Documents) (d : ℤ × List Cell) (b : Bool) → int_eq d.0 row.docid ≡ b → with_last row (documents ++ d ∷ []) ≡ documents ++ cond b ((d.0, d.1 ++ row.value ∷ []) ∷ []) (d ∷ (row.docid, row.value ∷ []) ∷ [])
+last_is row documents d b is = at_last row documents d ∙ ap (λ b. documents ++ cond b ((d.0, d.1 ++ row.value ∷ []) ∷ []) (d ∷ (row.docid, row.value ∷ []) ∷ [])) is
 
 shown_last : (documents old : List Document) (last : Document) → old ≡ documents ++ last ∷ [] → map shown_document old ≡ map shown_document documents ++ shown_document last ∷ []
 shown_last documents old last is = ap (map shown_document) is ∙ map-append shown_document documents (last ∷ [])
@@ -26,13 +25,13 @@ pub joined : (row : CellRow) (documents old : List Document) (last : Document) �
     map shown_document documents ++ (row.docid, map shown_value last.cells.items ++ row.value ∷ []) ∷ [] ≡ with_last row (map shown_document old)
 joined row documents old last is same =
     ap (λ k. map shown_document documents ++ (k, map shown_value last.cells.items ++ row.value ∷ []) ∷ []) (sym same)
-    ∙ sym (ap (with_last row) (shown_last documents old last is) ∙ joins_last row (map shown_document documents) (shown_document last) (ap (λ k. int_eq k row.docid) same ∙ ap is_eq (tied_itself int_cmp_total row.docid)))
+    ∙ sym (ap (with_last row) (shown_last documents old last is) ∙ last_is row (map shown_document documents) (shown_document last) true (ap (λ k. int_eq k row.docid) same ∙ ap is_eq (tied_itself int_cmp_total row.docid)))
 
 pub behind : (row : CellRow) (documents old : List Document) (last : Document) → old ≡ documents ++ last ∷ [] → (last.docid ≡ row.docid → ⊥) →
     map shown_document old ++ (row.docid, row.value ∷ []) ∷ [] ≡ with_last row (map shown_document old)
 behind row documents old last is other =
     ap (λ l. l ++ (row.docid, row.value ∷ []) ∷ []) (shown_last documents old last is)
-    ∙ sym (ap (with_last row) (shown_last documents old last is) ∙ goes_behind row (map shown_document documents) (shown_document last) (apart (int_eq last.docid row.docid) refl))
+    ∙ sym (ap (with_last row) (shown_last documents old last is) ∙ last_is row (map shown_document documents) (shown_document last) false (apart (int_eq last.docid row.docid) refl) ∙ sym (append_assoc (map shown_document documents) (shown_document last ∷ []) ((row.docid, row.value ∷ []) ∷ [])))
   where
     apart : (b : Bool) → int_eq last.docid row.docid ≡ b → b ≡ false
     apart true e = absurd (other ((Decides-int_eq last.docid row.docid).0 e))

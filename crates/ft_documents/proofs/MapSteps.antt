@@ -10,10 +10,6 @@ pub find_looked_up : {K V : Type 0} (R : K → K → Ordering) (key : K) (es : L
 find_looked_up R key [] = refl
 find_looked_up R key (e ∷ es) = ap (cond (is_eq (R key e.0)) (Some e.1)) (find_looked_up R key es)
 
-pub is_some_shown : {A B : Type 0} (f : A → B) (o : Option A) → is_some (option_map f o) ≡ is_some o
-is_some_shown f None = refl
-is_some_shown f (Some a) = refl
-
 -- whether exactly this size was found
 pub held_size : (key : ℤ × ℤ) (es : List ((ℤ × ℤ) × ℤ)) (n : Bor ℤ) (o : Option (Bor ℤ)) → option_copied o ≡ lookup (λ k. is_eq (column_key_cmp key k)) es →
     option_eq (λ x y. int_eq x.now y.now) o (Some n) ≡ was_there int_eq (find column_key_cmp key es) n.now

@@ -24,7 +24,7 @@ use Rattle.ft_documents.proofs.DocumentRows.{one_by}
 use Rattle.ft_documents.proofs.RewriteLemmas.{AreRowsOf, old_there, new_there, sorted_befores, sorted_afters}
 use Rattle.ft_documents.proofs.RowKinds.{one_list, lists_are, counts, sizes_are, cells_are}
 use Rattle.ft_documents.proofs.OwnRows.{find_joined}
-use Rattle.ft_documents.proofs.RightLemmas.{own_cells, own_lists, own_sizes}
+use Rattle.ft_documents.proofs.RightLemmas.{spots_decide, own_cells, own_lists, own_sizes}
 
 -- ---- the row changes of rewrites name their documents alone
 
@@ -185,13 +185,6 @@ cell_whole Null = refl
 cell_whole (Int n) = ap is_eq (tied_itself int_cmp_total n)
 cell_whole (Text t) = (bytes_eq-Decides t t).1 refl
 
-spot_whole : (s : StoredSpot) → same_spot s s ≡ true
-spot_whole s = (λ i. is_eq (tied_itself int_cmp_total s.column i) && (is_eq (tied_itself int_cmp_total s.pos i) && (is_eq (tied_itself int_cmp_total s.place i) && is_eq (tied_itself int_cmp_total s.size i))))
-
-spots_whole : (ss : List StoredSpot) → same_spots ss ss ≡ true
-spots_whole [] = refl
-spots_whole (s ∷ ss) = and_from (same_spot s s) (same_spots ss ss) (spot_whole s) (spots_whole ss)
-
 held_cells : (docid column : ℤ) (before : Option (List Cell)) (cell : Cell) → one_by numbered_cells (docid, column) before ≡ Some cell → find int_cmp column (numbered_cells (unwrap_or before [])) ≡ Some cell
 held_cells docid column None cell is = is
 held_cells docid column (Some b) cell is = is
@@ -234,9 +227,9 @@ module _ (name : List ℕ) (content : Content) (tab : ℤ) (store : StoreValue) 
       all_changes (IsNew store) tab columns rewrites (λ _ _ _. tt)
       (All-weaker (λ (r : Rewrite). r.before ≡ find int_cmp r.docid documents) (λ r. All (IsNew store) (put_cells tab r.docid (unwrap_or r.before []) (unwrap_or r.after []))) cells_new rewrites known)
       (All-weaker (λ (l : Key × List StoredSpot). IsSome (find key_cmp l.0 lists_had)) (λ l. IsSome (find list_key_cmp (tab, l.0.0, l.0.1) store.lists)) (λ l is. ap is_some (list_there l.0) ∙ is) _
-      (old_new key_cmp key_cmp_total key_cmp_exact (λ k. k.1) (index_lists_of columns) (one_list columns) (lists_are columns) documents rewrites has.is_content.rising are.rising known same_spots spots_whole _))
+      (old_new key_cmp key_cmp_total key_cmp_exact (λ k. k.1) (index_lists_of columns) (one_list columns) (lists_are columns) documents rewrites has.is_content.rising are.rising known same_spots (λ ss. (spots_decide ss ss).1 refl) _))
       (All-weaker N (λ l. find list_key_cmp (tab, l.0.0, l.0.1) store.lists ≢ Some l.1) (λ l is there. is (sym (list_there l.0) ∙ there)) _
-      (changed_new key_cmp key_cmp_total key_cmp_exact (λ k. k.1) (index_lists_of columns) (one_list columns) (lists_are columns) documents rewrites has.is_content.rising are.rising known same_spots spots_whole))
+      (changed_new key_cmp key_cmp_total key_cmp_exact (λ k. k.1) (index_lists_of columns) (one_list columns) (lists_are columns) documents rewrites has.is_content.rising are.rising known same_spots (λ ss. (spots_decide ss ss).1 refl)))
       (All-weaker (λ (s : (ℤ × ℤ) × ℤ). IsSome (find column_key_cmp s.0 sizes_had)) (λ s. IsSome (find cell_key_cmp (tab, s.0.0, s.0.1) store.sizes)) (λ s is. ap is_some (size_there s.0) ∙ is) _
       (old_new column_key_cmp column_total column_exact (λ k. k.0) (sizes_of columns) (one_by (counts columns)) (sizes_are columns) documents rewrites has.is_content.rising are.rising known int_eq int_whole _))
       (All-weaker S (λ s. find cell_key_cmp (tab, s.0.0, s.0.1) store.sizes ≢ Some s.1) (λ s is there. is (sym (size_there s.0) ∙ there)) _

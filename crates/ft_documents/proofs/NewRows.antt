@@ -1,7 +1,7 @@
 -- New documents beside those of a table.
 use Rattle.std.proofs.Common.{◌≡◌, ◌^◌, ◌-◌, Bool, true, false, cond, ◌||◌, List, [], ◌∷◌, map, Option, Some, None, Result, Ok, Err, ℤ, pos, refl, sym, ap, ◌∙◌, arith, inl, inr, ◌+ℤ◌, unwrap_or, is_some, IfSome, ◌⊎◌, Vec, Global, Less, Equal, Greater, int_cmp, int_eq, is_eq, is_lt}
 use Rattle.std.specs.Ordering.{eq_by_cmp}
-use Rattle.std.specs.Cmp.{int_cmp_total, int_cmp_is}
+use Rattle.std.specs.Cmp.{int_cmp_total, int_cmp_is, eq_by_cmp_equiv}
 use Rattle.std.specs.FinMap.Entries.{by_order, put, find, below_all, is_sorted, find-put, is_sorted-put, same_entries}
 use Rattle.std.proofs.Math.Bool.{or-false, or-true}
 use Rattle.std.proofs.lemmas.Bool.{and_parts}
@@ -17,7 +17,8 @@ use Rattle.ft_content.specs.Deserved.{next_docid, has_docid, insert_row, append_
 use Rattle.ft_content.specs.Views.{cells_of}
 use Rattle.ft_documents.specs.NewDocuments.{shown_new}
 use Rattle.ft_documents.specs.RewriteRows.{all_put}
-use Rattle.ft_documents.proofs.KeyedRows.{true_of, of_true, sorted_put, or_else, find_all_put, less}
+use Rattle.ft_documents.proofs.FoundLemmas.{not_some}
+use Rattle.ft_documents.proofs.KeyedRows.{itself, true_of, of_true, sorted_put, or_else, find_all_put, less}
 
 -- ---- a document that is put among the new ones
 
@@ -75,11 +76,7 @@ next_behind k d (e ∷ es) sorted next =
     int_cmp_total.trans d.0 e.0 k (less (int_cmp d.0 e.0) (and_parts (is_lt (int_cmp d.0 e.0)) (below_all int_cmp d.0 es) parts.0).0) (next_behind k e es parts.1 next)
 
 not_here : (k n : ℤ) → int_cmp n k ≡ Less → eq_by_cmp int_cmp k n ≡ false
-not_here k n is = by_test (int_eq k n) refl
-  where
-    by_test : (b : Bool) → int_eq k n ≡ b → b ≡ false
-    by_test true e = let same : k ≡ n = (Decides-int_eq k n).0 e in absurd (let no : is_eq (int_cmp n k) ≡ true = ap (λ x. is_eq (int_cmp x k)) (sym same) ∙ ap (λ x. is_eq (int_cmp k x)) same ∙ e in let no2 : false ≡ true = sym (ap is_eq is) ∙ no in cc)
-    by_test false e = refl
+not_here k n is = (eq_by_cmp_equiv int_cmp_total).symm k n ∙ ap is_eq is
 
 next_is_new : (k : ℤ) (documents : Documents) → is_sorted int_cmp documents ≡ true → next_docid documents ≡ Some k → find int_cmp k documents ≡ None
 next_is_new k [] sorted next = refl
@@ -93,16 +90,9 @@ same_docid : (a b : ℤ) (cells : List Cell) (documents : Documents) → find in
 same_docid a b cells documents none same = go (eq_by_cmp int_cmp a b) refl
     (sym (find-put int_cmp int_cmp_total a b cells documents) ∙ ap (find int_cmp a) (sym same) ∙ find-put int_cmp int_cmp_total a a cells documents)
   where
-    itself : eq_by_cmp int_cmp a a ≡ true
-    itself = (Decides-int_eq a a).1 refl
-
     go : (t : Bool) → eq_by_cmp int_cmp a b ≡ t → cond (eq_by_cmp int_cmp a b) (Some cells) (find int_cmp a documents) ≡ cond (eq_by_cmp int_cmp a a) (Some cells) (find int_cmp a documents) → find int_cmp b documents ≡ None
     go true e found = ap (λ k. find int_cmp k documents) (sym ((Decides-int_eq a b).0 e)) ∙ none
-    go false e found = absurd (let no : None ≡ Some cells = sym (ap (λ t. cond t (Some cells) (find int_cmp a documents)) e ∙ none) ∙ found ∙ ap (λ t. cond t (Some cells) (find int_cmp a documents)) itself in cc)
-
-not_taken : (o : Option (List Cell)) → is_some o ≡ false → o ≡ None
-not_taken None h = refl
-not_taken (Some v) h = absurd (let no = h in cc)
+    go false e found = absurd (let no : None ≡ Some cells = sym (ap (λ t. cond t (Some cells) (find int_cmp a documents)) e ∙ none) ∙ found ∙ ap (λ t. cond t (Some cells) (find int_cmp a documents)) (itself a) in cc)
 
 put_in : Result Documents Fault → Documents → Documents
 put_in (Ok documents) other = documents
@@ -120,7 +110,7 @@ row_is_new documents (given ∷ docids) cells docid sorted is = go (has_docid do
   where
     go : (taken : Bool) → has_docid documents given ≡ taken → cond taken (Err (faults.DocidTaken given)) (Ok (put int_cmp given cells documents)) ≡ Ok (put int_cmp docid cells documents) → find int_cmp docid documents ≡ None
     go true e h = absurd (let no = h in cc)
-    go false e h = same_docid given docid cells documents (not_taken (find int_cmp given documents) e) (ap (λ r. put_in r []) h)
+    go false e h = same_docid given docid cells documents (not_some (find int_cmp given documents) e) (ap (λ r. put_in r []) h)
 
 -- whether a docid that is given is taken, in the store or by a new document
 pub taken_is : (given : Option ℤ) (new documents : Documents) (stored taken : Bool) → is_sorted int_cmp new ≡ true → IfSome given (λ docid. has_docid documents docid ≡ stored) →

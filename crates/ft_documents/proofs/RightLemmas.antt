@@ -7,10 +7,11 @@ use Rattle.std.proofs.lemmas.Simd.{map-map}
 use Rattle.std.specs.List.{list_any, list_all}
 use Rattle.std.specs.Cmp.{int_cmp_total}
 use Rattle.std.specs.FinMap.{int_cmp-IsAntisymmetric}
+use Rattle.std.specs.Bool.{Decides}
 use Rattle.std.proofs.lemmas.Bool.{and_parts}
 use Rattle.std.proofs.lemmas.List.Elements.{All-map, All-nil, All-cons, All-head, All-tail, All-from_recursion}
 use Rattle.std.proofs.lemmas.Map.Lookups.{exact_signed}
-use Rattle.std.proofs.lemmas.Slice.Eq.{bytes_eq-Decides}
+use Rattle.std.proofs.lemmas.Slice.Eq.{bytes_eq-Decides, slice_eq-Decides}
 use Rattle.std.proofs.lemmas.Bool.Decides.{nat_tests}
 use Rattle.sqlite_keyed.proofs.ListLemmas.{all_from_test}
 use Rattle.ft_values.specs.Cells.{Cell, Null, Int, Text}
@@ -22,7 +23,7 @@ use Rattle.ft_documents.specs.Rewrite.{Rewrite, under_docids, rewritten, befores
 use Rattle.ft_documents.specs.RewriteRows.{all_put, same_cell, changed, numbered_cells, goes, dropped_documents, put_documents, dropped_lists, put_lists, dropped_sizes, put_sizes, was_there, same_spot, same_spots, gone, sized, index_lists_of, sizes_of, list_changes, size_changes, rewrite_changes}
 use Rattle.ft_documents.specs.Tables.{table_rows, table_index}
 use Rattle.ft_documents.proofs.StoreKeys.{list_exact, list_total, cell_exact, cell_total, list_keys, cell_keys, column_total, column_exact}
-use Rattle.ft_documents.proofs.KeyedRows.{true_of, of_true, all_dropped, found_holds, tie, none_below, sorted_put, find_all_put, or_else, fresh, changed_found, sorted-filter, turned_round, gone_is, sorted_dropped}
+use Rattle.ft_documents.proofs.KeyedRows.{itself, true_of, of_true, all_dropped, found_holds, tie, none_below, sorted_put, find_all_put, or_else, fresh, changed_found, sorted-filter, turned_round, gone_is, sorted_dropped}
 use Rattle.ft_documents.proofs.DocumentRows.{under, rows_by, one_by, sorted_by, find_by, sorted_numbered}
 use Rattle.ft_documents.proofs.OwnRows.{own, joined, own_all_put, own_all_dropped}
 use Rattle.ft_documents.proofs.CellSteps.{numbered_from}
@@ -292,11 +293,11 @@ spot_sound s t h =
     let c = and_parts (int_eq s.place t.place) (int_eq s.size t.size) b.1 in
     λ i. record { column = exact_signed s.column t.column (tie _ a.0) i; pos = exact_signed s.pos t.pos (tie _ b.0) i; place = exact_signed s.place t.place (tie _ c.0) i; size = exact_signed s.size t.size (tie _ c.1) i }
 
-pub spots_sound : (ss ts : List StoredSpot) → same_spots ss ts ≡ true → ss ≡ ts
-spots_sound [] [] h = refl
-spots_sound [] (t ∷ ts) h = absurd (let no = h in cc)
-spots_sound (s ∷ ss) [] h = absurd (let no = h in cc)
-spots_sound (s ∷ ss) (t ∷ ts) h = let parts = and_parts (same_spot s t) (same_spots ss ts) h in λ i. spot_sound s t parts.0 i ∷ spots_sound ss ts parts.1 i
+spot_decides : (s t : StoredSpot) → Decides (same_spot s t) (s ≡ t)
+spot_decides s t = (spot_sound s t, λ is. ap (same_spot s) (sym is) ∙ (λ i. itself s.column i && (itself s.pos i && (itself s.place i && itself s.size i))))
+
+pub spots_decide : (ss ts : List StoredSpot) → Decides (same_spots ss ts) (ss ≡ ts)
+spots_decide ss ts = slice_eq-Decides spot_decides ss ts (same_spots ss ts) refl
 
 pub int_sound : (m n : ℤ) → int_eq m n ≡ true → m ≡ n
 int_sound m n h = exact_signed m n (tie _ h)
@@ -361,7 +362,7 @@ module _ (name : List ℕ) (content : Content) (tab : ℤ) (store : StoreValue) 
     lists_last =
         own_all_put list_keys tab (lists_changed tab columns rewrites) (all_dropped list_key_cmp list_total list_exact (joined list_keys tab (lists_gone tab columns rewrites)) store.lists) (sorted_dropped list_key_cmp list_total list_exact (joined list_keys tab (lists_gone tab columns rewrites)) store.lists has.order.lists)
         ∙ ap (all_put key_cmp (lists_changed tab columns rewrites)) (own_all_dropped list_keys tab (lists_gone tab columns rewrites) store.lists ∙ ap (all_dropped key_cmp key_cmp_total key_cmp_exact (lists_gone tab columns rewrites)) own_lists)
-        ∙ rows_renewed key_cmp key_cmp_total key_cmp_exact (λ k. k.1) (index_lists_of columns) (one_list columns) (lists_are columns) content.documents rewrites has.is_content.rising are.rising are.befores same_spots same_spots (λ v w is. (spots_sound v w is, ap (λ s. same_spots s v) (sym (spots_sound v w is)) ∙ ap (same_spots v) (spots_sound v w is) ∙ is))
+        ∙ rows_renewed key_cmp key_cmp_total key_cmp_exact (λ k. k.1) (index_lists_of columns) (one_list columns) (lists_are columns) content.documents rewrites has.is_content.rising are.rising are.befores same_spots same_spots (λ v w is. ((spots_decide v w).0 is, (spots_decide w v).1 (sym ((spots_decide v w).0 is))))
 
     sizes_last : own cell_keys tab (sizes_after tab columns rewrites store) ≡ sizes_of columns last
     sizes_last =

@@ -7,18 +7,16 @@ use Rattle.std.proofs.lemmas.List.Sorted.{answers_always}
 use Rattle.ft_documents.specs.Placed.{is_in_order, docids_rise}
 use Rattle.ft_documents.proofs.AskedLemmas.{neighbours_tell}
 use Rattle.ft_documents.proofs.lists.are_in_order.Goals as goal
+use Rattle.ft_documents.proofs.lists.are_in_order.Goals.{After-is_sorted_by}
+
+rise : (c : After-is_sorted_by) → c.is_sorted_by.result ≡ docids_rise c.args.rows.now
+rise c = neighbours_tell (λ a b. int_lt a.docid b.docid) c.args.rows.now c.is_sorted_by.result (c.is_sorted_by.ensures.cases (λ a b. int_lt a.docid b.docid) (answers_always _ _ _ (λ f a r g called. search rules)))
 
 pub returns-then-is_sorted_by : goal.returns-then-is_sorted_by
 returns-then-is_sorted_by c =
     let rows = c.args.rows.now in
-    let rise : c.is_sorted_by.result ≡ docids_rise rows = neighbours_tell (λ a b. int_lt a.docid b.docid) rows c.is_sorted_by.result
-    (c.is_sorted_by.ensures.cases (λ a b. int_lt a.docid b.docid) (answers_always _ _ _ (λ f a r g called. search rules))) in
     let all : c.all.result ≡ list_all is_in_order rows = all_from_yields_List is_in_order _ _ c.all.result c.all.ensures.ran (YieldsList-from_slice rows c.iter.ensures.rest) (λ x b q k. search (rules, tests)) in
-    all ∙ ap (λ b. b && list_all is_in_order rows) (sym c.if-is_sorted_by.true ∙ rise)
+    all ∙ ap (λ b. b && list_all is_in_order rows) (sym c.if-is_sorted_by.true ∙ rise (goal.at.returns-then-is_sorted_by c).After-is_sorted_by)
 
 pub returns-else-is_sorted_by : goal.returns-else-is_sorted_by
-returns-else-is_sorted_by c =
-    let rows = c.args.rows.now in
-    let rise : c.is_sorted_by.result ≡ docids_rise rows = neighbours_tell (λ a b. int_lt a.docid b.docid) rows c.is_sorted_by.result
-    (c.is_sorted_by.ensures.cases (λ a b. int_lt a.docid b.docid) (answers_always _ _ _ (λ f a r g called. search rules))) in
-    c.if-is_sorted_by.false ∙ ap (λ b. b && list_all is_in_order rows) (sym c.if-is_sorted_by.false ∙ rise)
+returns-else-is_sorted_by c = c.if-is_sorted_by.false ∙ ap (λ b. b && list_all is_in_order c.args.rows.now) (sym c.if-is_sorted_by.false ∙ rise (goal.at.returns-else-is_sorted_by c).After-is_sorted_by)

@@ -7,7 +7,7 @@ use Rattle.ft_rows.specs.Changes.{shown_change}
 use Rattle.ft_content.specs.Index.{Key, key_cmp, StoredSpot}
 use Rattle.ft_content.specs.Views.{cells_of, column_of}
 use Rattle.ft_documents.specs.declared.rewrite.Rewrite as source
-use Rattle.ft_documents.proofs.MapSteps.{is_some_shown}
+use Rattle.sqlite_keyed.proofs.SliceLemmas.{is_some-map}
 use Rattle.ft_documents.specs.Tables.{IsOfDocids}
 use Rattle.ft_documents.specs.MadeIndex.{AddsDocuments, IsIndexOf}
 use Rattle.ft_documents.specs.Rewrite.{Rewrite, shown_rewrite, befores, afters, document_if, rewritten_docids, AreRight, AreNew}
@@ -23,7 +23,7 @@ use Rattle.ft_documents.proofs.rewrite.row_changes.Goals as goal
 use Rattle.ft_documents.proofs.rewrite.row_changes.Goals.{then-is_some+then-is_none+in_ok-push, else-is_some, else-is_some-via-then-is_some+else-is_none, else-is_some-via-else-is_some}
 
 goes_as : (r : source.Rewrite) (b a : Bool) → is_some r.before ≡ b → is_some r.after ≡ a → goes (shown_rewrite r) ≡ (b && not a)
-goes_as r b a before after = λ i. (is_some_shown cells_of r.before ∙ before) i && not ((is_some_shown cells_of r.after ∙ after) i)
+goes_as r b a before after = λ i. (is_some-map cells_of r.before ∙ before) i && not ((is_some-map cells_of r.after ∙ after) i)
 
 pub loop-rewrite-preserved : goal.loop-rewrite-preserved
 loop-rewrite-preserved c =

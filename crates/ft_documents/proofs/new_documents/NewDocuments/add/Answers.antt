@@ -13,7 +13,8 @@ use Rattle.ft_content.specs.Deserved as deserved
 use Rattle.ft_content.specs.Views.{cells_of, column_of, placed, last_docid}
 use Rattle.ft_documents.specs.NewDocuments.{shown_new, shown_documents, with_new, AreBeside, Places}
 use Rattle.ft_documents.specs.RewriteRows.{all_put}
-use Rattle.ft_documents.proofs.MapSteps.{find_looked_up, is_some_shown}
+use Rattle.sqlite_keyed.proofs.SliceLemmas.{is_some-map}
+use Rattle.ft_documents.proofs.MapSteps.{find_looked_up}
 use Rattle.ft_documents.proofs.KeyedRows.{keys_put, true_of, of_true, find-values, sorted_put}
 use Rattle.ft_documents.proofs.IndexOf.{insert_put}
 use Rattle.ft_documents.proofs.NewRows.{taken_is, row_is_new, put_shown, all_put_more, not_stored}
@@ -23,7 +24,7 @@ use Rattle.ft_documents.proofs.new_documents.NewDocuments.add.Goals.{then-is_sto
 is_there : (entries : List (ℤ × Vec Value Global)) (docid : ℤ) (b : Bool) → FitsSigned w64 docid → b ≡ is_some (lookup (λ k. is_eq (int_cmp (to_z w64 (of_z w64 docid)) k)) entries) → b ≡ is_some (find int_cmp docid (map shown_new entries))
 is_there entries docid b fits is =
     is ∙ ap is_some (sym (find_looked_up int_cmp (to_z w64 (of_z w64 docid)) entries) ∙ ap (λ k. find int_cmp k entries) (to_z-of_z fits))
-    ∙ sym (ap is_some (find-values int_cmp cells_of docid entries) ∙ is_some_shown cells_of (find int_cmp docid entries))
+    ∙ sym (ap is_some (find-values int_cmp cells_of docid entries) ∙ is_some-map cells_of (find int_cmp docid entries))
 
 if_some : {P Q : ℤ → Type 0} (N : Type 0) (o : Option ℤ) → MatchOption o N P → ((x : ℤ) → P x → Q x) → IfSome o Q
 if_some N None h f = tt
