@@ -7,6 +7,7 @@ use Rattle.std.proofs.lemmas.Bool.Decides.{nat_tests}
 use Rattle.std.proofs.lemmas.List.Elements.{All-nil, All-cons, All-head, All-tail, All-append, All-filter, recursion_from_All, All-from_recursion, All-map, All-weaker}
 use Rattle.std.proofs.lemmas.List.Kept.{AllPairs-filter}
 use Rattle.std.specs.FinMap.Entries.{find, is_sorted}
+use Rattle.sqlite_keyed.proofs.ListLemmas.{map-map}
 use Rattle.ft_query.specs.Tokens.{PlainToken, tokens_of}
 use Rattle.ft_query.specs.Documents.{Posting, posting, IsBefore, postings_of}
 use Rattle.ft_query.proofs.TokenLaw.{computed_tokens}
@@ -163,8 +164,7 @@ plain_again [] = refl
 plain_again (p ∷ ps) = ap (λ ss. place_of p ∷ ss) (plain_again ps)
 
 stored_again : (ps : List Posting) → stored_places ps ≡ map packing.stored_spot (map place_of ps)
-stored_again [] = refl
-stored_again (p ∷ ps) = ap (λ ss. packing.stored_spot (place_of p) ∷ ss) (stored_again ps)
+stored_again ps = sym (map-map packing.stored_spot place_of ps)
 
 can_pack : (p : Posting) (ps : List Posting) → All IsPlace (p ∷ ps) → AllPairs IsBefore (p ∷ ps) → packing.CanPack (stored_places (p ∷ ps))
 can_pack p ps are rise = record {

@@ -1,5 +1,5 @@
 -- The cells, lists and sizes of documents as rows under keys.
-use Rattle.std.proofs.Common.{◌≡◌, ℕ, Bool, true, false, cond, List, [], ◌∷◌, ◌++◌, map, length, Option, ℤ, pos, refl, sym, ap, ◌∙◌, nat_lt, filter, option_map, flat_map, int_cmp}
+use Rattle.std.proofs.Common.{◌≡◌, map-id, ℕ, Bool, true, false, cond, List, [], ◌∷◌, ◌++◌, map, length, Option, ℤ, pos, refl, sym, ap, ◌∙◌, nat_lt, filter, option_map, flat_map, int_cmp}
 use Rattle.std.specs.List.{enumerate_from}
 use Rattle.std.specs.FinMap.Entries.{find, is_sorted}
 use Rattle.std.proofs.lemmas.List.{map-append}
@@ -33,8 +33,7 @@ content_cells (d ∷ ds) =
     ∙ sym (map-append cell_row (under d.0 (numbered_cells d.1)) (rows_by numbered_cells ds))
 
 pub keyed_again : (rows : List ((ℤ × ℤ) × Cell)) → map keyed_cell (map cell_row rows) ≡ rows
-keyed_again [] = refl
-keyed_again (e ∷ es) = ap (λ xs. e ∷ xs) (keyed_again es)
+keyed_again rows = map-map keyed_cell cell_row rows ∙ map-id rows
 
 pub cells_are : AreRowsOf column_key_cmp (λ k. k.0) (rows_by numbered_cells) (one_by numbered_cells)
 cells_are = record {
@@ -62,12 +61,10 @@ abbrev pub size_of : (ℤ × ℤ) × ℤ → SizeRow
 size_of e = record { docid = e.0.0; column = e.0.1; n = e.1 }
 
 pub sized_again : (rows : List ((ℤ × ℤ) × ℤ)) → sized (map size_of rows) ≡ rows
-sized_again [] = refl
-sized_again (e ∷ es) = ap (λ xs. e ∷ xs) (sized_again es)
+sized_again rows = map-map (λ (s : SizeRow). ((s.docid, s.column), s.n)) size_of rows ∙ map-id rows
 
 pub sizes_again : (rows : List SizeRow) → map size_of (sized rows) ≡ rows
-sizes_again [] = refl
-sizes_again (e ∷ es) = ap (λ xs. e ∷ xs) (sizes_again es)
+sizes_again rows = map-map size_of (λ (s : SizeRow). ((s.docid, s.column), s.n)) rows ∙ map-id rows
 
 -- how many tokens each column has, where it has any
 abbrev has_tokens : List PlainToken → Bool

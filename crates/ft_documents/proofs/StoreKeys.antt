@@ -11,9 +11,8 @@ use Rattle.ft_content.proofs.IndexLemmas.{key_cmp_total, key_cmp_exact}
 use Rattle.ft_documents.proofs.OwnRows.{TableKeys}
 
 both_equal : (a b : Ordering) → ordering_then a b ≡ Equal → (a ≡ Equal) × (b ≡ Equal)
-both_equal Less b e = absurd (let no = ap is_lt e in cc)
 both_equal Equal b e = (refl, e)
-both_equal Greater b e = absurd (let no = ap is_eq e in cc)
+both_equal _ b e = absurd (let no = e in cc)
 
 pub column_exact : CmpEqualImpliesEq column_key_cmp
 column_exact x y e = let k = both_equal _ _ e in λ i. (exact_signed x.0 y.0 k.0 i, exact_signed x.1 y.1 k.1 i)
@@ -33,14 +32,8 @@ column_total = then_total (on_total (λ (k : ℤ × ℤ). k.0) int_cmp_total) (o
 pub cell_total : IsTotalOrder cell_key_cmp
 cell_total = then_total (on_total (λ (k : CellKey). k.0) int_cmp_total) (then_total (on_total (λ (k : CellKey). k.1) int_cmp_total) (on_total (λ (k : CellKey). k.2) int_cmp_total))
 
-abbrev pub list_join : ℤ → Key → ListKey
-list_join tab q = (tab, q.0, q.1)
+abbrev pub list_keys : TableKeys list_key_cmp key_cmp
+list_keys = record { splits = λ x y. refl; total = list_total; rest_total = key_cmp_total; exact = list_exact; rest_exact = key_cmp_exact }
 
-abbrev pub cell_join : ℤ → ℤ × ℤ → CellKey
-cell_join tab q = (tab, q.0, q.1)
-
-abbrev pub list_keys : TableKeys list_key_cmp key_cmp (λ (k : ListKey). k.0) (λ (k : ListKey). (k.1, k.2)) list_join
-list_keys = record { splits = λ x y. refl; total = list_total; rest_total = key_cmp_total; exact = list_exact; rest_exact = key_cmp_exact; joined_tab = λ tab q. refl; joined_rest = λ tab q. refl }
-
-abbrev pub cell_keys : TableKeys cell_key_cmp column_key_cmp (λ (k : CellKey). k.0) (λ (k : CellKey). (k.1, k.2)) cell_join
-cell_keys = record { splits = λ x y. refl; total = cell_total; rest_total = column_total; exact = cell_exact; rest_exact = column_exact; joined_tab = λ tab q. refl; joined_rest = λ tab q. refl }
+abbrev pub cell_keys : TableKeys cell_key_cmp column_key_cmp
+cell_keys = record { splits = λ x y. refl; total = cell_total; rest_total = column_total; exact = cell_exact; rest_exact = column_exact }
