@@ -15,7 +15,7 @@ use Rattle.ft_content.specs.Index.{StoredSpot, index_rows, entries, sizes, spot_
 use Rattle.ft_documents.specs.Tables.{table_rows, table_index}
 use Rattle.ft_documents.specs.RewriteRows.{all_put}
 use Rattle.ft_documents.proofs.CellSteps.{numbered_from}
-use Rattle.ft_documents.proofs.DocumentRows.{under, sorted_under, passed_from, sorted_passed, sorted_numbered}
+use Rattle.ft_documents.proofs.RowKinds.{under, sorted_under, passed_from, sorted_passed, sorted_numbered}
 use Rattle.ft_documents.proofs.KeyedRows.{tie, true_of, of_true, itself, put_in_order}
 use Rattle.ft_documents.proofs.StoreKeys.{column_total, column_exact}
 

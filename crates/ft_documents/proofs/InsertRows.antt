@@ -1,18 +1,133 @@
 -- Rows of an Insert one after another, and the rewrites that they make.
-use Rattle.std.proofs.Common.{◌≡◌, ℕ, zero, suc, ℤ, ◌&&◌, [], ◌∷◌, List, Option, None, Some, Result, Ok, Err, map, zip, refl, sym, ap, subst, ◌∙◌, slice_get, option_map, IfSome, int_cmp, is_lt}
+use Rattle.std.proofs.Common.{◌≡◌, ◌^◌, ◌-◌, Bool, true, false, cond, ◌||◌, List, [], ◌∷◌, map, Option, Some, None, Result, Ok, Err, ℤ, pos, refl, sym, ap, ◌∙◌, arith, inl, inr, ◌+ℤ◌, unwrap_or, is_some, IfSome, ◌⊎◌, Vec, Global, Less, Equal, Greater, int_cmp, int_eq, is_eq, is_lt, ℕ, zero, suc, ◌&&◌, zip, subst, slice_get, option_map}
+use Rattle.std.specs.Ordering.{eq_by_cmp}
+use Rattle.std.specs.Cmp.{int_cmp_total, int_cmp_is, eq_by_cmp_equiv}
+use Rattle.std.specs.FinMap.Entries.{by_order, put, find, below_all, is_sorted, find-put, is_sorted-put, same_entries}
+use Rattle.std.proofs.Math.Bool.{or-false, or-true}
+use Rattle.std.proofs.lemmas.Bool.{and_parts}
+use Rattle.std.proofs.lemmas.Bool.Decides.{Decides-int_eq}
+use Rattle.std.proofs.lemmas.Int.{ints}
+use Rattle.std.proofs.lemmas.Map.Lookups.{exact_signed}
 use Rattle.std.specs.List.{AllByRecursion}
-use Rattle.std.specs.FinMap.Entries.{put, find, below_all, is_sorted}
 use Rattle.std.proofs.lemmas.Option.{slice_get-map, same_Some}
+use Rattle.ft_values.specs.declared.rows.Value.{Value}
 use Rattle.ft_values.specs.Cells.{Cell}
 use Rattle.ft_values.specs.declared.fault.Fault.{Fault}
-use Rattle.ft_content.specs.Content.{Column, Documents}
-use Rattle.ft_content.specs.Deserved.{insert_row, inserted_rows, then_rows, docids_named, has_docid, new_cells}
+use Rattle.ft_values.specs.declared.fault.Fault.TheVariants as faults
+use Rattle.ft_content.specs.Content.{Documents, Column}
+use Rattle.ft_content.specs.Deserved.{next_docid, has_docid, insert_row, append_document, inserted_rows, then_rows, docids_named, new_cells}
+use Rattle.ft_content.specs.Views.{cells_of}
+use Rattle.ft_documents.specs.NewDocuments.{shown_new, shown_documents, with_new, new_rewrite, AreBeside}
+use Rattle.ft_documents.specs.RewriteRows.{all_put}
 use Rattle.ft_documents.specs.declared.new_documents.NewDocuments.{NewDocuments}
 use Rattle.ft_documents.specs.Rewrite.{Rewrite, under_docids, rewritten}
-use Rattle.ft_documents.specs.RewriteRows.{all_put}
 use Rattle.ft_documents.specs.Gathered.{has_given}
-use Rattle.ft_documents.specs.NewDocuments.{shown_documents, with_new, new_rewrite, AreBeside}
 use Rattle.ft_documents.specs.Inserted.{AreKnown, IsNewIn, AreInserts}
+use Rattle.ft_documents.proofs.FoundLemmas.{not_some}
+use Rattle.ft_documents.proofs.KeyedRows.{itself, true_of, of_true, sorted_put, or_else, find_all_put, less}
+
+-- ---- new documents beside those of a table
+
+-- ---- a document that is put among the new ones
+
+pub put_shown : (docid : ℤ) (cells : Vec Value Global) (es : List (ℤ × Vec Value Global)) → map shown_new (put int_cmp docid cells es) ≡ put int_cmp docid (cells_of cells) (map shown_new es)
+put_shown docid cells [] = refl
+put_shown docid cells (e ∷ es) =
+    elim (int_cmp docid e.0) as (λ o. map shown_new (by_order o ((docid, cells) ∷ e ∷ es) ((e.0, cells) ∷ es) (e ∷ put int_cmp docid cells es))
+    ≡ by_order o ((docid, cells_of cells) ∷ shown_new e ∷ map shown_new es) ((e.0, cells_of cells) ∷ map shown_new es) (shown_new e ∷ put int_cmp docid (cells_of cells) (map shown_new es))) [
+      | Less ↦ refl
+      | Equal ↦ refl
+      | Greater ↦ ap (λ l. shown_new e ∷ l) (put_shown docid cells es)
+    ]
+
+pub all_put_more : (docid : ℤ) (cells : List Cell) (new documents : Documents) → is_sorted int_cmp new ≡ true → is_sorted int_cmp documents ≡ true → all_put int_cmp (put int_cmp docid cells new) documents ≡ put int_cmp docid cells (all_put int_cmp new documents)
+all_put_more docid cells new documents rising sorted =
+    let more : is_sorted int_cmp (put int_cmp docid cells new) ≡ true = true_of _ (is_sorted-put int_cmp int_cmp_total docid cells new (of_true _ rising)) in
+    let all : is_sorted int_cmp (all_put int_cmp new documents) ≡ true = sorted_put int_cmp int_cmp_total exact_signed new documents sorted in
+    same_entries int_cmp int_cmp_total exact_signed (all_put int_cmp (put int_cmp docid cells new) documents) (put int_cmp docid cells (all_put int_cmp new documents))
+    (of_true _ (sorted_put int_cmp int_cmp_total exact_signed (put int_cmp docid cells new) documents sorted))
+    (is_sorted-put int_cmp int_cmp_total docid cells (all_put int_cmp new documents) (of_true _ all))
+    (λ q.
+    find_all_put int_cmp int_cmp_total exact_signed q (put int_cmp docid cells new) documents more
+    ∙ ap (λ o. or_else int_cmp int_cmp_total exact_signed o (find int_cmp q documents)) (find-put int_cmp int_cmp_total q docid cells new)
+    ∙ elim (eq_by_cmp int_cmp q docid) as (λ b. or_else int_cmp int_cmp_total exact_signed (cond b (Some cells) (find int_cmp q new)) (find int_cmp q documents) ≡ cond b (Some cells) (or_else int_cmp int_cmp_total exact_signed (find int_cmp q new) (find int_cmp q documents))) [ true ↦ refl | false ↦ refl ]
+    ∙ sym (find-put int_cmp int_cmp_total q docid cells (all_put int_cmp new documents) ∙ ap (cond (eq_by_cmp int_cmp q docid) (Some cells)) (find_all_put int_cmp int_cmp_total exact_signed q new documents rising)))
+
+-- a docid that neither the table nor the new documents have
+pub not_stored : (docid : ℤ) (new documents : Documents) → is_sorted int_cmp new ≡ true → find int_cmp docid (all_put int_cmp new documents) ≡ None → find int_cmp docid documents ≡ None
+not_stored docid new documents rising none = go (find int_cmp docid new) (sym (find_all_put int_cmp int_cmp_total exact_signed docid new documents rising) ∙ none)
+  where
+    go : (o : Option (List Cell)) → or_else int_cmp int_cmp_total exact_signed o (find int_cmp docid documents) ≡ None → find int_cmp docid documents ≡ None
+    go None h = h
+    go (Some v) h = absurd (let no = h in cc)
+
+pub has_all : (docid : ℤ) (new documents : Documents) → is_sorted int_cmp new ≡ true → has_docid (all_put int_cmp new documents) docid ≡ (has_docid documents docid || is_some (find int_cmp docid new))
+has_all docid new documents rising =
+    ap is_some (find_all_put int_cmp int_cmp_total exact_signed docid new documents rising)
+    ∙ elim (find int_cmp docid new) as (λ o. is_some (or_else int_cmp int_cmp_total exact_signed o (find int_cmp docid documents)) ≡ (is_some (find int_cmp docid documents) || is_some o)) [
+      | None ↦ sym (or-false (is_some (find int_cmp docid documents)))
+      | Some v ↦ sym (or-true (is_some (find int_cmp docid documents)))
+    ]
+
+-- ---- the docid of a row is new
+
+next_of_one : (n k : ℤ) → cond (int_eq n (pos (2 ^ 63 - 1))) None (Some (n +ℤ pos 1)) ≡ Some k → int_cmp n k ≡ Less
+next_of_one n k = elim (int_eq n (pos (2 ^ 63 - 1))) as (λ b. cond b None (Some (n +ℤ pos 1)) ≡ Some k → int_cmp n k ≡ Less) [
+  | true ↦ λ h. absurd (let no = h in cc)
+  | false ↦ λ h. (let same : n +ℤ pos 1 ≡ k = ap (λ o. unwrap_or o k) h in ap (int_cmp n) (sym same) ∙ sym (int_cmp_is n (n +ℤ pos 1) Less (omega (arith, ints))))
+]
+
+next_behind : (k : ℤ) (d : ℤ × List Cell) (ds : Documents) → is_sorted int_cmp (d ∷ ds) ≡ true → next_docid (d ∷ ds) ≡ Some k → int_cmp d.0 k ≡ Less
+next_behind k d [] sorted next = next_of_one d.0 k next
+next_behind k d (e ∷ es) sorted next =
+    let parts = and_parts (below_all int_cmp d.0 (e ∷ es)) (is_sorted int_cmp (e ∷ es)) sorted in
+    int_cmp_total.trans d.0 e.0 k (less (int_cmp d.0 e.0) (and_parts (is_lt (int_cmp d.0 e.0)) (below_all int_cmp d.0 es) parts.0).0) (next_behind k e es parts.1 next)
+
+not_here : (k n : ℤ) → int_cmp n k ≡ Less → eq_by_cmp int_cmp k n ≡ false
+not_here k n is = (eq_by_cmp_equiv int_cmp_total).symm k n ∙ ap is_eq is
+
+next_is_new : (k : ℤ) (documents : Documents) → is_sorted int_cmp documents ≡ true → next_docid documents ≡ Some k → find int_cmp k documents ≡ None
+next_is_new k [] sorted next = refl
+next_is_new k (d ∷ []) sorted next = ap (λ b. cond b (Some d.1) None) (not_here k d.0 (next_behind k d [] sorted next))
+next_is_new k (d ∷ e ∷ es) sorted next =
+    let parts = and_parts (below_all int_cmp d.0 (e ∷ es)) (is_sorted int_cmp (e ∷ es)) sorted in
+    ap (λ b. cond b (Some d.1) (find int_cmp k (e ∷ es))) (not_here k d.0 (next_behind k d (e ∷ es) sorted next)) ∙ next_is_new k (e ∷ es) parts.1 next
+
+-- where one is put under two docids alike, and the first was new, so was the other
+same_docid : (a b : ℤ) (cells : List Cell) (documents : Documents) → find int_cmp a documents ≡ None → put int_cmp a cells documents ≡ put int_cmp b cells documents → find int_cmp b documents ≡ None
+same_docid a b cells documents none same = go (eq_by_cmp int_cmp a b) refl
+    (sym (find-put int_cmp int_cmp_total a b cells documents) ∙ ap (find int_cmp a) (sym same) ∙ find-put int_cmp int_cmp_total a a cells documents)
+  where
+    go : (t : Bool) → eq_by_cmp int_cmp a b ≡ t → cond (eq_by_cmp int_cmp a b) (Some cells) (find int_cmp a documents) ≡ cond (eq_by_cmp int_cmp a a) (Some cells) (find int_cmp a documents) → find int_cmp b documents ≡ None
+    go true e found = ap (λ k. find int_cmp k documents) (sym ((Decides-int_eq a b).0 e)) ∙ none
+    go false e found = absurd (let no : None ≡ Some cells = sym (ap (λ t. cond t (Some cells) (find int_cmp a documents)) e ∙ none) ∙ found ∙ ap (λ t. cond t (Some cells) (find int_cmp a documents)) (itself a) in cc)
+
+put_in : Result Documents Fault → Documents → Documents
+put_in (Ok documents) other = documents
+put_in (Err fault) other = other
+
+-- the docid that a row is put under is new
+pub row_is_new : (documents : Documents) (docids : List ℤ) (cells : List Cell) (docid : ℤ) → is_sorted int_cmp documents ≡ true → insert_row documents docids cells ≡ Ok (put int_cmp docid cells documents) → find int_cmp docid documents ≡ None
+unfolding put_in
+row_is_new documents [] cells docid sorted is = go (next_docid documents) refl is
+  where
+    go : (next : Option ℤ) → next_docid documents ≡ next → append_document documents next cells ≡ Ok (put int_cmp docid cells documents) → find int_cmp docid documents ≡ None
+    go None e h = absurd (let no = h in cc)
+    go (Some k) e h = same_docid k docid cells documents (next_is_new k documents sorted e) (ap (λ r. put_in r []) h)
+row_is_new documents (given ∷ docids) cells docid sorted is = go (has_docid documents given) refl is
+  where
+    go : (taken : Bool) → has_docid documents given ≡ taken → cond taken (Err (faults.DocidTaken given)) (Ok (put int_cmp given cells documents)) ≡ Ok (put int_cmp docid cells documents) → find int_cmp docid documents ≡ None
+    go true e h = absurd (let no = h in cc)
+    go false e h = same_docid given docid cells documents (not_some (find int_cmp given documents) e) (ap (λ r. put_in r []) h)
+
+-- whether a docid that is given is taken, in the store or by a new document
+pub taken_is : (given : Option ℤ) (new documents : Documents) (stored taken : Bool) → is_sorted int_cmp new ≡ true → IfSome given (λ docid. has_docid documents docid ≡ stored) →
+    ((stored ≡ true) × (taken ≡ true)) ⊎ ((stored ≡ false) × IfSome given (λ docid. taken ≡ is_some (find int_cmp docid new))) → IfSome given (λ docid. has_docid (all_put int_cmp new documents) docid ≡ taken)
+taken_is None new documents stored taken rising there by = tt
+taken_is (Some docid) new documents stored taken rising there (inl both) = has_all docid new documents rising ∙ ap (λ b. b || is_some (find int_cmp docid new)) (there ∙ both.0) ∙ sym both.1
+taken_is (Some docid) new documents stored taken rising there (inr none) = has_all docid new documents rising ∙ ap (λ b. b || is_some (find int_cmp docid new)) (there ∙ none.0) ∙ sym none.1
+
+-- ---- rows of an Insert one after another, and the rewrites that they make
 
 pub rows_step : (columns : List Column) (values : List (List ℕ × Cell)) (rows : List (List (List ℕ × Cell))) (documents after : Documents) → insert_row documents (docids_named values) (new_cells values columns) ≡ Ok after →
     inserted_rows columns (values ∷ rows) documents ≡ inserted_rows columns rows after

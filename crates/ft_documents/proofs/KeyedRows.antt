@@ -1,5 +1,5 @@
 -- Rows under keys: what is found in them after they are mapped, filtered and put.
-use Rattle.std.proofs.Common.{◌≡◌, All, Bool, true, false, cond, not, T, ◌&&◌, List, [], ◌∷◌, map, Option, Some, None, refl, sym, ap, subst, ◌∙◌, ℤ, filter, option_map, is_some, Ordering, Less, Equal, Greater, int_eq, is_eq, is_lt}
+use Rattle.std.proofs.Common.{◌≡◌, All, Bool, true, false, cond, not, T, ◌&&◌, List, [], ◌∷◌, map, Option, Some, None, refl, sym, ap, subst, ◌∙◌, ℤ, filter, option_map, is_some, Ordering, Less, Equal, Greater, int_eq, is_eq, is_lt, Bor, option_copied}
 use Rattle.std.specs.List.{AllByRecursion}
 use Rattle.std.specs.Ordering.{eq_by_cmp, ordering_then}
 use Rattle.std.specs.Cmp.{IsTotalOrder, eq_by_cmp_equiv, int_cmp_total, tied_itself}
@@ -9,7 +9,9 @@ use Rattle.std.proofs.lemmas.Bool.{and_parts, and_from}
 use Rattle.std.proofs.lemmas.List.Elements.{All-head, All-tail}
 use Rattle.std.proofs.lemmas.Map.Lookups.{CmpEqualImpliesEq}
 use Rattle.std.proofs.lemmas.Option.{same_Some}
-use Rattle.ft_rows.specs.Store.{without_key}
+use Rattle.std.specs.Option.{option_eq}
+use Rattle.std.specs.Map.{lookup}
+use Rattle.ft_rows.specs.Store.{without_key, column_key_cmp}
 use Rattle.ft_documents.specs.RewriteRows.{all_put, was_there, gone, changed}
 
 pub true_of : (b : Bool) → T b → b ≡ true
@@ -244,3 +246,15 @@ module _ {K V : Type 0} (R : K → K → Ordering) (o : IsTotalOrder R) (exact :
         find_all_put q (changed R same old new) (all_dropped (changed R other new old) rows) (sorted-filter (λ e. not (was_there same (find R e.0 old) e.1)) new h)
         ∙ (λ i. or_else (changed_found same q old new h i) (left i))
         ∙ renewed (find R q old) (find R q new) (find R q rows) there
+
+-- ---- what is found in a map is found in the rows that it shows
+
+pub find_looked_up : {K V : Type 0} (R : K → K → Ordering) (key : K) (es : List (K × V)) → find R key es ≡ lookup (λ k. is_eq (R key k)) es
+find_looked_up R key [] = refl
+find_looked_up R key (e ∷ es) = ap (cond (is_eq (R key e.0)) (Some e.1)) (find_looked_up R key es)
+
+-- whether exactly this size was found
+pub held_size : (key : ℤ × ℤ) (es : List ((ℤ × ℤ) × ℤ)) (n : Bor ℤ) (o : Option (Bor ℤ)) → option_copied o ≡ lookup (λ k. is_eq (column_key_cmp key k)) es →
+    option_eq (λ x y. int_eq x.now y.now) o (Some n) ≡ was_there int_eq (find column_key_cmp key es) n.now
+held_size key es n None found = ap (λ o. was_there int_eq o n.now) (found ∙ sym (find_looked_up column_key_cmp key es))
+held_size key es n (Some held) found = ap (λ o. was_there int_eq o n.now) (found ∙ sym (find_looked_up column_key_cmp key es))

@@ -19,11 +19,9 @@ use Rattle.ft_documents.specs.Rewrite.{Rewrite, befores, afters, document_if, re
 use Rattle.ft_documents.specs.RewriteRows.{with_entries, all_put, sized, same_cell, same_spots, gone, changed, numbered_cells, goes, dropped_documents, put_cells, put_documents, dropped_lists, dropped_sizes, lists_joined_by, index_lists_of, sizes_of, list_changes, rewrite_changes, same_spot, was_there}
 use Rattle.ft_documents.proofs.IndexOf.{lists_made}
 use Rattle.ft_documents.proofs.KeyedRows.{keys_put, each_found}
-use Rattle.ft_documents.proofs.StoreKeys.{column_exact, column_total, list_keys, cell_keys}
-use Rattle.ft_documents.proofs.DocumentRows.{one_by}
+use Rattle.ft_documents.proofs.StoreKeys.{column_exact, column_total, list_keys, cell_keys, find_joined}
+use Rattle.ft_documents.proofs.RowKinds.{one_by, one_list, lists_are, counts, sizes_are, cells_are}
 use Rattle.ft_documents.proofs.RewriteLemmas.{AreRowsOf, old_there, new_there, sorted_befores, sorted_afters}
-use Rattle.ft_documents.proofs.RowKinds.{one_list, lists_are, counts, sizes_are, cells_are}
-use Rattle.ft_documents.proofs.OwnRows.{find_joined}
 use Rattle.ft_documents.proofs.RightLemmas.{spots_decide, own_cells, own_lists, own_sizes}
 
 -- ---- the row changes of rewrites name their documents alone

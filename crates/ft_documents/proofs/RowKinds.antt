@@ -1,7 +1,12 @@
 -- The cells, lists and sizes of documents as rows under keys.
-use Rattle.std.proofs.Common.{◌≡◌, map-id, ℕ, Bool, true, false, cond, List, [], ◌∷◌, ◌++◌, map, length, Option, ℤ, pos, refl, sym, ap, ◌∙◌, nat_lt, filter, option_map, flat_map, int_cmp}
+use Rattle.std.proofs.Common.{◌≡◌, ℕ, ◌+◌, ◌<◌, Bool, true, false, cond, List, [], ◌∷◌, ◌++◌, map, Option, Some, None, ℤ, pos, refl, ap, ◌∙◌, arith, filter, flat_map, option_and_then, Ordering, Less, Equal, Greater, int_cmp, int_eq, is_eq, is_lt, map-id, length, sym, nat_lt, option_map}
 use Rattle.std.specs.List.{enumerate_from}
-use Rattle.std.specs.FinMap.Entries.{find, is_sorted}
+use Rattle.std.specs.Ordering.{ordering_then}
+use Rattle.std.specs.Cmp.{IsTotalOrder, int_cmp_total, tied_itself}
+use Rattle.std.specs.Option.{option_or}
+use Rattle.std.specs.FinMap.{int_cmp-IsAntisymmetric}
+use Rattle.std.specs.FinMap.Entries.{find, below_all, is_sorted}
+use Rattle.std.proofs.lemmas.Bool.{and_parts, and_from}
 use Rattle.std.proofs.lemmas.List.{map-append}
 use Rattle.std.proofs.lemmas.Simd.{map-map}
 use Rattle.ft_query.specs.Tokens.{PlainToken}
@@ -12,10 +17,127 @@ use Rattle.ft_content.specs.Index.{Key, key_cmp, StoredSpot, stored_spot, spot_l
 use Rattle.ft_content.specs.Laws.{content_with, document_lists}
 use Rattle.ft_content.proofs.PlanLemmas.{sorted_lists, old_found}
 use Rattle.ft_documents.specs.RewriteRows.{sized, numbered_cells, all_put, index_lists_of, sizes_of}
+use Rattle.ft_documents.proofs.KeyedRows.{none_below, true_of, of_true, find-values, sorted-values, put_in_order}
+use Rattle.ft_documents.proofs.CellSteps.{numbered_from, pos_less}
 use Rattle.ft_documents.proofs.StoreKeys.{column_total, column_exact}
-use Rattle.ft_documents.proofs.KeyedRows.{true_of, of_true, find-values, sorted-values, put_in_order}
-use Rattle.ft_documents.proofs.DocumentRows.{under, rows_by, one_by, sorted_by, find_by, passed_from, sorted_passed, sorted_numbered}
 use Rattle.ft_documents.proofs.RewriteLemmas.{AreRowsOf}
+
+-- ---- rows under docid and column that come of documents
+
+-- rows under numbers, under a key too
+abbrev pub under : {A V : Type 0} → A → List (ℤ × V) → List ((A × ℤ) × V)
+under a rows = map (λ c. ((a, c.0), c.1)) rows
+
+abbrev pub rows_by : {X V : Type 0} → (X → List (ℤ × V)) → List (ℤ × X) → List ((ℤ × ℤ) × V)
+rows_by rows_in es = flat_map (λ e. under e.0 (rows_in e.1)) es
+
+then_less : (o r : Ordering) → is_lt o ≡ true → is_lt (ordering_then o r) ≡ true
+then_less Less r h = refl
+then_less _ r h = absurd (let no = h in cc)
+
+abbrev both_cmp : {A : Type 0} → (A → A → Ordering) → A × ℤ → A × ℤ → Ordering
+both_cmp R x y = ordering_then (R x.0 y.0) (int_cmp x.1 y.1)
+
+module _ {A V : Type 0} (R : A → A → Ordering) (o : IsTotalOrder R) where
+  -- what is found among rows of one key, and after them
+  pub find_under : (q : A × ℤ) (a : A) (rows : List (ℤ × V)) (more : List ((A × ℤ) × V)) → find (both_cmp R) q (under a rows ++ more) ≡ cond (is_eq (R q.0 a)) (option_or (find int_cmp q.1 rows) (find (both_cmp R) q more)) (find (both_cmp R) q more)
+  find_under q a [] more = elim (is_eq (R q.0 a)) as (λ b. find (both_cmp R) q more ≡ cond b (find (both_cmp R) q more) (find (both_cmp R) q more)) [ true ↦ refl | false ↦ refl ]
+  find_under q a (c ∷ cs) more =
+      let other = find (both_cmp R) q more in
+      let rest = find_under q a cs more in
+      elim (R q.0 a) as (λ r. R q.0 a ≡ r → cond (is_eq (ordering_then r (int_cmp q.1 c.0))) (Some c.1) (find (both_cmp R) q (under a cs ++ more)) ≡ cond (is_eq r) (option_or (cond (int_eq q.1 c.0) (Some c.1) (find int_cmp q.1 cs)) other) other) [
+        | Less ↦ λ h. rest ∙ ap (λ r. cond (is_eq r) (option_or (find int_cmp q.1 cs) other) other) h
+        | Equal ↦ λ h. elim (int_eq q.1 c.0) as (λ b. cond b (Some c.1) (find (both_cmp R) q (under a cs ++ more)) ≡ option_or (cond b (Some c.1) (find int_cmp q.1 cs)) other) [
+          | true ↦ refl
+          | false ↦ rest ∙ ap (λ r. cond (is_eq r) (option_or (find int_cmp q.1 cs) other) other) h
+        ]
+        | Greater ↦ λ h. rest ∙ ap (λ r. cond (is_eq r) (option_or (find int_cmp q.1 cs) other) other) h
+      ] refl
+
+  pub below_under : (x : A × ℤ) (a : A) (rows : List (ℤ × V)) (more : List ((A × ℤ) × V)) → is_lt (R x.0 a) ≡ true → below_all (both_cmp R) x more ≡ true → below_all (both_cmp R) x (under a rows ++ more) ≡ true
+  below_under x a [] more less h = h
+  below_under x a (c ∷ cs) more less h = and_from (is_lt (both_cmp R x (a, c.0))) (below_all (both_cmp R) x (under a cs ++ more)) (then_less (R x.0 a) (int_cmp x.1 c.0) less) (below_under x a cs more less h)
+
+  below_own : (x : A × ℤ) (rows : List (ℤ × V)) (more : List ((A × ℤ) × V)) → below_all int_cmp x.1 rows ≡ true → below_all (both_cmp R) x more ≡ true → below_all (both_cmp R) x (under x.0 rows ++ more) ≡ true
+  below_own x [] more h g = g
+  below_own x (c ∷ cs) more h g =
+      let parts = and_parts (is_lt (int_cmp x.1 c.0)) (below_all int_cmp x.1 cs) h in
+      and_from (is_lt (both_cmp R x (x.0, c.0))) (below_all (both_cmp R) x (under x.0 cs ++ more)) (ap (λ r. is_lt (ordering_then r (int_cmp x.1 c.0))) (tied_itself o x.0) ∙ parts.0) (below_own x cs more parts.1 g)
+
+  pub sorted_under : (a : A) (rows : List (ℤ × V)) (more : List ((A × ℤ) × V)) → is_sorted int_cmp rows ≡ true → ((n : ℤ) → below_all (both_cmp R) (a, n) more ≡ true) → is_sorted (both_cmp R) more ≡ true → is_sorted (both_cmp R) (under a rows ++ more) ≡ true
+  sorted_under a [] more h below g = g
+  sorted_under a (c ∷ cs) more h below g =
+      let parts = and_parts (below_all int_cmp c.0 cs) (is_sorted int_cmp cs) h in
+      and_from (below_all (both_cmp R) (a, c.0) (under a cs ++ more)) (is_sorted (both_cmp R) (under a cs ++ more)) (below_own (a, c.0) cs more parts.0 (below c.0)) (sorted_under a cs more parts.1 below g)
+
+pub or_none : {V : Type 0} (o : Option V) → option_or o None ≡ o
+or_none None = refl
+or_none (Some v) = refl
+
+module _ {X V : Type 0} (rows_in : X → List (ℤ × V)) where
+  below_rows : (docid column : ℤ) (es : List (ℤ × X)) → below_all int_cmp docid es ≡ true → below_all column_key_cmp (docid, column) (rows_by rows_in es) ≡ true
+  below_rows docid column [] h = refl
+  below_rows docid column (e ∷ es) h =
+      let parts = and_parts (is_lt (int_cmp docid e.0)) (below_all int_cmp docid es) h in
+      below_under int_cmp int_cmp_total (docid, column) e.0 (rows_in e.1) (rows_by rows_in es) parts.0 (below_rows docid column es parts.1)
+
+  pub sorted_by : (es : List (ℤ × X)) → is_sorted int_cmp es ≡ true → ((x : X) → is_sorted int_cmp (rows_in x) ≡ true) → is_sorted column_key_cmp (rows_by rows_in es) ≡ true
+  sorted_by [] h each = refl
+  sorted_by (e ∷ es) h each =
+      let parts = and_parts (below_all int_cmp e.0 es) (is_sorted int_cmp es) h in
+      sorted_under int_cmp int_cmp_total e.0 (rows_in e.1) (rows_by rows_in es) (each e.1) (λ column. below_rows e.0 column es parts.0) (sorted_by es parts.1 each)
+
+  abbrev pub one_by : ℤ × ℤ → Option X → Option V
+  one_by q x = option_and_then (λ x. find int_cmp q.1 (rows_in x)) x
+
+  pub find_by : (q : ℤ × ℤ) (es : List (ℤ × X)) → is_sorted int_cmp es ≡ true → find column_key_cmp q (rows_by rows_in es) ≡ one_by q (find int_cmp q.0 es)
+  find_by q [] h = refl
+  find_by q (e ∷ es) h =
+      let parts = and_parts (below_all int_cmp e.0 es) (is_sorted int_cmp es) h in
+      let rest = find_by q es parts.1 in
+      let own = find int_cmp q.1 (rows_in e.1) in
+      find_under int_cmp int_cmp_total q e.0 (rows_in e.1) (rows_by rows_in es)
+      ∙ elim (int_eq q.0 e.0) as (λ b. int_eq q.0 e.0 ≡ b → cond b (option_or own (find column_key_cmp q (rows_by rows_in es))) (find column_key_cmp q (rows_by rows_in es)) ≡ one_by q (cond b (Some e.1) (find int_cmp q.0 es))) [
+        | true ↦ λ same. ap (option_or own) (rest ∙ ap (one_by q) (none_below int_cmp int_cmp_total int_cmp-IsAntisymmetric q.0 e.0 es same parts.0)) ∙ or_none own
+        | false ↦ λ apart. rest
+      ] refl
+
+-- ---- numbered elements
+
+module _ {X V : Type 0} (p : X → Bool) (f : X → V) where
+  -- those that pass, under their numbers from one on
+  abbrev pub passed_from : ℕ → List X → List (ℤ × V)
+  passed_from k xs = map (λ (c : ℕ × X). (pos c.0, f c.1)) (filter (λ (c : ℕ × X). p c.1) (enumerate_from k xs))
+
+  below_passed : (a k : ℕ) (xs : List X) → a < k → below_all int_cmp (pos a) (passed_from k xs) ≡ true
+  below_passed a k [] h = refl
+  below_passed a k (x ∷ xs) h =
+      let later : a < k + 1 = omega arith in
+      let rest = below_passed a (k + 1) xs later in
+      elim (p x) as (λ b. below_all int_cmp (pos a) (map (λ (c : ℕ × X). (pos c.0, f c.1)) (cond b ((k, x) ∷ filter (λ (c : ℕ × X). p c.1) (enumerate_from (k + 1) xs)) (filter (λ (c : ℕ × X). p c.1) (enumerate_from (k + 1) xs)))) ≡ true) [
+        | true ↦ and_from (is_lt (int_cmp (pos a) (pos k))) (below_all int_cmp (pos a) (passed_from (k + 1) xs)) (ap is_lt (pos_less a k h)) rest
+        | false ↦ rest
+      ]
+
+  pub sorted_passed : (k : ℕ) (xs : List X) → is_sorted int_cmp (passed_from k xs) ≡ true
+  sorted_passed k [] = refl
+  sorted_passed k (x ∷ xs) =
+      let next : k < k + 1 = omega arith in
+      let rest = sorted_passed (k + 1) xs in
+      elim (p x) as (λ b. is_sorted int_cmp (map (λ (c : ℕ × X). (pos c.0, f c.1)) (cond b ((k, x) ∷ filter (λ (c : ℕ × X). p c.1) (enumerate_from (k + 1) xs)) (filter (λ (c : ℕ × X). p c.1) (enumerate_from (k + 1) xs)))) ≡ true) [
+        | true ↦ and_from (below_all int_cmp (pos k) (passed_from (k + 1) xs)) (is_sorted int_cmp (passed_from (k + 1) xs)) (below_passed k (k + 1) xs next) rest
+        | false ↦ rest
+      ]
+
+below_numbered : {X : Type 0} (a k : ℕ) (xs : List X) → a < k → below_all int_cmp (pos a) (numbered_from k xs) ≡ true
+below_numbered a k [] h = refl
+below_numbered a k (x ∷ xs) h = let later : a < k + 1 = omega arith in and_from (is_lt (int_cmp (pos a) (pos k))) (below_all int_cmp (pos a) (numbered_from (k + 1) xs)) (ap is_lt (pos_less a k h)) (below_numbered a (k + 1) xs later)
+
+pub sorted_numbered : {X : Type 0} (k : ℕ) (xs : List X) → is_sorted int_cmp (numbered_from k xs) ≡ true
+sorted_numbered k [] = refl
+sorted_numbered k (x ∷ xs) = let next : k < k + 1 = omega arith in and_from (below_all int_cmp (pos k) (numbered_from (k + 1) xs)) (is_sorted int_cmp (numbered_from (k + 1) xs)) (below_numbered k (k + 1) xs next) (sorted_numbered (k + 1) xs)
+
+-- ---- the cells, lists and sizes of documents as rows under keys
 
 -- ---- cells
 

@@ -1,17 +1,19 @@
 -- Rows are a content where their columns, the numbers of those that aren't indexed, and their cells
 -- are those of one.
-use Rattle.std.proofs.Common.{◌≡◌, ℕ, ◌+◌, ◌<◌, ◌≤◌, Bool, true, not, ◌&&◌, ◌||◌, List, [], ◌∷◌, map, length, ℤ, pos, refl, sym, ap, subst, ◌∙◌, ltb-true, lt-ltb, le-leb, nat_lt, nat_le, IsTrue, int_eq, is_eq}
+use Rattle.std.proofs.Common.{◌≡◌, ℕ, ◌+◌, ◌<◌, ◌≤◌, Bool, true, not, ◌&&◌, ◌||◌, List, [], ◌∷◌, map, length, ℤ, pos, refl, sym, ap, subst, ◌∙◌, ltb-true, lt-ltb, le-leb, nat_lt, nat_le, IsTrue, int_eq, is_eq, ◌≢◌, ◌==◌, false, cond, ◌++◌, Option, Some, None, arith, eqb-true, eq-eqb, flat_map, int_cmp, is_lt}
 use Rattle.std.specs.List.{list_any, list_all, enumerate_from}
 use Rattle.std.specs.Cmp.{int_cmp_total, tied_itself, eq_by_cmp_equiv}
 use Rattle.std.specs.Cmp.Lexicographic.{pointwise}
 use Rattle.std.specs.FinMap.{int_cmp-IsAntisymmetric}
-use Rattle.std.proofs.lemmas.Bool.{and_parts, and_from}
+use Rattle.std.proofs.lemmas.Bool.{and_parts, and_from, false_from_ne_true}
 use Rattle.std.proofs.lemmas.Bool.Decides.{Decides-int_eq}
 use Rattle.std.proofs.lemmas.Slice.Eq.{slice_eq-Decides}
-use Rattle.ft_content.specs.Content.{Column, Content, TableRows, content_in, are_columns, skipped_from, is_name, names_of, names_clash}
+use Rattle.std.specs.FinMap.Entries.{below_all, is_sorted}
+use Rattle.ft_values.specs.Cells.{Cell}
+use Rattle.ft_content.specs.Content.{Column, Content, TableRows, content_in, are_columns, skipped_from, is_name, names_of, names_clash, CellRow, Documents, document_rows, is_cell, is_document}
 use Rattle.ft_content.proofs.RowLemmas.{rows_are_read}
-use Rattle.ft_documents.specs.Standing.{AreContent, AreDocumentCells, numbered_from, columns_said}
-use Rattle.ft_documents.proofs.KeyedRows.{tie}
+use Rattle.ft_documents.specs.Standing.{AreContent, AreDocumentCells, numbered_from, columns_said, stands_after, follows}
+use Rattle.ft_documents.proofs.KeyedRows.{tie, below_lower, same_int}
 
 abbrev under_numbers : ℕ → List Column → List (ℤ × List ℕ)
 under_numbers k columns = map (λ (c : ℕ × Column). (pos c.0, c.1.name)) (enumerate_from k columns)
@@ -78,3 +80,168 @@ tested name columns names fit clash are some few fits clashes =
     ∙ ap (λ ns. list_all is_name ns && not (names_clash name ns)) are
     ∙ sym (ap (λ t. (t && nat_le (length columns) 100) && list_all is_name (names_of columns) && not (names_clash name (names_of columns))) (lt-ltb 0 (length columns) some)
     ∙ ap (λ t. t && list_all is_name (names_of columns) && not (names_clash name (names_of columns))) (le-leb (length columns) 100 few))
+
+-- ---- cells that follow one another are those of documents
+
+abbrev pub next_place : ℕ → ℕ → ℕ
+next_place width place = cond (place + 1 == width) 0 (place + 1)
+
+-- each cell follows the one before it, and the last one ends a document
+abbrev pub follow : ℕ → ℕ → Option ℤ → List CellRow → Bool
+follow width place last [] = place == 0
+follow width place last (cell ∷ cells) = follows place last cell && follow width (next_place width place) (Some cell.docid) cells
+
+abbrev cells_from : ℕ → ℤ → List Cell → List CellRow
+cells_from k docid cells = map (λ (c : ℕ × Cell). record { docid = docid; column = pos c.0; value = c.1 }) (enumerate_from k cells)
+
+abbrev above : Option ℤ → Documents → Bool
+above None documents = true
+above (Some last) documents = below_all int_cmp last documents
+
+-- cells from the beginning of a document on
+record Whole (width : ℕ) (last : Option ℤ) (cells : List CellRow) : Type 0 where
+  documents : Documents
+  each : list_all (is_document width) documents ≡ true
+  rising : is_sorted int_cmp documents ≡ true
+  behind : above last documents ≡ true
+  is : cells ≡ flat_map document_rows documents
+
+-- cells from a place within a document on
+record Begun (width place : ℕ) (docid : ℤ) (cells : List CellRow) : Type 0 where
+  own : List Cell
+  long : place + length own ≡ width
+  each : list_all is_cell own ≡ true
+  rest : List CellRow
+  whole : Whole width (Some docid) rest
+  is : cells ≡ cells_from place docid own ++ rest
+
+abbrev Rest : ℕ → ℕ → Option ℤ → List CellRow → Bool → Type 0
+Rest width place last cells true = Whole width last cells
+Rest width place None cells false = Unit {0}
+Rest width place (Some docid) cells false = Begun width place docid cells
+
+later_place : (k : ℕ) → (k + 1 == 0) ≡ false
+later_place k = false_from_ne_true (k + 1 == 0) (λ h. let e : k + 1 ≡ 0 = eqb-true (k + 1) 0 h in omega arith)
+
+-- ---- cells that follow one another
+
+a_document : (width : ℕ) (docid : ℤ) (own : List Cell) → length own ≡ width → list_all is_cell own ≡ true → is_document width (docid, own) ≡ true
+a_document width docid own long each = and_from (length own == width) (list_all is_cell own) (eq-eqb _ _ long) each
+
+-- from the first place a document begins
+starts : (width : ℕ) (last : Option ℤ) (cell : CellRow) (cells : List CellRow) → stands_after 0 last cell.docid ≡ true → Begun width 0 cell.docid (cell ∷ cells) → Whole width last (cell ∷ cells)
+starts width last cell cells after b = record {
+  documents = (cell.docid, b.own) ∷ b.whole.documents;
+  each = and_from (is_document width (cell.docid, b.own)) (list_all (is_document width) b.whole.documents) (a_document width cell.docid b.own (omega (arith, b.long)) b.each) b.whole.each;
+  rising = and_from (below_all int_cmp cell.docid b.whole.documents) (is_sorted int_cmp b.whole.documents) b.whole.behind b.whole.rising;
+  behind = all_behind last after;
+  is = b.is ∙ ap (λ rest. cells_from 0 cell.docid b.own ++ rest) b.whole.is;
+}
+  where
+    all_behind : (last : Option ℤ) → stands_after 0 last cell.docid ≡ true → above last ((cell.docid, b.own) ∷ b.whole.documents) ≡ true
+    all_behind None after = refl
+    all_behind (Some last) after = and_from (is_lt (int_cmp last cell.docid)) (below_all int_cmp last b.whole.documents) after (below_lower int_cmp int_cmp_total last cell.docid b.whole.documents after b.whole.behind)
+
+-- and at each other place it goes on
+goes_on : (width place : ℕ) (first : Bool) → (place == 0) ≡ first → (last : Option ℤ) (cell : CellRow) (cells : List CellRow) → stands_after place last cell.docid ≡ true → Begun width place cell.docid (cell ∷ cells) → Rest width place last (cell ∷ cells) first
+goes_on width place true zero last cell cells after b =
+    let e : place ≡ 0 = eqb-true place 0 zero in
+    starts width last cell cells (subst (λ k. stands_after k last cell.docid ≡ true) e after) (subst (λ k. Begun width k cell.docid (cell ∷ cells)) e b)
+goes_on width place false more None cell cells after b = tt
+goes_on width place false more (Some last) cell cells after b =
+    let same : int_eq last cell.docid ≡ true = ap (λ t. cond t (is_lt (int_cmp last cell.docid)) (int_eq last cell.docid)) (sym more) ∙ after in
+    subst (λ d. Begun width place d (cell ∷ cells)) (sym (same_int last cell.docid same)) b
+
+-- a cell in front
+joins : (width place : ℕ) (last : Bool) → (place + 1 == width) ≡ last → (cell : CellRow) (cells : List CellRow) → cell.column ≡ pos place → is_cell cell.value ≡ true →
+    Rest width (cond last 0 (place + 1)) (Some cell.docid) cells (cond last 0 (place + 1) == 0) → Begun width place cell.docid (cell ∷ cells)
+joins width place true end cell cells column fine rest = record {
+  own = cell.value ∷ [];
+  long = eqb-true (place + 1) width end;
+  each = and_from (is_cell cell.value) true fine refl;
+  rest = cells;
+  whole = rest;
+  is = ap (λ c. record { docid = cell.docid; column = c; value = cell.value } ∷ cells) column;
+}
+joins width place false end cell cells column fine rest =
+    let b : Begun width (place + 1) cell.docid cells = subst (λ t. Rest width (place + 1) (Some cell.docid) cells t) (later_place place) rest in
+    record {
+      own = cell.value ∷ b.own;
+      long = omega (arith, b.long);
+      each = and_from (is_cell cell.value) (list_all is_cell b.own) fine b.each;
+      rest = b.rest;
+      whole = b.whole;
+      is = (λ i. record { docid = cell.docid; column = column i; value = cell.value } ∷ b.is i);
+    }
+
+all_follow : (width place : ℕ) (last : Option ℤ) (cells : List CellRow) → follow width place last cells ≡ true → Rest width place last cells (place == 0)
+all_follow width place last [] h = subst (λ t. Rest width place last [] t) (sym h) (record { documents = []; each = refl; rising = refl; behind = none last; is = refl })
+  where
+    none : (last : Option ℤ) → above last [] ≡ true
+    none None = refl
+    none (Some last) = refl
+all_follow width place last (cell ∷ cells) h =
+    let parts = and_parts (follows place last cell) (follow width (next_place width place) (Some cell.docid) cells) h in
+    let two = and_parts (int_eq cell.column (pos place) && is_cell cell.value) (stands_after place last cell.docid) parts.0 in
+    let one = and_parts (int_eq cell.column (pos place)) (is_cell cell.value) two.0 in
+    goes_on width place (place == 0) refl last cell cells two.1
+    (joins width place (place + 1 == width) refl cell cells (same_int cell.column (pos place) one.0) one.1 (all_follow width (next_place width place) (Some cell.docid) cells parts.1))
+
+pub are_documents : (width : ℕ) (cells : List CellRow) → follow width 0 None cells ≡ true → AreDocumentCells width cells
+are_documents width cells h = let w = all_follow width 0 None cells h in record { documents = w.documents; each = w.each; rising = w.rising; are = w.is }
+
+-- ---- cells of documents follow one another
+
+pub apart : (j k : ℕ) → j ≢ k → (j == k) ≡ false
+apart j k h = false_from_ne_true (j == k) (λ same. h (eqb-true j k same))
+
+here : (place : ℕ) (last : Option ℤ) (docid : ℤ) (cell : Cell) → stands_after place last docid ≡ true → is_cell cell ≡ true → follows place last (record { docid = docid; column = pos place; value = cell }) ≡ true
+here place last docid cell after fine = and_from (int_eq (pos place) (pos place) && is_cell cell) (stands_after place last docid) (and_from (int_eq (pos place) (pos place)) (is_cell cell) (ap is_eq (tied_itself int_cmp_total (pos place))) fine) after
+
+same_document : (place : ℕ) (docid : ℤ) → stands_after (place + 1) (Some docid) docid ≡ true
+same_document place docid = ap (λ t. cond t (is_lt (int_cmp docid docid)) (int_eq docid docid)) (later_place place) ∙ ap is_eq (tied_itself int_cmp_total docid)
+
+begun_follow : (width place : ℕ) (last : Option ℤ) (docid : ℤ) (cell : Cell) (own : List Cell) (rest : List CellRow) → stands_after place last docid ≡ true → place + length (cell ∷ own) ≡ width → list_all is_cell (cell ∷ own) ≡ true →
+    follow width 0 (Some docid) rest ≡ true → follow width place last (cells_from place docid (cell ∷ own) ++ rest) ≡ true
+begun_follow width place last docid cell [] rest after long each h =
+    let row : CellRow = record { docid = docid; column = pos place; value = cell } in
+    let parts = and_parts (is_cell cell) true each in
+    and_from (follows place last row) (follow width (next_place width place) (Some docid) rest) (here place last docid cell after parts.0)
+    (ap (λ t. follow width (cond t 0 (place + 1)) (Some docid) rest) (eq-eqb (place + 1) width (omega (arith, long))) ∙ h)
+begun_follow width place last docid cell (next ∷ own) rest after long each h =
+    let row : CellRow = record { docid = docid; column = pos place; value = cell } in
+    let parts = and_parts (is_cell cell) (list_all is_cell (next ∷ own)) each in
+    let others = cells_from (place + 1) docid (next ∷ own) ++ rest in
+    let not_yet : (place + 1 == width) ≡ false = apart (place + 1) width (omega (arith, long)) in
+    and_from (follows place last row) (follow width (next_place width place) (Some docid) others) (here place last docid cell after parts.0)
+    (ap (λ t. follow width (cond t 0 (place + 1)) (Some docid) others) not_yet
+    ∙ begun_follow width (place + 1) (Some docid) docid next own rest (same_document place docid) (omega (arith, long)) parts.1 h)
+
+after_last : (last : Option ℤ) (d : ℤ × List Cell) (ds : Documents) → above last (d ∷ ds) ≡ true → stands_after 0 last d.0 ≡ true
+after_last None d ds h = refl
+after_last (Some last) d ds h = (and_parts (is_lt (int_cmp last d.0)) (below_all int_cmp last ds) h).0
+
+first_follow : (width : ℕ) (last : Option ℤ) (docid : ℤ) (own : List Cell) (rest : List CellRow) → 0 < width → stands_after 0 last docid ≡ true → length own ≡ width → list_all is_cell own ≡ true → follow width 0 (Some docid) rest ≡ true →
+    follow width 0 last (cells_from 0 docid own ++ rest) ≡ true
+first_follow width last docid [] rest some after long each h = absurd (let e : 0 ≡ width = long in omega (arith, some, e))
+first_follow width last docid (cell ∷ own) rest some after long each h = begun_follow width 0 last docid cell own rest after (omega (arith, long)) each h
+
+documents_follow : (width : ℕ) (last : Option ℤ) (documents : Documents) → 0 < width → list_all (is_document width) documents ≡ true → is_sorted int_cmp documents ≡ true → above last documents ≡ true → follow width 0 last (flat_map document_rows documents) ≡ true
+documents_follow width last [] some each rising behind = refl
+documents_follow width last (d ∷ ds) some each rising behind =
+    let parts = and_parts (is_document width d) (list_all (is_document width) ds) each in
+    let order = and_parts (below_all int_cmp d.0 ds) (is_sorted int_cmp ds) rising in
+    let own = and_parts (length d.1 == width) (list_all is_cell d.1) parts.0 in
+    first_follow width last d.0 d.1 (flat_map document_rows ds) some (after_last last d ds behind) (eqb-true (length d.1) width own.0) own.1 (documents_follow width (Some d.0) ds some parts.1 order.1 order.0)
+
+pub all_documents_follow : (width : ℕ) (cells : List CellRow) → 0 < width → AreDocumentCells width cells → follow width 0 None cells ≡ true
+all_documents_follow width cells some are = ap (follow width 0 None) are.are ∙ documents_follow width None are.documents some are.each are.rising refl
+
+pub a_step : (width place next : ℕ) (last : Option ℤ) (cell : CellRow) (cells : List CellRow) (all : Bool) → follows place last cell ≡ true → next ≡ next_place width place → follow width place last (cell ∷ cells) ≡ all → follow width next (Some cell.docid) cells ≡ all
+a_step width place next last cell cells all here is h = ap (λ k. follow width k (Some cell.docid) cells) is ∙ sym (ap (λ t. t && follow width (next_place width place) (Some cell.docid) cells) here) ∙ h
+
+pub no_step : (width place : ℕ) (last : Option ℤ) (cell : CellRow) (cells : List CellRow) (all : Bool) → follows place last cell ≡ false → follow width place last (cell ∷ cells) ≡ all → all ≡ false
+no_step width place last cell cells all here h = sym h ∙ ap (λ t. t && follow width (next_place width place) (Some cell.docid) cells) here
+
+pub told : (width : ℕ) (cells : List CellRow) (b : Bool) → 0 < width → follow width 0 None cells ≡ b → (IsTrue b → AreDocumentCells width cells) × (AreDocumentCells width cells → IsTrue b)
+told width cells b some is = ((λ h. are_documents width cells (is ∙ h)), (λ are. sym is ∙ all_documents_follow width cells some are))

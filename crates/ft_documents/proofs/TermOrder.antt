@@ -35,7 +35,7 @@ use Rattle.ft_documents.specs.RewriteRows.{with_spots}
 use Rattle.ft_documents.specs.Terms.{Group, group_spots, lists_in_groups, spots_of_docid, by_docids, lists_of_terms}
 use Rattle.ft_documents.specs.Placed.{rise}
 use Rattle.ft_documents.proofs.KeyedRows.{true_of, of_true, tie, none_found, below_lower, same_int}
-use Rattle.ft_documents.proofs.DocumentRows.{find_under, below_under, sorted_under, or_none}
+use Rattle.ft_documents.proofs.RowKinds.{find_under, below_under, sorted_under, or_none}
 
 -- ---- what spots make under their keys, one after another
 

@@ -6,7 +6,7 @@ use Rattle.ft_values.specs.Cells.{shown_value}
 use Rattle.ft_content.specs.Content.{gathered}
 use Rattle.ft_documents.specs.declared.documents.Document.{Document}
 use Rattle.ft_documents.specs.Gathered.{shown_document, gathered_row, with_last}
-use Rattle.ft_documents.proofs.GatheredRows.{joined, behind, first_of_all, gathered_more, gathered_none}
+use Rattle.ft_documents.proofs.ReadRows.{joined, behind, first_of_all, gathered_more, gathered_none}
 use Rattle.ft_documents.proofs.documents.gathered.Goals as goal
 use Rattle.ft_documents.proofs.documents.gathered.Goals.{in-Some-pop+then-last-docid, in-Some-pop+else-last-docid+in_ok-push, in_default}
 

@@ -2,7 +2,7 @@
 use Rattle.std.proofs.Common.{sym, subst, rules}
 use Rattle.std.proofs.lemmas.Result.{IfOk-weaker}
 use Rattle.ft_documents.specs.Matched.{TellsHit}
-use Rattle.ft_documents.proofs.TakenLemmas.{told_whole, told_bare}
+use Rattle.ft_documents.proofs.MatchedLemmas.{told_whole, told_bare}
 use Rattle.ft_documents.proofs.hits.next_hit.Goals as goal
 
 pub returns-then-wants_offsets : goal.returns-then-wants_offsets

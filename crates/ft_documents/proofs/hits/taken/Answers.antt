@@ -6,7 +6,7 @@ use Rattle.ft_query.specs.Trees.{tree_of}
 use Rattle.ft_query.specs.Occurs.{PlainHit, plain_hit, hits_of}
 use Rattle.ft_content.specs.Answer.{cut}
 use Rattle.ft_documents.specs.Matched.{as_wanted}
-use Rattle.ft_documents.proofs.TakenLemmas.{full, whole, ended}
+use Rattle.ft_documents.proofs.MatchedLemmas.{full, whole, ended}
 use Rattle.ft_documents.proofs.hits.taken.Goals as goal
 use Rattle.ft_documents.proofs.hits.taken.Goals.{else-loop-alloc-test, then-loop-alloc-test+in_ok-hit+in_default}
 

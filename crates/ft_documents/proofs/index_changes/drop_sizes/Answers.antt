@@ -4,7 +4,7 @@ use Rattle.ft_rows.specs.Store.{column_key_cmp, DropSize}
 use Rattle.ft_rows.specs.Changes.{shown_change}
 use Rattle.ft_documents.specs.RewriteRows.{gone, dropped_sizes}
 use Rattle.ft_documents.proofs.Steps.{kept_more, change_more}
-use Rattle.ft_documents.proofs.MapSteps.{find_looked_up}
+use Rattle.ft_documents.proofs.KeyedRows.{find_looked_up}
 use Rattle.ft_documents.proofs.index_changes.drop_sizes.Goals as goal
 
 pub loop-key-preserved-in-Continue-1 : goal.loop-key-preserved-in-Continue-1

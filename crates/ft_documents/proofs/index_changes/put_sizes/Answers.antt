@@ -4,7 +4,7 @@ use Rattle.ft_rows.specs.Store.{column_key_cmp, PutSize}
 use Rattle.ft_rows.specs.Changes.{shown_change}
 use Rattle.ft_documents.specs.RewriteRows.{was_there, changed, put_sizes}
 use Rattle.ft_documents.proofs.Steps.{kept_more, change_more}
-use Rattle.ft_documents.proofs.MapSteps.{held_size}
+use Rattle.ft_documents.proofs.KeyedRows.{held_size}
 use Rattle.ft_documents.proofs.index_changes.put_sizes.Goals as goal
 
 pub loop-key-preserved-in-Continue-1 : goal.loop-key-preserved-in-Continue-1

@@ -2,7 +2,7 @@ use Rattle.std.proofs.Common.{◌≡◌, ◌<◌, ◌+◌, ◌==◌, cond, map, 
 use Rattle.std.proofs.lemmas.List.{drop_all}
 use Rattle.ft_documents.specs.Standing.{shown_row}
 use Rattle.ft_documents.proofs.Steps.{taken_more}
-use Rattle.ft_documents.proofs.StandingCells.{follow, next_place, apart, a_step, no_step, told}
+use Rattle.ft_documents.proofs.StandingContent.{follow, next_place, apart, a_step, no_step, told}
 use Rattle.ft_documents.proofs.standing_rows.are_documents.Goals as goal
 use Rattle.ft_documents.proofs.standing_rows.are_documents.Goals.{then-place-width, else-place-width}
 

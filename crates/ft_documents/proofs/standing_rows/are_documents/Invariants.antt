@@ -1,7 +1,7 @@
 -- the cells that are left follow as all do
 use Rattle.std.proofs.Common.{◌≡◌, ◌<◌, map, drop, None}
 use Rattle.ft_documents.specs.Standing.{shown_row}
-use Rattle.ft_documents.proofs.StandingCells.{follow}
+use Rattle.ft_documents.proofs.StandingContent.{follow}
 use Rattle.ft_documents.proofs.standing_rows.are_documents.Given as goal
 
 abbrev pub invariant-loop-cell : goal.invariant-loop-cell

@@ -14,10 +14,9 @@ use Rattle.ft_content.specs.Views.{cells_of, column_of, placed, last_docid}
 use Rattle.ft_documents.specs.NewDocuments.{shown_new, shown_documents, with_new, AreBeside, Places}
 use Rattle.ft_documents.specs.RewriteRows.{all_put}
 use Rattle.sqlite_keyed.proofs.SliceLemmas.{is_some-map}
-use Rattle.ft_documents.proofs.MapSteps.{find_looked_up}
-use Rattle.ft_documents.proofs.KeyedRows.{keys_put, true_of, of_true, find-values, sorted_put}
+use Rattle.ft_documents.proofs.KeyedRows.{find_looked_up, keys_put, true_of, of_true, find-values, sorted_put}
 use Rattle.ft_documents.proofs.IndexOf.{insert_put}
-use Rattle.ft_documents.proofs.NewRows.{taken_is, row_is_new, put_shown, all_put_more, not_stored}
+use Rattle.ft_documents.proofs.InsertRows.{taken_is, row_is_new, put_shown, all_put_more, not_stored}
 use Rattle.ft_documents.proofs.new_documents.NewDocuments.add.Goals as goal
 use Rattle.ft_documents.proofs.new_documents.NewDocuments.add.Goals.{then-is_stored, else-is_stored, After-docid_for_row}
 
