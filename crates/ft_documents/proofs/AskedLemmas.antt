@@ -170,29 +170,15 @@ put_moves e (x ∷ xs) none = go (entry_cmp e x.0) none (put_moves e xs)
     go Equal h more = absurd (let no = h in cc)
     go Greater h more = IsPermutation-trans _ _ _ (IsPermutation-middle (e ∷ []) x.0 (firsts xs)) (IsPermutation-cons x.0 _ _ (more h))
 
-set_count : (es : List Entry) → length (entry_set es) ≤ length es
+set_is : (es : List Entry) → (length (entry_set es) ≤ length es) × (length (entry_set es) ≡ length es → IsPermutation es (firsts (entry_set es)))
 unfolding entry_set
-set_count [] = omega arith
-set_count (e ∷ es) =
-    let rest = set_count es in
-    let put_count = length-put entry_cmp entry_total e tt (entry_set es) (sorted_set es) in
-    go (is_some (find entry_cmp e (entry_set es))) rest put_count
+set_is [] = (omega arith, λ _. IsPermutation-refl _)
+set_is (e ∷ es) = go (find entry_cmp e (entry_set es)) refl (length-put entry_cmp entry_total e tt (entry_set es) (sorted_set es)) (set_is es).0 (set_is es).1
   where
-    go : (b : Bool) → length (entry_set es) ≤ length es → length (put entry_cmp e tt (entry_set es)) ≡ cond b (length (entry_set es)) (length (entry_set es) + 1) → length (put entry_cmp e tt (entry_set es)) ≤ suc (length es)
-    go true rest count = omega arith
-    go false rest count = omega arith
-
-pub set_moves : (es : List Entry) → length (entry_set es) ≡ length es → IsPermutation es (firsts (entry_set es))
-unfolding entry_set
-set_moves [] count = IsPermutation-refl _
-set_moves (e ∷ es) count = go (find entry_cmp e (entry_set es)) refl (length-put entry_cmp entry_total e tt (entry_set es) (sorted_set es)) (set_moves es)
-  where
-    go : (found : Option (Unit {0})) → find entry_cmp e (entry_set es) ≡ found → length (put entry_cmp e tt (entry_set es)) ≡ cond (is_some found) (length (entry_set es)) (length (entry_set es) + 1) →
-        (length (entry_set es) ≡ length es → IsPermutation es (firsts (entry_set es))) → IsPermutation (e ∷ es) (firsts (put entry_cmp e tt (entry_set es)))
-    go (Some x) is grows more = absurd (let most = set_count es in let whole : length (put entry_cmp e tt (entry_set es)) ≡ suc (length es) = count in omega arith)
-    go None is grows more =
-        let whole : length (put entry_cmp e tt (entry_set es)) ≡ suc (length es) = count in
-        IsPermutation-trans _ _ _ (IsPermutation-cons e _ _ (more (omega arith))) (put_moves e (entry_set es) is)
+    go : (found : Option (Unit {0})) → find entry_cmp e (entry_set es) ≡ found → length (put entry_cmp e tt (entry_set es)) ≡ cond (is_some found) (length (entry_set es)) (length (entry_set es) + 1) → length (entry_set es) ≤ length es →
+        (length (entry_set es) ≡ length es → IsPermutation es (firsts (entry_set es))) → (length (put entry_cmp e tt (entry_set es)) ≤ suc (length es)) × (length (put entry_cmp e tt (entry_set es)) ≡ suc (length es) → IsPermutation (e ∷ es) (firsts (put entry_cmp e tt (entry_set es))))
+    go (Some x) is grows most more = (omega arith, λ whole. absurd (omega arith))
+    go None is grows most more = (omega arith, λ whole. IsPermutation-trans _ _ _ (IsPermutation-cons e _ _ (more (omega arith))) (put_moves e (entry_set es) is))
 
 -- ---- the places of lists, one after another
 
@@ -334,7 +320,7 @@ module _ (ds : List Document) (order : AreDocuments ds) (test : List ℕ → Boo
       let same : all_in (lists_with test ds) ≡ map bare set = ap all_in means ∙ in_grouped set in
       let many : length (entry_set es) ≡ length es =
       sym (length-map (entry_set es) (λ (e : Entry × Unit {0}). e.0)) ∙ sym (length-map set bare) ∙ sym (ap length same) ∙ all_count (lists_with test ds) ∙ counted in
-      let moved : IsPermutation (map bare es) (map bare set) = IsPermutation-map bare es set (set_moves es many) in
+      let moved : IsPermutation (map bare es) (map bare set) = IsPermutation-map bare es set ((set_is es).1 many) in
       let ordered : IsPermutation (all_in (lists_with test ds)) shown.places =
       IsPermutation-trans _ _ _ (subst (λ (ps : List Placed). IsPermutation ps (all_in (map list_of rows))) (sym same)
       (subst (λ (ps : List Placed). IsPermutation (map bare set) ps) (sym are) (IsPermutation-sym _ _ moved))) shown.same in

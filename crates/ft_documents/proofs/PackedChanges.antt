@@ -7,6 +7,8 @@ use Rattle.std.proofs.lemmas.Bool.Decides.{nat_tests}
 use Rattle.std.proofs.lemmas.List.Elements.{All-nil, All-cons, All-head, All-tail, All-append, All-filter, recursion_from_All, All-from_recursion, All-map, All-weaker}
 use Rattle.std.proofs.lemmas.List.Kept.{AllPairs-filter}
 use Rattle.std.specs.FinMap.Entries.{find, is_sorted}
+use Rattle.std.proofs.Math.Bool.{or-true}
+use Rattle.sqlite_trees.proofs.ListLemmas.{all_of}
 use Rattle.sqlite_keyed.proofs.ListLemmas.{map-map}
 use Rattle.ft_query.specs.Tokens.{PlainToken, tokens_of}
 use Rattle.ft_query.specs.Documents.{Posting, posting, IsBefore, postings_of}
@@ -53,10 +55,6 @@ all_low n (t ∷ ts) numbered apart low =
           (later_starts n t ts here (recursion_from_All (λ u. t.start + t.size < u.start) ts (pairs_head (λ a b. a.start + a.size < b.start) t ts apart))),
     )
 
-from_zero : (ts : List PlainToken) → AllByRecursion (λ (t : PlainToken). 0 ≤ t.start) ts
-from_zero [] = tt
-from_zero (t ∷ ts) = (omega arith, from_zero ts)
-
 abbrev IsSmall : PlainToken → Type 0
 IsSmall t = (t.pos < 1000000) × (t.start < 1000000) × (0 < t.size) × (t.size ≤ 1000000)
 
@@ -69,7 +67,7 @@ small most (t ∷ ts) few low filled within =
     ((omega (arith, a, b, c, few), omega (arith, b, c, few), b, omega (arith, c, few)), small most ts few low.1 (All-tail (λ (t : PlainToken). 0 < t.size) t ts filled) (All-tail (λ (t : PlainToken). t.start + t.size ≤ most) t ts within))
 
 small_tokens : (text : List ℕ) → length text ≤ 1000000 → AllByRecursion IsSmall (tokens_of text)
-small_tokens text few = let are = computed_tokens text in small (length text) (tokens_of text) few (all_low 0 (tokens_of text) are.positions are.apart (from_zero (tokens_of text))) are.filled are.within
+small_tokens text few = let are = computed_tokens text in small (length text) (tokens_of text) few (all_low 0 (tokens_of text) are.positions are.apart (all_of (λ (t : PlainToken). 0 ≤ t.start) (λ _. omega arith) (tokens_of text))) are.filled are.within
 
 -- ---- postings of a document
 
@@ -77,8 +75,7 @@ abbrev IsPlace : Posting → Type 0
 IsPlace p = (p.place.column ≤ 99) × (p.place.pos < 1000000) × (p.place.start < 1000000) × (0 < p.place.size) × (p.place.size ≤ 1000000)
 
 column_places : (c : ℕ) (ts : List PlainToken) → c ≤ 99 → AllByRecursion IsSmall ts → All IsPlace (map (posting c) ts)
-column_places c [] few are = All-nil IsPlace
-column_places c (t ∷ ts) few are = All-cons IsPlace (posting c t) (map (posting c) ts) (few, are.0.0, are.0.1, are.0.2, are.0.3) (column_places c ts few are.1)
+column_places c ts few are = All-map IsPlace (posting c) ts (All-weaker IsSmall (λ t. IsPlace (posting c t)) (λ t is. (few, is.0, is.1, is.2, is.3)) ts (All-from_recursion IsSmall ts are))
 
 -- indexed texts of at most 1,000,000 bytes, as documents have
 abbrev pub AreShortTexts : List Column → List Cell → Type 0
@@ -138,12 +135,8 @@ is_behind p q before = elim before [
       let a : (p.place.column == q.place.column) ≡ true = grind (arith, nat_tests, h.0) in
       let b : nat_lt p.place.pos q.place.pos ≡ true = grind (arith, nat_tests, h.1) in
       let c : nat_lt p.place.start q.place.start ≡ true = grind (arith, nat_tests, h.2) in
-      (λ i. nat_lt p.place.column q.place.column || (a i && b i && c i)) ∙ either_way (nat_lt p.place.column q.place.column)
+      (λ i. nat_lt p.place.column q.place.column || (a i && b i && c i)) ∙ or-true (nat_lt p.place.column q.place.column)
 ]
-  where
-    either_way : (b : Bool) → (b || true) ≡ true
-    either_way true = refl
-    either_way false = refl
 
 places_rise : (p : Posting) (ps : List Posting) → All IsPlace ps → AllPairs IsBefore (p ∷ ps) → packing.rise_after (place_of p) (map place_of ps) ≡ true
 places_rise p [] are rise = refl

@@ -1,6 +1,6 @@
 -- The row changes of rewrites lead to the rows and the index rows of the documents as they are to
 -- be.
-use Rattle.std.proofs.Common.{◌≡◌, true, false, cond, not, ◌&&◌, List, [], ◌∷◌, ◌++◌, map, ℤ, refl, sym, ap, ◌∙◌, filter, unwrap_or, int_cmp, int_eq, ℕ, ◌+◌, ◌≤◌, Bool, ◌||◌, length, Option, Some, None, pos, subst, arith, is_some, All, ◌==◌, flat_map}
+use Rattle.std.proofs.Common.{get_or, ◌≡◌, true, false, cond, not, ◌&&◌, List, [], ◌∷◌, ◌++◌, map, ℤ, refl, sym, ap, ◌∙◌, filter, unwrap_or, int_cmp, int_eq, ℕ, ◌+◌, ◌≤◌, Bool, ◌||◌, length, Option, Some, None, pos, subst, arith, is_some, All, ◌==◌, flat_map}
 use Rattle.std.specs.FinMap.Entries.{put, where_key, is_sorted, is_sorted-where_key, find, below_all, find-where_key, same_entries}
 use Rattle.std.proofs.lemmas.List.{map-append}
 use Rattle.std.proofs.lemmas.Simd.{map-map}
@@ -320,10 +320,7 @@ wide_at width documents docid (Some b) (Some a) h is fits =
     omega (arith, one, other)
 
 all_wide : (width : ℕ) (documents : Documents) (rewrites : List Rewrite) → list_all (is_document width) documents ≡ true → All (λ (r : Rewrite). r.before ≡ find int_cmp r.docid documents) rewrites → All (FitIfAny width) rewrites → All (λ (r : Rewrite). wide r.before r.after) rewrites
-all_wide width documents [] h known fits = All-nil (λ (r : Rewrite). wide r.before r.after)
-all_wide width documents (r ∷ rs) h known fits =
-    All-cons (λ (r : Rewrite). wide r.before r.after) r rs (wide_at width documents r.docid r.before r.after h (All-head (λ (r : Rewrite). r.before ≡ find int_cmp r.docid documents) r rs known) (All-head (FitIfAny width) r rs fits))
-    (all_wide width documents rs h (All-tail (λ (r : Rewrite). r.before ≡ find int_cmp r.docid documents) r rs known) (All-tail (FitIfAny width) r rs fits))
+all_wide width documents rewrites h known fits = λ k d within. let r = get_or rewrites k d in wide_at width documents r.docid r.before r.after h (known k d within) (fits k d within)
 
 -- ---- rows of a table under keys without it
 

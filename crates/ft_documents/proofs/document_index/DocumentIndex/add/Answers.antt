@@ -33,28 +33,26 @@ loop-place-preserved c =
     mapped_more (λ cs. document_tokens cs (drop place cells)) column_of c.args.columns.now place column one c.index-columns-place.is
     ∙ mapped_more (λ vs. document_tokens (column_of column ∷ drop (place + 1) columns) vs) shown_value c.as_slice-values.result.now place value other c.index-values-place.is in
     let same = ap (λ x. x.indexed) c.index-columns-place.is in
-    let lists : lists_in new ≡ with_entries (cell_entries c.args.docid place tokens) (lists_in old) =
+    let adds : (lists_in new ≡ with_entries (cell_entries c.args.docid place tokens) (lists_in old)) × (sizes_in new ≡ all_put column_key_cmp (sized (cell_sizes c.args.docid place (length tokens))) (sizes_in old)) × (column.indexed ≡ true → IsShortNumber (shown_value value)) =
     elim c.if-columns-place.branch [
-      | then-columns-place+in_ok-add_cell w ↦ ap lists_in w.self-is ∙ w.in_ok-add_cell.ensures.lists ∙ (λ i. with_entries (cell_entries (t i) place (tokens_of (cond (sym (same ∙ w.if-columns-place.true) i) (cell_text (shown_value value)) []))) (lists_in old))
-      | else-columns-place w ↦ ap lists_in w.self-is ∙ (λ i. with_entries (cell_entries c.args.docid place (tokens_of (cond (sym (same ∙ w.if-columns-place.false) i) (cell_text (shown_value value)) []))) (lists_in old))
-    ] in
-    let sizes : sizes_in new ≡ all_put column_key_cmp (sized (cell_sizes c.args.docid place (length tokens))) (sizes_in old) =
-    elim c.if-columns-place.branch [
-      | then-columns-place+in_ok-add_cell w ↦ ap sizes_in w.self-is ∙ w.in_ok-add_cell.ensures.sizes ∙ (λ i. all_put column_key_cmp (sized (cell_sizes (t i) place (length (tokens_of (cond (sym (same ∙ w.if-columns-place.true) i) (cell_text (shown_value value)) []))))) (sizes_in old))
-      | else-columns-place w ↦ ap sizes_in w.self-is ∙ (λ i. all_put column_key_cmp (sized (cell_sizes c.args.docid place (length (tokens_of (cond (sym (same ∙ w.if-columns-place.false) i) (cell_text (shown_value value)) []))))) (sizes_in old))
+      | then-columns-place+in_ok-add_cell w ↦ (
+        ap lists_in w.self-is ∙ w.in_ok-add_cell.ensures.lists ∙ (λ i. with_entries (cell_entries (t i) place (tokens_of (cond (sym (same ∙ w.if-columns-place.true) i) (cell_text (shown_value value)) []))) (lists_in old)),
+        ap sizes_in w.self-is ∙ w.in_ok-add_cell.ensures.sizes ∙ (λ i. all_put column_key_cmp (sized (cell_sizes (t i) place (length (tokens_of (cond (sym (same ∙ w.if-columns-place.true) i) (cell_text (shown_value value)) []))))) (sizes_in old)),
+        (λ _. w.in_ok-add_cell.ensures.number),
+      )
+      | else-columns-place w ↦ (
+        ap lists_in w.self-is ∙ (λ i. with_entries (cell_entries c.args.docid place (tokens_of (cond (sym (same ∙ w.if-columns-place.false) i) (cell_text (shown_value value)) []))) (lists_in old)),
+        ap sizes_in w.self-is ∙ (λ i. all_put column_key_cmp (sized (cell_sizes c.args.docid place (length (tokens_of (cond (sym (same ∙ w.if-columns-place.false) i) (cell_text (shown_value value)) []))))) (sizes_in old)),
+        (λ is. absurd (let no : false ≡ true = sym w.if-columns-place.false ∙ sym same ∙ is in cc)),
+      )
     ] in
     let first_column = mapped_more (λ cs. cs) column_of c.args.columns.now place column one c.index-columns-place.is in
     let first_cell = mapped_more (λ vs. vs) shown_value c.as_slice-values.result.now place value other c.index-values-place.is in
-    let number : column.indexed ≡ true → IsShortNumber (shown_value value) =
-    elim c.if-columns-place.branch [
-      | then-columns-place+in_ok-add_cell w ↦ λ _. w.in_ok-add_cell.ensures.number
-      | else-columns-place w ↦ λ is. absurd (let no : false ≡ true = sym w.if-columns-place.false ∙ sym same ∙ is in cc)
-    ] in
     let so_far = rw t at c.loop-place.invariant in
     rw t (
-      lists_more c.args.docid place tokens rest (lists_in old) (lists_in new) _ lists (ap (λ ts. with_entries (entries_from c.args.docid place ts) (lists_in old)) (sym left) ∙ so_far.0),
-      sizes_more c.args.docid place tokens rest (sizes_in old) (sizes_in new) _ sizes (ap (λ ts. all_put column_key_cmp (sizes_from c.args.docid place ts) (sizes_in old)) (sym left) ∙ so_far.1),
-      (λ rest. c.loop-place.invariant.2 (subst (λ cs. AreShortNumbers cs (drop place cells)) (sym first_column) (subst (λ vs. AreShortNumbers (column_of column ∷ drop (place + 1) columns) vs) (sym first_cell) (number, rest)))),
+      lists_more c.args.docid place tokens rest (lists_in old) (lists_in new) _ adds.0 (ap (λ ts. with_entries (entries_from c.args.docid place ts) (lists_in old)) (sym left) ∙ so_far.0),
+      sizes_more c.args.docid place tokens rest (sizes_in old) (sizes_in new) _ adds.1 (ap (λ ts. all_put column_key_cmp (sizes_from c.args.docid place ts) (sizes_in old)) (sym left) ∙ so_far.1),
+      (λ rest. c.loop-place.invariant.2 (subst (λ cs. AreShortNumbers cs (drop place cells)) (sym first_column) (subst (λ vs. AreShortNumbers (column_of column ∷ drop (place + 1) columns) vs) (sym first_cell) (adds.2, rest)))),
     )
 
 pub returns : goal.returns
