@@ -1,19 +1,16 @@
 -- The row changes of rewrites lead to the rows and the index rows of the documents as they are to
 -- be.
-use Rattle.std.proofs.Common.{get_or, ◌≡◌, true, false, cond, not, ◌&&◌, List, [], ◌∷◌, ◌++◌, map, ℤ, refl, sym, ap, ◌∙◌, filter, unwrap_or, int_cmp, int_eq, ℕ, ◌+◌, ◌≤◌, Bool, ◌||◌, length, Option, Some, None, pos, subst, arith, is_some, All, ◌==◌, flat_map}
+use Rattle.std.proofs.Common.{get_or, ◌≡◌, true, false, cond, not, ◌&&◌, List, [], ◌∷◌, ◌++◌, map, ℤ, refl, sym, ap, ◌∙◌, filter, unwrap_or, int_cmp, int_eq, ℕ, ◌+◌, ◌≤◌, Bool, ◌||◌, length, Option, Some, None, pos, subst, arith, is_some, All, ◌==◌, flat_map, Decides}
 use Rattle.std.specs.FinMap.Entries.{put, where_key, is_sorted, is_sorted-where_key, find, below_all, find-where_key, same_entries}
 use Rattle.std.proofs.lemmas.List.{map-append}
-use Rattle.std.proofs.lemmas.Simd.{map-map}
 use Rattle.std.specs.List.{list_any, list_all}
 use Rattle.std.specs.Cmp.{int_cmp_total}
-use Rattle.std.specs.FinMap.{int_cmp-IsAntisymmetric}
-use Rattle.std.specs.Bool.{Decides}
 use Rattle.std.proofs.lemmas.Bool.{and_parts}
 use Rattle.std.proofs.lemmas.List.Elements.{All-map, All-nil, All-cons, All-head, All-tail, All-from_recursion}
 use Rattle.std.proofs.lemmas.Map.Lookups.{exact_signed}
 use Rattle.std.proofs.lemmas.Slice.Eq.{bytes_eq-Decides, slice_eq-Decides}
 use Rattle.std.proofs.lemmas.Bool.Decides.{nat_tests}
-use Rattle.sqlite_keyed.proofs.ListLemmas.{all_from_test}
+use Rattle.sqlite_keyed.proofs.ListLemmas.{map-map, all_from_test}
 use Rattle.ft_values.specs.Cells.{Cell, Null, Int, Text}
 use Rattle.ft_rows.specs.Store.{StoreValue, CellKey, cell_key_cmp, list_key_cmp, column_key_cmp, without_key, Change, PutCell, DropCells, all_applied, AreInOrder, ListKey}
 use Rattle.ft_content.specs.Index.{Key, StoredSpot, key_cmp, index_rows}
@@ -145,7 +142,7 @@ goes_found docid (r ∷ rs) h =
     elim (int_eq docid r.docid) as (λ b. int_eq docid r.docid ≡ b → any (cond (goes r) (r ∷ filter goes rs) (filter goes rs)) ≡ goes_at (cond b (Some r) (find int_cmp docid (under_docids rs)))) [
       | true ↦ λ same. elim (goes r) as (λ g. any (cond g (r ∷ filter goes rs) (filter goes rs)) ≡ g) [
         | true ↦ ap (λ b. b || any (filter goes rs)) same
-        | false ↦ rest ∙ ap goes_at (none_below int_cmp int_cmp_total int_cmp-IsAntisymmetric docid r.docid (under_docids rs) same parts.0)
+        | false ↦ rest ∙ ap goes_at (none_below int_cmp int_cmp_total exact_signed docid r.docid (under_docids rs) same parts.0)
       ]
       | false ↦ λ apart. elim (goes r) as (λ g. any (cond g (r ∷ filter goes rs) (filter goes rs)) ≡ goes_at (find int_cmp docid (under_docids rs))) [
         | true ↦ ap (λ b. b || any (filter goes rs)) apart ∙ rest
@@ -162,9 +159,9 @@ cell_sound (Text s) (Text t) h = ap Text ((bytes_eq-Decides s t).0 h)
 cell_sound _ _ h = absurd (let no = h in cc)
 
 abbrev either_cell : Option Cell → Option Cell → Option Cell
-either_cell = or_else int_cmp int_cmp_total int_cmp-IsAntisymmetric
+either_cell = or_else int_cmp int_cmp_total exact_signed
 
-cell_case : (old new : Option Cell) → (new ≡ None → old ≡ None) → either_cell (fresh int_cmp int_cmp_total int_cmp-IsAntisymmetric same_cell old new) old ≡ new
+cell_case : (old new : Option Cell) → (new ≡ None → old ≡ None) → either_cell (fresh int_cmp int_cmp_total exact_signed same_cell old new) old ≡ new
 cell_case old None short = short refl
 cell_case None (Some v) short = refl
 cell_case (Some w) (Some v) short =
@@ -197,15 +194,15 @@ written_cells : (q : ℤ × ℤ) (before after : Cells) → wide before after �
     either_cell (find int_cmp q.1 (new_of before after)) (cond (is_some before && not (is_some after)) None (one_by numbered_cells q before)) ≡ one_by numbered_cells q after
 written_cells q None None w = refl
 written_cells q None (Some a) w =
-    ap (λ o. either_cell o None) (changed_found int_cmp int_cmp_total int_cmp-IsAntisymmetric same_cell q.1 [] (numbered_cells a) (sorted_numbered 0 a)) ∙ cell_case None (find int_cmp q.1 (numbered_cells a)) (λ _. refl)
+    ap (λ o. either_cell o None) (changed_found int_cmp int_cmp_total exact_signed same_cell q.1 [] (numbered_cells a) (sorted_numbered 0 a)) ∙ cell_case None (find int_cmp q.1 (numbered_cells a)) (λ _. refl)
 written_cells q (Some b) None w = refl
 written_cells q (Some b) (Some a) w =
-    ap (λ o. either_cell o (find int_cmp q.1 (numbered_cells b))) (changed_found int_cmp int_cmp_total int_cmp-IsAntisymmetric same_cell q.1 (numbered_cells b) (numbered_cells a) (sorted_numbered 0 a))
+    ap (λ o. either_cell o (find int_cmp q.1 (numbered_cells b))) (changed_found int_cmp int_cmp_total exact_signed same_cell q.1 (numbered_cells b) (numbered_cells a) (sorted_numbered 0 a))
     ∙ cell_case (find int_cmp q.1 (numbered_cells b)) (find int_cmp q.1 (numbered_cells a)) (none_shorter q.1 0 b a w)
 
 -- what holds of all rewrites holds of the one that is found
 pub found_passes : (P : Rewrite → Type 0) (docid : ℤ) (rewrites : List Rewrite) (r : Rewrite) → All P rewrites → find int_cmp docid (under_docids rewrites) ≡ Some r → P r
-found_passes P docid rewrites r h = found_holds int_cmp int_cmp_total int_cmp-IsAntisymmetric (λ (e : ℤ × Rewrite). P e.1) docid r (under_docids rewrites) (All-map (λ (e : ℤ × Rewrite). P e.1) (λ (r : Rewrite). (r.docid, r)) rewrites h)
+found_passes P docid rewrites r h = found_holds int_cmp int_cmp_total exact_signed (λ (e : ℤ × Rewrite). P e.1) docid r (under_docids rewrites) (All-map (λ (e : ℤ × Rewrite). P e.1) (λ (r : Rewrite). (r.docid, r)) rewrites h)
 
 pub cells_right : (documents : Documents) (rewrites : List Rewrite) → is_sorted int_cmp documents ≡ true → is_sorted int_cmp (under_docids rewrites) ≡ true → All (λ (r : Rewrite). r.before ≡ find int_cmp r.docid documents) rewrites → All (λ (r : Rewrite). wide r.before r.after) rewrites →
     all_put column_key_cmp (rows_by new_cells (under_docids rewrites)) (documents_dropped (filter goes rewrites) (rows_by numbered_cells documents)) ≡ rows_by numbered_cells (rewritten rewrites documents)
@@ -213,7 +210,7 @@ cells_right documents rewrites ordered rising known fits =
     let puts = rows_by new_cells (under_docids rewrites) in
     let rows = rows_by numbered_cells documents in
     let left = documents_dropped (filter goes rewrites) rows in
-    let each : (r : Rewrite) → is_sorted int_cmp (new_cells r) ≡ true = λ r. sorted-filter int_cmp int_cmp_total int_cmp-IsAntisymmetric (λ (c : ℤ × Cell). not (was_there same_cell (find int_cmp c.0 (numbered_cells (unwrap_or r.before []))) c.1)) (numbered_cells (unwrap_or r.after [])) (sorted_numbered 0 (unwrap_or r.after [])) in
+    let each : (r : Rewrite) → is_sorted int_cmp (new_cells r) ≡ true = λ r. sorted-filter int_cmp int_cmp_total exact_signed (λ (c : ℤ × Cell). not (was_there same_cell (find int_cmp c.0 (numbered_cells (unwrap_or r.before []))) c.1)) (numbered_cells (unwrap_or r.after [])) (sorted_numbered 0 (unwrap_or r.after [])) in
     let in_order = cells_are.sorted documents ordered in
     let of_rewrite : ℤ × ℤ → Option Rewrite = λ q. find int_cmp q.0 (under_docids rewrites) in
     let either_row = or_else column_key_cmp column_total column_exact in

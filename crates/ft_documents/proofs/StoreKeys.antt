@@ -5,8 +5,7 @@ use Rattle.std.specs.Cmp.{IsTotalOrder, int_cmp_total, tied_itself}
 use Rattle.std.specs.FinMap.Entries.{put, find, below_all, is_sorted, is_sorted-put, find-put, same_entries}
 use Rattle.std.proofs.lemmas.Bool.{and_parts, and_from}
 use Rattle.std.proofs.lemmas.Map.Lookups.{CmpEqualImpliesEq, exact_signed, exact_bytes}
-use Rattle.std.specs.Cmp.Lexicographic.{nat_list_cmp_total}
-use Rattle.std.proofs.lemmas.Cmp.{on_total, then_total}
+use Rattle.std.proofs.lemmas.Cmp.{on_total, then_total, nat_list_cmp_total}
 use Rattle.ft_rows.specs.Store.{without_key, CellKey, ListKey, cell_key_cmp, list_key_cmp, column_key_cmp}
 use Rattle.ft_content.specs.Index.{Key, key_cmp}
 use Rattle.ft_content.proofs.IndexLemmas.{key_cmp_total, key_cmp_exact}

@@ -15,11 +15,10 @@ use Rattle.std.proofs.lemmas.Map.Lookups.{exact_bytes}
 use Rattle.std.proofs.lemmas.Map.Made.{lookup-map_values, keys_of-map_values}
 use Rattle.std.proofs.lemmas.Map.Text.{is_eq-slice_cmp}
 use Rattle.std.specs.Option.{option_or}
-use Rattle.std.specs.Cmp.{IsStrictWeakOrder, IsTotalOrder, int_cmp_total}
+use Rattle.std.specs.Cmp.{IsStrictWeakOrder, IsTotalOrder, int_cmp_total, on_total}
 use Rattle.std.specs.Fn.{Called, ComparesAs}
 use Rattle.std.specs.List.Sorted.{IsStrictlySortedBy}
 use Rattle.std.proofs.lemmas.Bool.{and_parts, and_from}
-use Rattle.std.proofs.lemmas.Cmp.{on_total}
 use Rattle.std.proofs.lemmas.Fn.{always_returns_same}
 use Rattle.std.proofs.lemmas.List.Sorted.{IsPermutation-sym, IsPermutation-map, All-permutation, Contains-permutation, ranks_by}
 use Rattle.std.proofs.lemmas.Simd.{map-map}
