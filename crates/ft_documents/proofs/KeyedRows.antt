@@ -160,15 +160,13 @@ module _ {K V : Type 0} (R : K → K → Ordering) (o : IsTotalOrder R) (exact :
   find-filter p q (e ∷ es) h =
       let parts = and_parts (below_all R e.0 es) (is_sorted R es) h in
       let rest = find-filter p q es parts.1 in
-      elim (eq_by_cmp R q e.0) as (λ b. eq_by_cmp R q e.0 ≡ b → find R q (cond (p e) (e ∷ filter p es) (filter p es)) ≡ kept p q (cond b (Some e.1) (find R q es))) [
-        | true ↦ λ same. elim (p e) as (λ c. p e ≡ c → find R q (cond c (e ∷ filter p es) (filter p es)) ≡ cond (p (q, e.1)) (Some e.1) None) [
-          | true ↦ λ passes. ap (λ b. cond b (Some e.1) (find R q (filter p es))) same ∙ sym (ap (λ b. cond b (Some e.1) None) (ap (λ k. p (k, e.1)) (exact q e.0 (tie _ same)) ∙ passes))
-          | false ↦ λ fails. rest ∙ ap (kept p q) (none_below q e.0 es same parts.0) ∙ sym (ap (λ b. cond b (Some e.1) None) (ap (λ k. p (k, e.1)) (exact q e.0 (tie _ same)) ∙ fails))
+      let at : eq_by_cmp R q e.0 ≡ true → p (q, e.1) ≡ p e = λ same. ap (λ k. p (k, e.1)) (exact q e.0 (tie _ same)) in
+      elim (p e) as (λ c. p e ≡ c → find R q (cond c (e ∷ filter p es) (filter p es)) ≡ kept p q (cond (eq_by_cmp R q e.0) (Some e.1) (find R q es))) [
+        | true ↦ λ passes. elim (eq_by_cmp R q e.0) as (λ b. eq_by_cmp R q e.0 ≡ b → cond b (Some e.1) (find R q (filter p es)) ≡ kept p q (cond b (Some e.1) (find R q es))) [ true ↦ λ same. sym (ap (λ b. cond b (Some e.1) None) (at same ∙ passes)) | false ↦ λ _. rest ] refl
+        | false ↦ λ fails. elim (eq_by_cmp R q e.0) as (λ b. eq_by_cmp R q e.0 ≡ b → find R q (filter p es) ≡ kept p q (cond b (Some e.1) (find R q es))) [
+          | true ↦ λ same. rest ∙ ap (kept p q) (none_below q e.0 es same parts.0) ∙ sym (ap (λ b. cond b (Some e.1) None) (at same ∙ fails))
+          | false ↦ λ _. rest
         ] refl
-        | false ↦ λ apart. elim (p e) as (λ c. find R q (cond c (e ∷ filter p es) (filter p es)) ≡ kept p q (find R q es)) [
-          | true ↦ ap (λ b. cond b (Some e.1) (find R q (filter p es))) apart ∙ rest
-          | false ↦ rest
-        ]
       ] refl
 
   -- ---- rows that are dropped by their keys

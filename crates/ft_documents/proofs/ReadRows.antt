@@ -130,14 +130,11 @@ values-append : (docid : ℤ) (xs ys : List CellRow) → values_at docid (xs ++ 
 values-append docid xs ys = ap (map value_of_row) (filter-append (is_of docid) xs ys) ∙ map-append value_of_row (filter (is_of docid) xs) (filter (is_of docid) ys)
 
 values_of_document : (docid k : ℤ) (b : Bool) (n : ℕ) (cells : List Cell) → int_eq docid k ≡ b → values_at docid (map (row_of k) (enumerate_from n cells)) ≡ cond b cells []
-values_of_document docid k true n [] is = refl
-values_of_document docid k false n [] is = refl
-values_of_document docid k true n (cell ∷ cells) is =
+values_of_document docid k b n [] is = elim b as (λ b. ◌≡◌ {A = List Cell} [] (cond b [] [])) [ true ↦ refl | false ↦ refl ]
+values_of_document docid k b n (cell ∷ cells) is =
     let rest : List CellRow = filter (is_of docid) (map (row_of k) (enumerate_from (n + 1) cells)) in
-    ap (λ b. map value_of_row (cond b (row_of k (n, cell) ∷ rest) rest)) is ∙ ap (λ l. cell ∷ l) (values_of_document docid k true (n + 1) cells is)
-values_of_document docid k false n (cell ∷ cells) is =
-    let rest : List CellRow = filter (is_of docid) (map (row_of k) (enumerate_from (n + 1) cells)) in
-    ap (λ b. map value_of_row (cond b (row_of k (n, cell) ∷ rest) rest)) is ∙ values_of_document docid k false (n + 1) cells is
+    ap (λ b. map value_of_row (cond b (row_of k (n, cell) ∷ rest) rest)) is
+    ∙ elim b as (λ b. map value_of_row rest ≡ cond b cells [] → map value_of_row (cond b (row_of k (n, cell) ∷ rest) rest) ≡ cond b (cell ∷ cells) []) [ true ↦ λ more. ap (λ l. cell ∷ l) more | false ↦ λ more. more ] (values_of_document docid k b (n + 1) cells is)
 
 pub values_found : (docid : ℤ) (documents : Documents) → is_sorted int_cmp documents ≡ true → values_at docid (rows_in documents) ≡ unwrap_or (find int_cmp docid documents) []
 values_found docid [] h = refl

@@ -43,15 +43,10 @@ find_held held docid [] h = refl
 find_held held docid (r ∷ rs) h =
     let parts = and_parts (below_all int_cmp r.docid (under_docids rs)) (is_sorted int_cmp (under_docids rs)) h in
     let rest = find_held held docid rs parts.1 in
-    elim (int_eq docid r.docid) as (λ b. int_eq docid r.docid ≡ b → find int_cmp docid (document_if r.docid (held r) ++ held_in held rs) ≡ option_and_then held (cond b (Some r) (find int_cmp docid (under_docids rs)))) [
-      | true ↦ λ same. elim (held r) as (λ cells. find int_cmp docid (document_if r.docid cells ++ held_in held rs) ≡ cells) [
-        | None ↦ rest ∙ ap (option_and_then held) (unwritten docid r rs same parts.0)
-        | Some cells ↦ ap (λ b. cond b (Some cells) (find int_cmp docid (held_in held rs))) same
-      ]
-      | false ↦ λ apart. elim (held r) as (λ cells. find int_cmp docid (document_if r.docid cells ++ held_in held rs) ≡ option_and_then held (find int_cmp docid (under_docids rs))) [
-        | None ↦ rest
-        | Some cells ↦ ap (λ b. cond b (Some cells) (find int_cmp docid (held_in held rs))) apart ∙ rest
-      ]
+    let later = find int_cmp docid (under_docids rs) in
+    elim (held r) as (λ cells. held r ≡ cells → find int_cmp docid (document_if r.docid cells ++ held_in held rs) ≡ option_and_then held (cond (int_eq docid r.docid) (Some r) later)) [
+      | None ↦ λ is. elim (int_eq docid r.docid) as (λ b. int_eq docid r.docid ≡ b → find int_cmp docid (held_in held rs) ≡ option_and_then held (cond b (Some r) later)) [ true ↦ λ same. rest ∙ ap (option_and_then held) (unwritten docid r rs same parts.0) ∙ sym is | false ↦ λ _. rest ] refl
+      | Some cells ↦ λ is. elim (int_eq docid r.docid) as (λ b. cond b (Some cells) (find int_cmp docid (held_in held rs)) ≡ option_and_then held (cond b (Some r) later)) [ true ↦ sym is | false ↦ rest ]
     ] refl
 
 -- ---- documents after rewrites

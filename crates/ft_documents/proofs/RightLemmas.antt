@@ -138,16 +138,14 @@ goes_found docid [] h = refl
 goes_found docid (r ∷ rs) h =
     let parts = and_parts (below_all int_cmp r.docid (under_docids rs)) (is_sorted int_cmp (under_docids rs)) h in
     let rest = goes_found docid rs parts.1 in
-    let any = list_any (λ (r : Rewrite). int_eq docid r.docid) in
-    elim (int_eq docid r.docid) as (λ b. int_eq docid r.docid ≡ b → any (cond (goes r) (r ∷ filter goes rs) (filter goes rs)) ≡ goes_at (cond b (Some r) (find int_cmp docid (under_docids rs)))) [
-      | true ↦ λ same. elim (goes r) as (λ g. any (cond g (r ∷ filter goes rs) (filter goes rs)) ≡ g) [
-        | true ↦ ap (λ b. b || any (filter goes rs)) same
-        | false ↦ rest ∙ ap goes_at (none_below int_cmp int_cmp_total exact_signed docid r.docid (under_docids rs) same parts.0)
-      ]
-      | false ↦ λ apart. elim (goes r) as (λ g. any (cond g (r ∷ filter goes rs) (filter goes rs)) ≡ goes_at (find int_cmp docid (under_docids rs))) [
-        | true ↦ ap (λ b. b || any (filter goes rs)) apart ∙ rest
-        | false ↦ rest
-      ]
+    let any = list_any (λ (r : Rewrite). int_eq docid r.docid) (filter goes rs) in
+    let later = find int_cmp docid (under_docids rs) in
+    elim (goes r) as (λ g. goes r ≡ g → list_any (λ (r : Rewrite). int_eq docid r.docid) (cond g (r ∷ filter goes rs) (filter goes rs)) ≡ goes_at (cond (int_eq docid r.docid) (Some r) later)) [
+      | true ↦ λ is. elim (int_eq docid r.docid) as (λ b. (b || any) ≡ goes_at (cond b (Some r) later)) [ true ↦ sym is | false ↦ rest ]
+      | false ↦ λ is. elim (int_eq docid r.docid) as (λ b. int_eq docid r.docid ≡ b → any ≡ goes_at (cond b (Some r) later)) [
+        | true ↦ λ same. rest ∙ ap goes_at (none_below int_cmp int_cmp_total exact_signed docid r.docid (under_docids rs) same parts.0) ∙ sym is
+        | false ↦ λ _. rest
+      ] refl
     ] refl
 
 -- ---- cells that are new or differ

@@ -112,11 +112,7 @@ abbrev pub had_under : Key → Has → List StoredSpot
 had_under q m = cond (is_term q.0 m.0) (m.1 q.1) []
 
 own_spots : (q : Key) (t : Term) (ps : List Posting) → spots_under q (map (λ (p : Posting). ((string_bytes t, p.docid), p.spot)) ps) ≡ cond (is_term q.0 t) (spots_of_docid ps q.1) []
-own_spots q t [] = nothing (is_term q.0 t) []
-  where
-    nothing : (b : Bool) (ss : List StoredSpot) → ss ≡ cond b ss ss
-    nothing true ss = refl
-    nothing false ss = refl
+own_spots q t [] = elim (is_term q.0 t) as (λ b. ◌≡◌ {A = List StoredSpot} [] (cond b [] [])) [ true ↦ refl | false ↦ refl ]
 own_spots q t (p ∷ ps) =
     let x : Key × StoredSpot = ((string_bytes t, p.docid), p.spot) in
     let left : List (Key × StoredSpot) = filter (λ (y : Key × StoredSpot). is_eq (key_cmp q y.0)) (map (λ (r : Posting). ((string_bytes t, r.docid), r.spot)) ps) in
