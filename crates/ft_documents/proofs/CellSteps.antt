@@ -1,5 +1,5 @@
 -- The cells of a document under their columns.
-use Rattle.std.proofs.Common.{◌≡◌, ℕ, zero, suc, ◌+◌, ◌^◌, ◌<◌, ◌≤◌, Bool, true, false, cond, not, List, [], ◌∷◌, ◌++◌, map, length, get_or, Some, None, ℤ, pos, refl, sym, ap, ◌∙◌, arith, nat_lt, to_z, w64, Option, Bor, rules, IfSome, MatchOption, filter, slice_get, HoldsAt, Less, Equal, Greater, int_cmp, is_eq}
+use Rattle.std.proofs.Common.{◌≡◌, ℕ, zero, suc, ◌+◌, ◌^◌, ◌<◌, ◌≤◌, Bool, true, false, cond, not, List, [], ◌∷◌, ◌++◌, map, length, get_or, Some, None, ℤ, pos, refl, sym, ap, ◌∙◌, arith, to_z, w64, Option, Bor, rules, IfSome, MatchOption, filter, slice_get, HoldsAt, Less, Greater, int_cmp, is_eq}
 use Rattle.std.specs.List.{enumerate_from}
 use Rattle.std.specs.Option.{option_eq}
 use Rattle.std.proofs.lemmas.List.{length-map, get_or-map, map-append}
