@@ -90,13 +90,7 @@ pub lists_with-append : (columns : List Column) (xs ys : Documents) (lists : Lis
 lists_with-append columns xs ys lists = ap (λ es. with_entries es lists) (flat_map-append (document_entries columns) xs ys) ∙ with_entries-append (flat_map (document_entries columns) xs) (flat_map (document_entries columns) ys) lists
 
 pub sizes_with-append : (columns : List Column) (xs ys : Documents) (old : List ((ℤ × ℤ) × ℤ)) → sizes_with columns (xs ++ ys) old ≡ sizes_with columns ys (sizes_with columns xs old)
-sizes_with-append columns xs ys old =
-    let one = flat_map (document_sizes columns) xs in
-    let other = flat_map (document_sizes columns) ys in
-    ap (λ ss. all_put column_key_cmp (sized (map size_row ss)) old) (flat_map-append (document_sizes columns) xs ys)
-    ∙ ap (λ rs. all_put column_key_cmp (sized rs) old) (map-append size_row one other)
-    ∙ ap (λ rs. all_put column_key_cmp rs old) (map-append (λ (s : SizeRow). ((s.docid, s.column), s.n)) (map size_row one) (map size_row other))
-    ∙ all_put-append column_key_cmp (sized (map size_row one)) (sized (map size_row other)) old
+sizes_with-append columns xs ys old = simp (flat_map-append, map-append, all_put-append)
 
 -- ---- lists
 

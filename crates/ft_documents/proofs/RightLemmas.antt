@@ -250,21 +250,7 @@ module _ (tab : ℤ) (columns : List Column) (rewrites : List Rewrite) where
 
   store_after : (store : StoreValue) → all_applied (rewrite_changes tab columns rewrites) store ≡ record store { cells = cells_after store; lists = lists_after store; sizes = sizes_after store }
   unfolding rewrite_changes
-  store_after store =
-      let a = dropped_documents tab rewrites in
-      let b = put_documents tab rewrites in
-      let l = list_changes tab (index_lists_of columns (befores rewrites)) (index_lists_of columns (afters rewrites)) in
-      let s = size_changes tab (sizes_of columns (befores rewrites)) (sizes_of columns (afters rewrites)) in
-      let one : StoreValue = record store { cells = cells_dropped tab (filter goes rewrites) store.cells } in
-      let two : StoreValue = record store { cells = cells_after store } in
-      let three : StoreValue = record two { lists = all_dropped list_key_cmp list_total list_exact (joined list_keys tab lists_gone) store.lists } in
-      let four : StoreValue = record two { lists = lists_after store } in
-      let five : StoreValue = record four { sizes = all_dropped cell_key_cmp cell_total cell_exact (joined cell_keys tab sizes_gone) store.sizes } in
-      applied_append a (b ++ (l ++ s)) store ∙ ap (all_applied (b ++ (l ++ s))) (dropped_documents_applied tab rewrites store)
-      ∙ applied_append b (l ++ s) one ∙ ap (all_applied (l ++ s)) (put_documents_applied tab rewrites one)
-      ∙ applied_append l s two
-      ∙ ap (all_applied s) (applied_append (dropped_lists tab lists_gone) (put_lists tab lists_changed) two ∙ ap (all_applied (put_lists tab lists_changed)) (dropped_lists_applied tab lists_gone two) ∙ put_lists_applied tab lists_changed three)
-      ∙ applied_append (dropped_sizes tab sizes_gone) (put_sizes tab sizes_changed) four ∙ ap (all_applied (put_sizes tab sizes_changed)) (dropped_sizes_applied tab sizes_gone four) ∙ put_sizes_applied tab sizes_changed five
+  store_after store = simp (applied_append, dropped_documents_applied, put_documents_applied, dropped_lists_applied, put_lists_applied, dropped_sizes_applied, put_sizes_applied)
 
   pub order_after : (store : StoreValue) → AreInOrder store → AreInOrder (all_applied (rewrite_changes tab columns rewrites) store)
   order_after store order = subst AreInOrder (sym (store_after store)) (record {

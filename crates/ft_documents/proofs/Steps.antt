@@ -50,8 +50,4 @@ mapped_more F f xs i x within is = taken_more F (map f xs) i (f x) (rw (length-m
 
 -- six pieces
 pub six_pieces : {X : Type 0} (m0 m1 m2 m3 m4 m5 m6 a b c d e f : List X) → m0 ≡ [] → m1 ≡ m0 ++ a → m2 ≡ m1 ++ b → m3 ≡ m2 ++ c → m4 ≡ m3 ++ d → m5 ≡ m4 ++ e → m6 ≡ m5 ++ f → m6 ≡ a ++ (b ++ ((c ++ d) ++ (e ++ f)))
-six_pieces m0 m1 m2 m3 m4 m5 m6 a b c d e f h0 h1 h2 h3 h4 h5 h6 =
-    let two : m2 ≡ a ++ b = h2 ∙ ap (λ m. m ++ b) (h1 ∙ ap (λ m. m ++ a) h0) in
-    let four : m4 ≡ m2 ++ (c ++ d) = h4 ∙ ap (λ m. m ++ d) h3 ∙ append_assoc m2 c d in
-    let six : m6 ≡ m4 ++ (e ++ f) = h6 ∙ ap (λ m. m ++ f) h5 ∙ append_assoc m4 e f in
-    six ∙ ap (λ m. m ++ (e ++ f)) (four ∙ ap (λ m. m ++ (c ++ d)) two) ∙ append_assoc (a ++ b) (c ++ d) (e ++ f) ∙ append_assoc a b ((c ++ d) ++ (e ++ f))
+six_pieces m0 m1 m2 m3 m4 m5 m6 a b c d e f h0 h1 h2 h3 h4 h5 h6 = simp (h6, h5, h4, h3, h2, h1, h0, append_assoc)

@@ -43,9 +43,7 @@ abbrev pub spots_under : Key → List (Key × StoredSpot) → List StoredSpot
 spots_under q xs = map (λ (x : Key × StoredSpot). x.1) (filter (λ (x : Key × StoredSpot). eq_by_cmp key_cmp q x.0) xs)
 
 pub spots_under-append : (q : Key) (xs ys : List (Key × StoredSpot)) → spots_under q (xs ++ ys) ≡ spots_under q xs ++ spots_under q ys
-spots_under-append q xs ys =
-    let p = λ (x : Key × StoredSpot). eq_by_cmp key_cmp q x.0 in
-    ap (map (λ (x : Key × StoredSpot). x.1)) (filter-append p xs ys) ∙ map-append (λ (x : Key × StoredSpot). x.1) (filter p xs) (filter p ys)
+spots_under-append q xs ys = simp (filter-append, map-append)
 
 pub with_spots-append : (xs ys : List (Key × StoredSpot)) (lists : List (Key × List StoredSpot)) → with_spots (xs ++ ys) lists ≡ with_spots ys (with_spots xs lists)
 with_spots-append [] ys lists = refl
