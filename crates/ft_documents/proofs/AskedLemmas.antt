@@ -101,13 +101,7 @@ counted (p ∷ ps) = with_count p (lists_by_docid ps) ∙ ap suc (counted ps)
 -- the lists so far with one more
 pub next_lists : (lists more : List DocList) (ps own others : List Placed) (p : Placed) (list : DocList) (n : ℕ) → slice_get ps 0 ≡ Some p → more ≡ lists ++ list ∷ [] → plain_list list ≡ list_with p own →
     n ≡ run_with p ps → own ≡ take n ps → others ≡ drop n ps → map plain_list more ++ lists_by_docid others ≡ map plain_list lists ++ lists_by_docid ps
-next_lists lists more ps own others p list n here longer shows count front back =
-    let first : plain_list list ≡ list_with p (take (run_with p ps) ps) = shows ∙ ap (list_with p) (front ∙ ap (λ k. take k ps) count) in
-    let rest : others ≡ drop (run_with p ps) ps = back ∙ ap (λ k. drop k ps) count in
-    ap (λ ls. map plain_list ls ++ lists_by_docid others) longer
-    ∙ ap (λ ls. ls ++ lists_by_docid others) (map-append plain_list lists (list ∷ []))
-    ∙ append_assoc (map plain_list lists) (plain_list list ∷ []) (lists_by_docid others)
-    ∙ ap (λ ls. map plain_list lists ++ ls) ((λ i. first i ∷ lists_by_docid (rest i)) ∙ sym (first_lists ps p here))
+next_lists lists more ps own others p list n here longer shows count front back = simp (longer, map-append, append_assoc, shows, front, back, count, first_lists ps p here)
 
 -- the lists where no place is left
 pub last_lists : (lists : List DocList) (ps : List Placed) → slice_get ps 0 ≡ None → map plain_list lists ≡ map plain_list lists ++ lists_by_docid ps

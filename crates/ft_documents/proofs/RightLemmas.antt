@@ -58,9 +58,7 @@ put_cell tab e = PutCell tab e.0.0 e.0.1 e.1
 
 cells_keyed : (tab : ℤ) (rewrites : List Rewrite) → put_documents tab rewrites ≡ map (put_cell tab) (rows_by new_cells (under_docids rewrites))
 cells_keyed tab [] = refl
-cells_keyed tab (r ∷ rs) =
-    (λ i. sym (map-map (put_cell tab) (λ (c : ℤ × Cell). ((r.docid, c.0), c.1)) (new_cells r)) i ++ cells_keyed tab rs i)
-    ∙ sym (map-append (put_cell tab) (under r.docid (new_cells r)) (rows_by new_cells (under_docids rs)))
+cells_keyed tab (r ∷ rs) = simp (map-append, map-map, cells_keyed tab rs)
 
 cells_applied : (tab : ℤ) (es : List ((ℤ × ℤ) × Cell)) (store : StoreValue) → all_applied (map (put_cell tab) es) store ≡ record store { cells = all_put cell_key_cmp (joined cell_keys tab es) store.cells }
 cells_applied tab [] store = refl

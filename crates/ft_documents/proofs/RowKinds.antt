@@ -216,11 +216,7 @@ kept_sizes docid (e ∷ es) =
 
 sizes_keyed : (columns : List Column) (documents : Documents) → sized (map size_row (flat_map (document_sizes columns) documents)) ≡ rows_by (counts columns) documents
 sizes_keyed columns [] = refl
-sizes_keyed columns (d ∷ ds) =
-    let here = document_sizes columns d in
-    let more = flat_map (document_sizes columns) ds in
-    ap sized (map-append size_row here more) ∙ map-append keyed_size (map size_row here) (map size_row more)
-    ∙ (λ i. kept_sizes d.0 (enumerate_from 0 (document_tokens columns d.1)) i ++ sizes_keyed columns ds i)
+sizes_keyed columns (d ∷ ds) = simp (map-append, kept_sizes, sizes_keyed columns ds)
 
 -- by rising docids the sizes stand in order already
 pub sizes_ordered : (columns : List Column) (documents : Documents) → is_sorted int_cmp documents ≡ true → sizes_of columns documents ≡ rows_by (counts columns) documents

@@ -29,9 +29,7 @@ kept_last {X} {Y} p f x xs old new first grown so_far =
 
 -- the piece of an element more
 pub piece_last : {X Y : Type 0} (f : X → List Y) (xs : List X) (x : X) (old new first : List Y) → new ≡ old ++ f x → old ≡ first ++ flat_map f xs → new ≡ first ++ flat_map f (xs ++ x ∷ [])
-piece_last f xs x old new first grown so_far =
-    grown ∙ ap (λ ys. ys ++ f x) so_far ∙ append_assoc first (flat_map f xs) (f x)
-    ∙ ap (λ ys. first ++ ys) (ap (λ ys. flat_map f xs ++ ys) (sym (append-nil (f x))) ∙ sym (flat_map-append f xs (x ∷ [])))
+piece_last f xs x old new first grown so_far = simp (grown, so_far, flat_map-append, append-nil, append_assoc)
 
 -- nothing is left
 pub all_taken : {X : Type 0} (made rest all : List X) → rest ≡ [] → made ++ rest ≡ all → made ≡ all

@@ -27,13 +27,7 @@ pub place_or_end : (n long : ℕ) → n ≤ long → unwrap_or (cond (ltb n long
 place_or_end n long within = grind (arith, nat_tests)
 
 pub info_insert : (ts : List RustTableInfo) (n : ℕ) (t : RustTableInfo) → map shown_info (insert ts n t) ≡ insert (map shown_info ts) n (shown_info t)
-info_insert ts n t = map-append shown_info (take n ts) (t ∷ drop n ts) ∙ (λ i. back_take i ++ shown_info t ∷ back_drop i)
-  where
-    back_take : map shown_info (take n ts) ≡ take n (map shown_info ts)
-    back_take = sym (take-map shown_info n ts)
-
-    back_drop : map shown_info (drop n ts) ≡ drop n (map shown_info ts)
-    back_drop = sym (drop-map shown_info n ts)
+info_insert ts n t = simp (map-append, take-map, drop-map)
 
 -- what was put in at a place can be taken out there
 pub taken_out : (ts : List RustTableInfo) (n : ℕ) (t : RustTableInfo) → n ≤ length ts → remove (insert ts n t) n ≡ ts

@@ -192,9 +192,7 @@ module _ (t : String Global) (p : Posting) (v : Vec Posting Global) (old new : L
       ∙ with_spots-append (flat_map group_spots old) (x ∷ []) []
     where
       at_docid : (ps : List Posting) (d : ℤ) → spots_of_docid (ps ++ p ∷ []) d ≡ spots_of_docid ps d ++ map spot_of (cond (int_eq d p.docid) (p ∷ []) [])
-      at_docid ps d =
-          let own = λ (r : Posting). int_eq d r.docid in
-          ap (map spot_of) (filter-append own ps (p ∷ [])) ∙ map-append spot_of (filter own ps) (filter own (p ∷ []))
+      at_docid ps d = simp (filter-append, map-append)
 
       one_more : (q : Key) → spots_of_docid (held (lookup (is_term q.0) new)) q.1 ≡ spots_of_docid (held (lookup (is_term q.0) old)) q.1 ++ spots_under q (((string_bytes t, p.docid), p.spot) ∷ [])
       one_more q =
