@@ -43,9 +43,7 @@ pub with_entries-append : (es fs : List Entry) (lists : List (Key × List Stored
 with_entries-append es fs lists = ap (λ xs. with_spots xs lists) (map-append entry_spot es fs) ∙ with_spots-append (map entry_spot es) (map entry_spot fs) lists
 
 entries_first : (docid : ℤ) (k : ℕ) (tokens : List PlainToken) (columns : List (List PlainToken)) → entries_from docid k (tokens ∷ columns) ≡ cell_entries docid k tokens ++ entries_from docid (k + 1) columns
-entries_first docid k tokens columns =
-    map-append (entry_at docid) (map (posting k) tokens) (flat_map (λ c. map (posting c.0) c.1) (enumerate_from (k + 1) columns))
-    ∙ ap (λ es. es ++ entries_from docid (k + 1) columns) (map-map (entry_at docid) (posting k) tokens)
+entries_first docid k tokens columns = simp (map-append, map-map)
 
 -- a column more
 pub lists_more : (docid : ℤ) (k : ℕ) (tokens : List PlainToken) (columns : List (List PlainToken)) (old new all : List (Key × List StoredSpot)) → new ≡ with_entries (cell_entries docid k tokens) old →

@@ -120,13 +120,7 @@ abbrev place_of : Posting → packing.Spot
 place_of p = record { column = p.place.column; pos = p.place.pos; place = p.place.start; size = p.place.size }
 
 is_place : (p : Posting) → IsPlace p → packing.is_spot (place_of p) ≡ true
-is_place p is =
-    let a : nat_le p.place.column 99 ≡ true = grind (arith, nat_tests, is.0) in
-    let b : nat_lt p.place.pos 1000000 ≡ true = grind (arith, nat_tests, is.1) in
-    let c : nat_lt p.place.start 1000000 ≡ true = grind (arith, nat_tests, is.2) in
-    let d : nat_lt 0 p.place.size ≡ true = grind (arith, nat_tests, is.3) in
-    let e : nat_le p.place.size 1000000 ≡ true = grind (arith, nat_tests, is.4) in
-    λ i. a i && b i && c i && d i && e i
+is_place p is = grind (arith, nat_tests, is.0, is.1, is.2, is.3, is.4)
 
 is_behind : (p q : Posting) → IsBefore p q → packing.is_after (place_of p) (place_of q) ≡ true
 is_behind p q before = elim before [

@@ -75,11 +75,7 @@ turned_any n [] = refl
 turned_any n (x ∷ xs) = λ i. (eq_by_cmp_equiv int_cmp_total).symm x n i || turned_any n xs i
 
 pub tested : (name : List ℕ) (columns : List Column) (names : List (List ℕ)) (fit clash : Bool) → names ≡ names_of columns → 0 < length columns → length columns ≤ 100 → fit ≡ list_all is_name names → clash ≡ names_clash name names → (fit && not clash) ≡ are_columns name columns
-tested name columns names fit clash are some few fits clashes =
-    (λ i. fits i && not (clashes i))
-    ∙ ap (λ ns. list_all is_name ns && not (names_clash name ns)) are
-    ∙ sym (ap (λ t. (t && nat_le (length columns) 100) && list_all is_name (names_of columns) && not (names_clash name (names_of columns))) (lt-ltb 0 (length columns) some)
-    ∙ ap (λ t. t && list_all is_name (names_of columns) && not (names_clash name (names_of columns))) (le-leb (length columns) 100 few))
+tested name columns names fit clash are some few fits clashes = simp (fits, clashes, are, lt-ltb 0 (length columns) some, le-leb (length columns) 100 few)
 
 -- ---- cells that follow one another are those of documents
 
