@@ -123,21 +123,12 @@ is_place : (p : Posting) → IsPlace p → packing.is_spot (place_of p) ≡ true
 is_place p is = grind (arith, nat_tests, is.0, is.1, is.2, is.3, is.4)
 
 is_behind : (p q : Posting) → IsBefore p q → packing.is_after (place_of p) (place_of q) ≡ true
-is_behind p q before = elim before [
-  | inl less ↦ let yes : nat_lt p.place.column q.place.column ≡ true = grind (arith, nat_tests, less) in ap (λ b. b || (p.place.column == q.place.column && nat_lt p.place.pos q.place.pos && nat_lt p.place.start q.place.start)) yes
-  | inr h ↦
-      let a : (p.place.column == q.place.column) ≡ true = grind (arith, nat_tests, h.0) in
-      let b : nat_lt p.place.pos q.place.pos ≡ true = grind (arith, nat_tests, h.1) in
-      let c : nat_lt p.place.start q.place.start ≡ true = grind (arith, nat_tests, h.2) in
-      (λ i. nat_lt p.place.column q.place.column || (a i && b i && c i)) ∙ or-true (nat_lt p.place.column q.place.column)
-]
+is_behind p q (inl less) = grind (arith, nat_tests, less)
+is_behind p q (inr h) = grind (arith, nat_tests, h.0, h.1, h.2)
 
 places_rise : (p : Posting) (ps : List Posting) → All IsPlace ps → AllPairs IsBefore (p ∷ ps) → packing.rise_after (place_of p) (map place_of ps) ≡ true
 places_rise p [] are rise = refl
-places_rise p (q ∷ qs) are rise =
-    and_from (packing.is_spot (place_of q) && packing.is_after (place_of p) (place_of q)) (packing.rise_after (place_of q) (map place_of qs))
-    (and_from (packing.is_spot (place_of q)) (packing.is_after (place_of p) (place_of q)) (is_place q (All-head IsPlace q qs are)) (is_behind p q (All-head (IsBefore p) q qs (pairs_head IsBefore p (q ∷ qs) rise))))
-    (places_rise q qs (All-tail IsPlace q qs are) (pairs_tail IsBefore p (q ∷ qs) rise))
+places_rise p (q ∷ qs) are rise = grind (arith, is_place q (All-head IsPlace q qs are), is_behind p q (All-head (IsBefore p) q qs (pairs_head IsBefore p (q ∷ qs) rise)), places_rise q qs (All-tail IsPlace q qs are) (pairs_tail IsBefore p (q ∷ qs) rise))
 
 are_places : (p : Posting) (ps : List Posting) → All IsPlace (p ∷ ps) → AllPairs IsBefore (p ∷ ps) → packing.are_spots (map place_of (p ∷ ps)) ≡ true
 are_places p ps are rise = and_from (packing.is_spot (place_of p)) (packing.rise_after (place_of p) (map place_of ps)) (is_place p (All-head IsPlace p ps are)) (places_rise p ps (All-tail IsPlace p ps are) rise)
