@@ -31,7 +31,7 @@ own_put {K} {V} R total exact p k v rows passes sorted =
     same_entries R total exact (where_key R p (put R k v rows)) (put R k v (where_key R p rows))
     (is_sorted-where_key R p (put R k v rows) (is_sorted-put R total k v rows (of_true _ sorted)))
     (is_sorted-put R total k v (where_key R p rows) (is_sorted-where_key R p rows (of_true _ sorted)))
-    (λ q. find-where_key R p q (alike q) (put R k v rows) ∙ ap (λ o. cond (p q) o None) (find-put R total q k v rows) 
+    (λ q. find-where_key R p q (alike q) (put R k v rows) ∙ ap (λ o. cond (p q) o None) (find-put R total q k v rows)
     ∙ elim (eq_by_cmp R q k) as (λ b. eq_by_cmp R q k ≡ b → cond (p q) (cond b (Some v) (find R q rows)) None ≡ cond b (Some v) (cond (p q) (find R q rows) None)) [ true ↦ λ e. ap (λ b. cond b (Some v) None) (ap p (exact q k (tie _ e)) ∙ passes) | false ↦ λ _. refl ] refl
     ∙ sym (find-put R total q k v (where_key R p rows) ∙ ap (λ o. cond (eq_by_cmp R q k) (Some v) o) (find-where_key R p q (alike q) rows)))
   where

@@ -17,7 +17,7 @@ use Rattle.ft_query.proofs.TokenLaw.{computed_tokens}
 use Rattle.ft_values.specs.Cells.{Cell}
 use Rattle.ft_rows.specs.Store.{column_key_cmp}
 use Rattle.ft_content.specs.Content.{Column, Documents, cell_text}
-use Rattle.ft_content.specs.Index.{Entry, entry_at, Key, StoredSpot, Size, size_row, document_tokens, Spot, key_cmp, key_of, stored_spot, spot_lists, SizeRow, document_entries, document_sizes, entries, sizes, index_rows}
+use Rattle.ft_content.specs.Index.{Entry, entry_at, Key, StoredSpot, Size, size_row, document_tokens, Spot, key_cmp, key_of, stored_spot, spot_lists, document_entries, entries, sizes, index_rows}
 use Rattle.ft_content.specs.Laws.{spots_of_key, some_if_any}
 use Rattle.ft_content.proofs.IndexLemmas.{lists_are_entries}
 use Rattle.ft_content.proofs.PlanLemmas.{sorted_lists}

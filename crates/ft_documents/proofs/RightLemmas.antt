@@ -17,11 +17,11 @@ use Rattle.ft_content.specs.Index.{Key, StoredSpot, key_cmp, index_rows}
 use Rattle.ft_content.specs.Content.{Documents, Column, Content, is_cell, is_document, content_rows, document_rows}
 use Rattle.ft_content.proofs.IndexLemmas.{key_cmp_total, key_cmp_exact}
 use Rattle.ft_documents.specs.Rewrite.{Rewrite, under_docids, rewritten, befores, afters, rewritten_content, FitIfAny, AreOf, HasContent, AreRight}
-use Rattle.ft_documents.specs.RewriteRows.{all_put, same_cell, changed, numbered_cells, goes, dropped_documents, put_documents, dropped_lists, put_lists, dropped_sizes, put_sizes, was_there, same_spot, same_spots, gone, sized, index_lists_of, sizes_of, list_changes, size_changes, rewrite_changes}
+use Rattle.ft_documents.specs.RewriteRows.{all_put, same_cell, changed, numbered_cells, goes, dropped_documents, put_documents, dropped_lists, put_lists, dropped_sizes, put_sizes, was_there, same_spot, same_spots, gone, sized, index_lists_of, sizes_of, rewrite_changes}
 use Rattle.ft_documents.specs.Tables.{table_rows, table_index}
 use Rattle.ft_documents.proofs.StoreKeys.{list_exact, list_total, cell_exact, cell_total, list_keys, cell_keys, column_total, column_exact, own, joined, own_all_put, own_all_dropped}
 use Rattle.ft_documents.proofs.KeyedRows.{itself, true_of, of_true, all_dropped, found_holds, tie, none_below, sorted_put, find_all_put, or_else, fresh, changed_found, sorted-filter, turned_round, gone_is, sorted_dropped}
-use Rattle.ft_documents.proofs.RowKinds.{under, rows_by, one_by, sorted_by, find_by, sorted_numbered, cells_are, cell_row, keyed_cell, content_cells, keyed_again, one_list, lists_are, size_of, sized_again, sizes_again, counts, stored_sizes, sizes_are}
+use Rattle.ft_documents.proofs.RowKinds.{rows_by, one_by, sorted_by, find_by, sorted_numbered, cells_are, cell_row, keyed_cell, content_cells, keyed_again, one_list, lists_are, size_of, sized_again, sizes_again, counts, stored_sizes, sizes_are}
 use Rattle.ft_documents.proofs.CellSteps.{numbered_from}
 use Rattle.ft_documents.proofs.RewriteLemmas.{Cells, written, before_found, sorted_rewritten, last_rows, rows_renewed}
 

@@ -1,6 +1,6 @@
 -- Rows are a content where their columns, the numbers of those that aren't indexed, and their cells
 -- are those of one.
-use Rattle.std.proofs.Common.{◌≡◌, ℕ, ◌+◌, ◌<◌, ◌≤◌, Bool, true, not, ◌&&◌, ◌||◌, List, [], ◌∷◌, map, length, ℤ, pos, refl, sym, ap, subst, ◌∙◌, lt-ltb, le-leb, nat_le, IsTrue, int_eq, is_eq, ◌≢◌, ◌==◌, false, cond, ◌++◌, Option, Some, None, arith, eqb-true, eq-eqb, flat_map, int_cmp, is_lt}
+use Rattle.std.proofs.Common.{◌≡◌, ℕ, ◌+◌, ◌<◌, ◌≤◌, Bool, true, not, ◌&&◌, ◌||◌, List, [], ◌∷◌, map, length, ℤ, pos, refl, sym, ap, subst, ◌∙◌, lt-ltb, le-leb, IsTrue, int_eq, is_eq, ◌≢◌, ◌==◌, false, cond, ◌++◌, Option, Some, None, arith, eqb-true, eq-eqb, flat_map, int_cmp, is_lt}
 use Rattle.std.specs.List.{list_any, list_all, enumerate_from}
 use Rattle.std.specs.Cmp.{int_cmp_total, tied_itself, eq_by_cmp_equiv}
 use Rattle.std.specs.Cmp.Lexicographic.{pointwise}

@@ -1,5 +1,5 @@
 -- A table in its place in a list of tables.
-use Rattle.std.proofs.Common.{◌≡◌, ◌++◌, ◌≤◌, ◌+◌, ℕ, zero, suc, List, [], ◌∷◌, map, take, drop, length, cond, true, false, not, ltb, unwrap_or, Some, None, ℤ, refl, sym, ap, ◌∙◌, arith, int_lt, int_cmp, is_lt, Less, Equal, Greater, insert, remove}
+use Rattle.std.proofs.Common.{◌≡◌, ◌≤◌, ◌+◌, ℕ, zero, suc, List, [], ◌∷◌, map, length, cond, true, false, not, ltb, unwrap_or, Some, None, ℤ, refl, ap, ◌∙◌, arith, int_lt, int_cmp, is_lt, Less, Equal, Greater, insert, remove}
 use Rattle.std.specs.List.{position_or_len}
 use Rattle.std.proofs.lemmas.Bool.Decides.{nat_tests}
 use Rattle.std.proofs.lemmas.List.{map-append, take-map, drop-map}
