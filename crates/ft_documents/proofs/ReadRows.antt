@@ -212,21 +212,14 @@ at_last row (e ∷ f ∷ es) d = ap (λ l. e ∷ l) (at_last row (f ∷ es) d)
 last_is : (row : CellRow) (documents : Documents) (d : ℤ × List Cell) (b : Bool) → int_eq d.0 row.docid ≡ b → with_last row (documents ++ d ∷ []) ≡ documents ++ cond b ((d.0, d.1 ++ row.value ∷ []) ∷ []) (d ∷ (row.docid, row.value ∷ []) ∷ [])
 last_is row documents d b is = at_last row documents d ∙ ap (λ b. documents ++ cond b ((d.0, d.1 ++ row.value ∷ []) ∷ []) (d ∷ (row.docid, row.value ∷ []) ∷ [])) is
 
-shown_last : (documents old : List Document) (last : Document) → old ≡ documents ++ last ∷ [] → map shown_document old ≡ map shown_document documents ++ shown_document last ∷ []
-shown_last documents old last is = ap (map shown_document) is ∙ map-append shown_document documents (last ∷ [])
-
 -- a cell of the last document, and one of another
 pub joined : (row : CellRow) (documents old : List Document) (last : Document) → old ≡ documents ++ last ∷ [] → last.docid ≡ row.docid →
     map shown_document documents ++ (row.docid, map shown_value last.cells.items ++ row.value ∷ []) ∷ [] ≡ with_last row (map shown_document old)
-joined row documents old last is same =
-    ap (λ k. map shown_document documents ++ (k, map shown_value last.cells.items ++ row.value ∷ []) ∷ []) (sym same)
-    ∙ sym (ap (with_last row) (shown_last documents old last is) ∙ last_is row (map shown_document documents) (shown_document last) true (ap (λ k. int_eq k row.docid) same ∙ ap is_eq (tied_itself int_cmp_total row.docid)))
+joined row documents old last is same = simp (is, map-append, last_is row (map shown_document documents) (shown_document last) true (ap (λ k. int_eq k row.docid) same ∙ ap is_eq (tied_itself int_cmp_total row.docid))) (ap (λ k. map shown_document documents ++ (k, map shown_value last.cells.items ++ row.value ∷ []) ∷ []) (sym same))
 
 pub behind : (row : CellRow) (documents old : List Document) (last : Document) → old ≡ documents ++ last ∷ [] → (last.docid ≡ row.docid → ⊥) →
     map shown_document old ++ (row.docid, row.value ∷ []) ∷ [] ≡ with_last row (map shown_document old)
-behind row documents old last is other =
-    ap (λ l. l ++ (row.docid, row.value ∷ []) ∷ []) (shown_last documents old last is)
-    ∙ sym (ap (with_last row) (shown_last documents old last is) ∙ last_is row (map shown_document documents) (shown_document last) false (apart (int_eq last.docid row.docid) refl) ∙ sym (append_assoc (map shown_document documents) (shown_document last ∷ []) ((row.docid, row.value ∷ []) ∷ [])))
+behind row documents old last is other = simp (is, map-append, last_is row (map shown_document documents) (shown_document last) false (apart (int_eq last.docid row.docid) refl), append_assoc)
   where
     apart : (b : Bool) → int_eq last.docid row.docid ≡ b → b ≡ false
     apart true e = absurd (other ((Decides-int_eq last.docid row.docid).0 e))
