@@ -28,12 +28,9 @@ use Rattle.ft_content.specs.Meaning.{plain_spot, entries_in, entry_cmp, entry_se
 use Rattle.ft_content.proofs.MeaningLemmas.{entry_total, sorted_set}
 use Rattle.ft_documents.specs.declared.lists.Placed.{Placed}
 use Rattle.ft_documents.specs.Placed.{place_in, list_with, with_placed, lists_by_docid, place_of, list_of, placed_in, all_in, placed_cmp, AreListsOf, is_before, rise, is_in_order, are_in_order}
-use Rattle.ft_documents.proofs.KeyedRows.{tie, turned_round, itself}
+use Rattle.ft_documents.proofs.KeyedRows.{same_int, tie, turned_round, itself}
 
 -- ---- places by document
-
-pub docids_same : (x y : ℤ) → int_eq x y ≡ true → x ≡ y
-docids_same x y h = exact_signed x y (tie _ h)
 
 -- how many of the first places are in the document of this one
 abbrev pub run_with : Placed → List Placed → ℕ
@@ -54,7 +51,7 @@ step : (p q : Placed) (qs : List Placed) (b : Bool) → int_eq q.docid p.docid �
     with_placed p (lists_by_docid (q ∷ qs)) ≡ list_with p (p ∷ take (cond b (1 + run_with p qs) 0) (q ∷ qs)) ∷ lists_by_docid (drop (cond b (1 + run_with p qs) 0) (q ∷ qs))
 unfolding lists_by_docid
 step p q qs true e rest =
-    let same = docids_same q.docid p.docid e in
+    let same = same_int q.docid p.docid e in
     let more : suc (run_with p qs) ≡ 1 + run_with p qs = omega arith in
     ap (with_placed p) (rest ∙ ap (λ d. list_with q (q ∷ take (prefix_len (λ (r : Placed). int_eq r.docid d) qs) qs) ∷ lists_by_docid (drop (prefix_len (λ (r : Placed). int_eq r.docid d) qs) qs)) same)
     ∙ ap (λ b. cond b (list_with p (p ∷ q ∷ take (run_with p qs) qs) ∷ lists_by_docid (drop (run_with p qs) qs)) (list_with p (p ∷ []) ∷ list_with q (q ∷ take (run_with p qs) qs) ∷ lists_by_docid (drop (run_with p qs) qs)))
@@ -181,7 +178,7 @@ in_entry e (d ∷ ds) = go (int_eq e.docid d.docid) refl
   where
     go : (b : Bool) → int_eq e.docid d.docid ≡ b →
         all_in (map all_places (cond b (record { docid = d.docid; postings = posting_of e ∷ d.postings } ∷ ds) (record { docid = e.docid; postings = posting_of e ∷ [] } ∷ d ∷ ds))) ≡ bare e ∷ all_in (map all_places (d ∷ ds))
-    go true same = ap (λ x. placed_in x (posting_of e).place ∷ all_in (map all_places (d ∷ ds))) (sym (docids_same e.docid d.docid same))
+    go true same = ap (λ x. placed_in x (posting_of e).place ∷ all_in (map all_places (d ∷ ds))) (sym (same_int e.docid d.docid same))
     go false apart = refl
 
 pub in_grouped : (es : List Entry) → all_in (map all_places (grouped es)) ≡ map bare es

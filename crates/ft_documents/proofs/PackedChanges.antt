@@ -85,10 +85,7 @@ AreShortTexts (column ∷ columns) (cell ∷ cells) = (length (indexed_text colu
 cell_short : (cell : Cell) → is_cell cell ≡ true → IsShortNumber cell → length (cell_text cell) ≤ 1000000
 cell_short Null is number = omega arith
 cell_short (Int n) is number = omega (arith, number)
-cell_short (Text t) is number = let short = (and_parts (not (nat_lt 1000000 (length t))) (not (has_nul (Text t))) is).0 in not_less (length t) short
-  where
-    not_less : (n : ℕ) → not (nat_lt 1000000 n) ≡ true → n ≤ 1000000
-    not_less n h = grind (arith, nat_tests)
+cell_short (Text t) is number = let short = (and_parts (not (nat_lt 1000000 (length t))) (not (has_nul (Text t))) is).0 in grind (arith, nat_tests, short)
 
 text_short : (column : Column) (cell : Cell) → is_cell cell ≡ true → (column.indexed ≡ true → IsShortNumber cell) → length (indexed_text column cell) ≤ 1000000
 text_short column cell is number = elim column.indexed as (λ b. column.indexed ≡ b → length (cond b (cell_text cell) []) ≤ 1000000) [ true ↦ λ indexed. cell_short cell is (number indexed) | false ↦ λ _. omega arith ] refl

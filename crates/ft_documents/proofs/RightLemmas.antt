@@ -1,6 +1,6 @@
 -- The row changes of rewrites lead to the rows and the index rows of the documents as they are to
 -- be.
-use Rattle.std.proofs.Common.{get_or, ◌≡◌, true, false, cond, not, ◌&&◌, List, [], ◌∷◌, ◌++◌, map, ℤ, refl, sym, ap, ◌∙◌, filter, unwrap_or, int_cmp, int_eq, ℕ, ◌+◌, ◌≤◌, Bool, ◌||◌, length, Option, Some, None, pos, subst, arith, is_some, All, ◌==◌, flat_map, Decides}
+use Rattle.std.proofs.Common.{eqb-true, get_or, ◌≡◌, true, false, cond, not, ◌&&◌, List, [], ◌∷◌, ◌++◌, map, ℤ, refl, sym, ap, ◌∙◌, filter, unwrap_or, int_cmp, int_eq, ℕ, ◌+◌, ◌≤◌, Bool, ◌||◌, length, Option, Some, None, pos, subst, arith, is_some, All, ◌==◌, flat_map, Decides}
 use Rattle.std.specs.FinMap.Entries.{put, where_key, is_sorted, is_sorted-where_key, find, below_all, find-where_key, same_entries}
 use Rattle.std.proofs.lemmas.List.{map-append}
 use Rattle.std.specs.List.{list_any, list_all}
@@ -20,7 +20,7 @@ use Rattle.ft_documents.specs.Rewrite.{Rewrite, under_docids, rewritten, befores
 use Rattle.ft_documents.specs.RewriteRows.{all_put, same_cell, changed, numbered_cells, goes, dropped_documents, put_documents, dropped_lists, put_lists, dropped_sizes, put_sizes, was_there, same_spot, same_spots, gone, sized, index_lists_of, sizes_of, rewrite_changes}
 use Rattle.ft_documents.specs.Tables.{table_rows, table_index}
 use Rattle.ft_documents.proofs.StoreKeys.{list_exact, list_total, cell_exact, cell_total, list_keys, cell_keys, column_total, column_exact, own, joined, own_all_put, own_all_dropped}
-use Rattle.ft_documents.proofs.KeyedRows.{itself, true_of, of_true, all_dropped, found_holds, tie, none_below, sorted_put, find_all_put, or_else, fresh, changed_found, sorted-filter, turned_round, gone_is, sorted_dropped}
+use Rattle.ft_documents.proofs.KeyedRows.{same_int, itself, true_of, of_true, all_dropped, found_holds, tie, none_below, sorted_put, find_all_put, or_else, fresh, changed_found, sorted-filter, turned_round, gone_is, sorted_dropped}
 use Rattle.ft_documents.proofs.RowKinds.{rows_by, one_by, sorted_by, find_by, sorted_numbered, cells_are, cell_row, keyed_cell, content_cells, keyed_again, one_list, lists_are, size_of, sized_again, sizes_again, counts, stored_sizes, sizes_are}
 use Rattle.ft_documents.proofs.CellSteps.{numbered_from}
 use Rattle.ft_documents.proofs.RewriteLemmas.{Cells, written, before_found, sorted_rewritten, last_rows, rows_renewed}
@@ -276,26 +276,20 @@ spot_decides s t = (spot_sound s t, λ is. ap (same_spot s) (sym is) ∙ (λ i. 
 pub spots_decide : (ss ts : List StoredSpot) → Decides (same_spots ss ts) (ss ≡ ts)
 spots_decide ss ts = slice_eq-Decides spot_decides ss ts (same_spots ss ts) refl
 
-pub int_sound : (m n : ℤ) → int_eq m n ≡ true → m ≡ n
-int_sound m n h = exact_signed m n (tie _ h)
-
 -- ---- documents keep their columns
-
-equal : (m n : ℕ) → (m == n) ≡ true → m ≡ n
-equal m n h = grind (arith, nat_tests)
 
 found_width : (width : ℕ) (docid : ℤ) (cells : List Cell) (documents : Documents) → list_all (is_document width) documents ≡ true → find int_cmp docid documents ≡ Some cells → length cells ≡ width
 found_width width docid cells documents h is =
     let P : ℤ × List Cell → Type 0 = λ d. is_document width d ≡ true in
     let fits = found_holds int_cmp int_cmp_total exact_signed P docid cells documents (All-from_recursion P documents (all_from_test (is_document width) documents h)) is in
-    equal (length cells) width (and_parts (length cells == width) (list_all is_cell cells) fits).0
+    eqb-true (length cells) width (and_parts (length cells == width) (list_all is_cell cells) fits).0
 
 wide_at : (width : ℕ) (documents : Documents) (docid : ℤ) (before after : Option (List Cell)) → list_all (is_document width) documents ≡ true → before ≡ find int_cmp docid documents → FitIfAny width (record { docid = docid; before = before; after = after }) → wide before after
 wide_at width documents docid None after h is fits = tt
 wide_at width documents docid (Some b) None h is fits = tt
 wide_at width documents docid (Some b) (Some a) h is fits =
     let one : length b ≡ width = found_width width docid b documents h (sym is) in
-    let other : length a ≡ width = equal (length a) width (and_parts (length a == width) (list_all is_cell a) fits).0 in
+    let other : length a ≡ width = eqb-true (length a) width (and_parts (length a == width) (list_all is_cell a) fits).0 in
     omega (arith, one, other)
 
 all_wide : (width : ℕ) (documents : Documents) (rewrites : List Rewrite) → list_all (is_document width) documents ≡ true → All (λ (r : Rewrite). r.before ≡ find int_cmp r.docid documents) rewrites → All (FitIfAny width) rewrites → All (λ (r : Rewrite). wide r.before r.after) rewrites
@@ -342,7 +336,7 @@ module _ (name : List ℕ) (content : Content) (tab : ℤ) (store : StoreValue) 
     sizes_last =
         own_all_put cell_keys tab (sizes_changed tab columns rewrites) (all_dropped cell_key_cmp cell_total cell_exact (joined cell_keys tab (sizes_gone tab columns rewrites)) store.sizes) (sorted_dropped cell_key_cmp cell_total cell_exact (joined cell_keys tab (sizes_gone tab columns rewrites)) store.sizes has.order.sizes)
         ∙ ap (all_put column_key_cmp (sizes_changed tab columns rewrites)) (own_all_dropped cell_keys tab (sizes_gone tab columns rewrites) store.sizes ∙ (λ i. all_dropped column_key_cmp column_total column_exact (gone_is column_key_cmp column_total column_exact (sizes_of columns (befores rewrites)) (sizes_of columns (afters rewrites)) i) (own_sizes i)))
-        ∙ rows_renewed column_key_cmp column_total column_exact (λ k. k.0) (sizes_of columns) (one_by (counts columns)) (sizes_are columns) content.documents rewrites has.is_content.rising are.rising are.befores int_eq (λ _ _. true) (λ v w is. (int_sound v w is, refl))
+        ∙ rows_renewed column_key_cmp column_total column_exact (λ k. k.0) (sizes_of columns) (one_by (counts columns)) (sizes_are columns) content.documents rewrites has.is_content.rising are.rising are.befores int_eq (λ _ _. true) (λ v w is. (same_int v w is, refl))
 
     pub rows_right : table_rows tab (all_applied (rewrite_changes tab columns rewrites) store) ≡ content_rows (rewritten_content rewrites content)
     rows_right =
