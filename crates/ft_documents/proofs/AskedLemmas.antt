@@ -108,7 +108,7 @@ last_lists lists (p ∷ ps) none = absurd (let no = none in cc)
 pub same_places : (ps : List Placed) → IsPermutation ps ps
 same_places ps = IsPermutation-refl ps
 
--- ---- the rows that are asked for a content's terms are the lists that a walk wants
+-- ---- rows as entries
 
 -- an entry without its term
 abbrev pub bare : Entry → Placed

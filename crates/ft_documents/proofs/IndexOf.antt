@@ -78,7 +78,7 @@ none_left (suc k) (column ∷ columns) [] past = nothing (drop k columns)
     nothing (c ∷ cs) = (refl, tt)
 none_left (suc k) (column ∷ columns) (cell ∷ cells) past = none_left k columns cells (omega arith)
 
--- ---- the lists and sizes of documents that join one after another are those made from scratch
+-- ---- documents that join one after another
 
 all_put-append : {K V : Type 0} (R : K → K → Ordering) (es fs rows : List (K × V)) → all_put R (es ++ fs) rows ≡ all_put R fs (all_put R es rows)
 all_put-append R [] fs rows = refl

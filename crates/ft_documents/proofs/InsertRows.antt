@@ -26,8 +26,6 @@ use Rattle.ft_documents.specs.Inserted.{AreKnown, IsNewIn, AreInserts}
 use Rattle.ft_documents.proofs.FoundLemmas.{not_some}
 use Rattle.ft_documents.proofs.KeyedRows.{itself, true_of, of_true, sorted_put, or_else, find_all_put, less}
 
--- ---- new documents beside those of a table
-
 -- ---- a document that is put among the new ones
 
 pub put_shown : (docid : ℤ) (cells : Vec Value Global) (es : List (ℤ × Vec Value Global)) → map shown_new (put int_cmp docid cells es) ≡ put int_cmp docid (cells_of cells) (map shown_new es)

@@ -1,4 +1,4 @@
--- The hits of a query are the documents that its text chooses.
+-- The hits of a query are the documents that its text chooses, and the first hits of a walk.
 use Rattle.std.proofs.Common.{◌≡◌, ℕ, zero, suc, ℤ, false, List, [], ◌∷◌, Option, Some, None, Ok, map, refl, sym, ap, ◌∙◌, filter, ◌≤◌, ◌<◌, Bool, true, ◌++◌, length, take, unwrap_or, ◌^◌, arith, take_all}
 use Rattle.std.specs.Option.{option_map_or}
 use Rattle.std.proofs.lemmas.List.{map-append}

@@ -1,4 +1,4 @@
--- The row changes of rewrites name what is new.
+-- The row changes of rewrites name their documents alone, and what is new.
 use Rattle.std.proofs.Common.{ℕ, List, [], ◌∷◌, ◌++◌, map, Option, Some, None, ℤ, refl, sym, filter, length, All, Contains, unwrap_or, nat_lt, flat_map, Ordering, int_cmp, int_eq, ◌≡◌, Bool, true, false, not, ap, subst, ◌∙◌, ◌≢◌, IsSome, is_some, is_eq}
 use Rattle.std.specs.List.{AllByRecursion, enumerate_from}
 use Rattle.std.specs.FinMap.Entries.{put, find, is_sorted}

@@ -222,7 +222,7 @@ cells_right documents rewrites ordered rising known fits =
     ] refl
     ∙ sym (last_rows column_key_cmp column_total column_exact (λ k. k.0) (rows_by numbered_cells) (one_by numbered_cells) cells_are documents rewrites ordered rising known q))
 
--- ---- the row changes of rewrites lead to the rows and the index rows of the documents as they are to be
+-- ---- the store after all changes
 
 module _ (tab : ℤ) (columns : List Column) (rewrites : List Rewrite) where
   abbrev lists_gone : List (Key × List StoredSpot)

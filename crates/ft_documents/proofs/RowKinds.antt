@@ -137,8 +137,6 @@ pub sorted_numbered : {X : Type 0} (k : ℕ) (xs : List X) → is_sorted int_cmp
 sorted_numbered k [] = refl
 sorted_numbered k (x ∷ xs) = let next : k < k + 1 = omega arith in and_from (below_all int_cmp (pos k) (numbered_from (k + 1) xs)) (is_sorted int_cmp (numbered_from (k + 1) xs)) (below_numbered k (k + 1) xs next) (sorted_numbered (k + 1) xs)
 
--- ---- the cells, lists and sizes of documents as rows under keys
-
 -- ---- cells
 
 abbrev pub cell_row : (ℤ × ℤ) × Cell → CellRow

@@ -1,4 +1,4 @@
--- The keys of a store's rows: their orders decide, and a table's keys are ordered by the rest.
+-- The keys of a store's rows, whose orders decide, and the rows of one table under keys without it.
 use Rattle.std.proofs.Common.{◌≡◌, true, false, cond, not, List, [], ◌∷◌, map, Some, ℤ, refl, sym, ap, ◌∙◌, filter, Ordering, int_cmp, int_eq, is_eq, is_lt, Equal}
 use Rattle.std.specs.Ordering.{eq_by_cmp, ordering_then}
 use Rattle.std.specs.Cmp.{IsTotalOrder, int_cmp_total, tied_itself}
@@ -110,7 +110,7 @@ module _ {A V : Type 0} {R : ℤ × A × ℤ → ℤ × A × ℤ → Ordering} {
   own_all_dropped tab [] rows = refl
   own_all_dropped tab (e ∷ es) rows = own_all_dropped tab es (without_key R (tab, e.0.0, e.0.1) rows) ∙ ap (all_dropped S keys.rest_total keys.rest_exact es) (own_drop tab e.0 rows)
 
--- ---- the keys of a store's rows: their orders decide, and a table's keys are ordered by the rest
+-- ---- the orders of keys decide, and a table's keys are ordered by the rest
 
 both_equal : (a b : Ordering) → ordering_then a b ≡ Equal → (a ≡ Equal) × (b ≡ Equal)
 both_equal Equal b e = (refl, e)

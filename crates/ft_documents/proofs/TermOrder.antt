@@ -209,7 +209,7 @@ module _ (t : String Global) (p : Posting) (v : Vec Posting Global) (old new : L
             | Greater ↦ λ h. sym (append-nil before)
           ] refl
 
--- ---- terms that are sorted at once, each with its postings by rising docid, have the lists of a map
+-- ---- terms and lists
 
 abbrev Lists : Type 0
 Lists = List (Key × List StoredSpot)
