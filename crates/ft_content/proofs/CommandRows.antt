@@ -6,7 +6,7 @@ use Rattle.ft_values.specs.declared.fault.Fault.TheVariants as faults
 use Rattle.ft_query.specs.Reads.{query_of}
 use Rattle.ft_values.specs.Cells.{Cell, Null, Int, Text}
 use Rattle.ft_content.specs.Content.{Content}
-use Rattle.ft_content.specs.Index.{EntryRow, SizeRow, stored_spot, size_row, entries, spot_lists, sizes, index_rows, entry_rows}
+use Rattle.ft_content.specs.Index.{EntryRow, SizeRow, size_row, entries, spot_lists, sizes, index_rows, entry_rows}
 use Rattle.ft_content.specs.Command.{Filter, All, Docid, Match, Item, AllColumns, Named, OffsetsOf, Counted, Listed, Command, Create, Drop, Insert, Update, Delete, Select, Rebuild, Check, Optimize, Reply, Done, Rows}
 use Rattle.ft_content.specs.Answer.{reading, chosen, answer}
 use Rattle.ft_content.specs.Deserved.{TableState, Sound, Stale, Loose, Contents, inserted_rows, deserved}
@@ -118,7 +118,7 @@ first_content [] = record { columns = []; documents = [] }
 first_content (t ∷ ts) = content_held t.1.held
 
 abbrev pub entry : List ℕ → ℤ → ℕ → ℕ → ℕ → ℕ → EntryRow
-entry term docid column position place size = record { term = term; docid = docid; spot = stored_spot (record { column = column; pos = position; place = place; size = size }) }
+entry term docid column position place size = record { term = term; docid = docid; spot = record { column = column; pos = position; place = place; size = size } }
 
 abbrev pub size_of : ℤ → ℕ → ℕ → SizeRow
 size_of docid column n = size_row (record { docid = docid; column = column; n = n })

@@ -22,7 +22,7 @@ use Rattle.ft_query.specs.Documents.{Posting, Document, IsBefore, AreDocuments, 
 use Rattle.ft_query.specs.Occurs.{PlainHit, accepts, offsets_of, hits_of}
 use Rattle.ft_values.specs.Cells.{Cell}
 use Rattle.ft_content.specs.Content.{Column, Documents, Content}
-use Rattle.ft_content.specs.Index.{indexed_text, document_tokens, document_postings, Spot, Entry, entry_at, document_entries, entries, Key, key_cmp, key_of, SpotLists, spots_at, spot_lists, stored_spot, index_rows}
+use Rattle.ft_content.specs.Index.{indexed_text, document_tokens, document_postings, Spot, Entry, entry_at, document_entries, entries, Key, key_cmp, key_of, SpotLists, spots_at, spot_lists, index_rows}
 use Rattle.ft_content.specs.Answer.{query_read, chosen}
 use Rattle.ft_content.specs.Meaning.{content_documents, list_entries, entries_in, entry_cmp, entry_set, with_entry, grouped, documents_in, ListsMeanDocuments, hit_in, HitsAreChosen, lists_with_terms, all_places, TermsAreTheirLists, TermsAreCounted, DocumentsAreInOrder}
 use Rattle.ft_content.proofs.IndexLemmas.{key_cmp_total, key_cmp_exact}
@@ -89,12 +89,12 @@ unfolding spot_lists
 any_lists p [] = refl
 any_lists p (e ∷ es) = any_put p (key_of e) e.spot (spot_lists es) (true_of _ (sorted_lists es)) ∙ ap (λ b. p e || b) (any_lists p es)
 
--- as the store shows them
-stored_entries : (k : Key) (ss : List Spot) → list_entries (k, map stored_spot ss) ≡ map (entry_of k) ss
+-- an entry for each spot
+stored_entries : (k : Key) (ss : List Spot) → list_entries (k, ss) ≡ map (entry_of k) ss
 stored_entries k [] = refl
 stored_entries k (s ∷ ss) = ap (λ es. entry_of k s ∷ es) (stored_entries k ss)
 
-stored_flat : (ls : SpotLists) → entries_in (map (λ (l : Key × List Spot). (l.0, map stored_spot l.1)) ls) ≡ flat ls
+stored_flat : (ls : SpotLists) → entries_in ls ≡ flat ls
 stored_flat [] = refl
 stored_flat (l ∷ ls) = λ i. stored_entries l.0 l.1 i ++ stored_flat ls i
 
@@ -349,11 +349,11 @@ module _ (test : List ℕ → Bool) where
       ap (λ xs. cond (test k.0) (entry_of k s ∷ xs) xs) (one_list k ss es)
       ∙ elim (test k.0) as (λ b. cond b (entry_of k s ∷ cond b (map (entry_of k) ss ++ filter has_term es) (filter has_term es)) (cond b (map (entry_of k) ss ++ filter has_term es) (filter has_term es)) ≡ cond b (map (entry_of k) (s ∷ ss) ++ filter has_term es) (filter has_term es)) [ true ↦ refl | false ↦ refl ]
 
-  lists_passing : (ls : SpotLists) → entries_in (lists_with_terms test (map (λ (l : Key × List Spot). (l.0, map stored_spot l.1)) ls)) ≡ filter has_term (flat ls)
+  lists_passing : (ls : SpotLists) → entries_in (lists_with_terms test ls) ≡ filter has_term (flat ls)
   lists_passing [] = refl
   lists_passing (l ∷ ls) =
-      let left = lists_with_terms test (map (λ (l : Key × List Spot). (l.0, map stored_spot l.1)) ls) in
-      elim (test l.0.0) as (λ b. entries_in (cond b ((l.0, map stored_spot l.1) ∷ left) left) ≡ cond b (map (entry_of l.0) l.1 ++ filter has_term (flat ls)) (filter has_term (flat ls))) [
+      let left = lists_with_terms test ls in
+      elim (test l.0.0) as (λ b. entries_in (cond b (l ∷ left) left) ≡ cond b (map (entry_of l.0) l.1 ++ filter has_term (flat ls)) (filter has_term (flat ls))) [
         | true ↦ λ i. stored_entries l.0 l.1 i ++ lists_passing ls i
         | false ↦ lists_passing ls
       ] ∙ sym (one_list l.0 l.1 (flat ls))

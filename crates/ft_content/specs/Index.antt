@@ -6,8 +6,7 @@ use Rattle.std.specs.declared.cmp.Ordering.{Ordering}
 use Rattle.std.specs.Ordering.{nat_cmp, int_cmp, ordering_then}
 use Rattle.std.specs.Cmp.Lexicographic.{slice_cmp}
 use Rattle.std.specs.FinMap.Entries.{put, find}
-use Rattle.ft_values.specs.declared.rows.Spot as stored
-pub use Rattle.ft_values.specs.Spots.{Spot, stored_spot}
+pub use Rattle.ft_values.specs.declared.rows.Spot.{Spot}
 use Rattle.ft_query.specs.Tokens.{PlainToken, tokens_of}
 use Rattle.ft_query.specs.Documents.{Posting, postings_of}
 use Rattle.ft_values.specs.Cells.{Cell}
@@ -90,18 +89,15 @@ document_sizes columns document =
 unfoldable pub sizes : Content → List Size
 sizes content = flat_map (document_sizes content.columns) content.documents
 
--- A table's index rows as the store shows them: under each key its spots, and sizes under docid and
--- column.
-abbrev pub StoredSpot : Type 0
-StoredSpot = stored.Spot
-
+-- A table's index rows: under each key its spots, and sizes under docid and column, as the store
+-- shows them.
 pub record SizeRow : Type 0 where
   pub docid : ℤ
   pub column : ℤ
   pub n : ℤ
 
 pub record IndexRows : Type 0 where
-  pub lists : List (Key × List StoredSpot)
+  pub lists : List (Key × List Spot)
   pub sizes : List SizeRow
 
 abbrev pub size_row : Size → SizeRow
@@ -110,7 +106,7 @@ size_row s = record { docid = s.docid; column = pos s.column; n = pos s.n }
 -- the index rows made from scratch out of a content
 unfoldable pub index_rows : Content → IndexRows
 index_rows content = record {
-  lists = map (λ (l : Key × List Spot). (l.0, map stored_spot l.1)) (spot_lists (entries content));
+  lists = spot_lists (entries content);
   sizes = map size_row (sizes content);
 }
 
@@ -118,7 +114,7 @@ index_rows content = record {
 pub record EntryRow : Type 0 where
   pub term : List ℕ
   pub docid : ℤ
-  pub spot : StoredSpot
+  pub spot : Spot
 
-abbrev pub entry_rows : List (Key × List StoredSpot) → List EntryRow
-entry_rows lists = flat_map (λ (l : Key × List StoredSpot). map (λ (s : StoredSpot). record { term = l.0.0; docid = l.0.1; spot = s }) l.1) lists
+abbrev pub entry_rows : List (Key × List Spot) → List EntryRow
+entry_rows lists = flat_map (λ (l : Key × List Spot). map (λ (s : Spot). record { term = l.0.0; docid = l.0.1; spot = s }) l.1) lists

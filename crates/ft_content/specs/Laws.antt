@@ -1,14 +1,14 @@
 -- Meaning. How the index changes with one document, and laws of commands.
-use Rattle.std.specs.Prelude.{◌≡◌, ℕ, Bool, if◌then◌else◌, not, ◌||◌, List, [], ◌∷◌, map, filter, Option, Some, None, ℤ, length, nat_lt, IsTrue}
+use Rattle.std.specs.Prelude.{◌≡◌, ℕ, Bool, ◌||◌, List, [], ◌∷◌, map, filter, Option, Some, None, ℤ, length, nat_lt, IsTrue}
 use Rattle.std.specs.Ordering.{int_cmp, int_eq, eq_by_cmp}
-use Rattle.std.specs.FinMap.Entries.{put, find, where_key, is_sorted}
+use Rattle.std.specs.FinMap.Entries.{put, find}
 use Rattle.ft_values.specs.Cells.{Cell}
 use Rattle.ft_content.specs.Content.{Column, Documents, Content, IsContent}
 use Rattle.ft_content.specs.Command.{Filter}
 use Rattle.ft_content.specs.Deserved.{Contents, has_docid, listed_columns, create_fault, insert_fault, update_fault}
 use Rattle.ft_content.specs.Answer.{cut}
-use Rattle.ft_content.specs.Index.{Spot, Entry, Size, Key, key_cmp, key_of, SpotLists, spot_lists, document_entries, entries, document_sizes, sizes}
-use Rattle.ft_content.specs.Step.{without_docid, made_column, inserted, updated, deleted}
+use Rattle.ft_content.specs.Index.{Spot, Entry, Key, key_cmp, key_of, SpotLists, spot_lists, document_entries}
+use Rattle.ft_content.specs.Step.{made_column, inserted, updated, deleted}
 
 -- entries of one docid, and those of the others
 abbrev pub entries_of_docid : ℤ → List Entry → List Entry

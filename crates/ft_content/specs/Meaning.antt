@@ -1,6 +1,6 @@
 -- Meaning. What posting lists mean: documents with their postings, as a walk over the lists sees
 -- them (own choice).
-use Rattle.std.specs.Prelude.{◌≡◌, ℕ, Bool, if◌then◌else◌, List, [], ◌∷◌, map, filter, Some, Ok, ℤ, nat_abs, length}
+use Rattle.std.specs.Prelude.{◌≡◌, ℕ, Bool, if◌then◌else◌, List, [], ◌∷◌, map, filter, Some, Ok, ℤ, length}
 use Rattle.std.specs.List.{flat_map}
 use Rattle.std.specs.declared.cmp.Ordering.{Ordering}
 use Rattle.std.specs.Ordering.{nat_cmp, int_cmp, int_eq, ordering_then}
@@ -11,7 +11,7 @@ use Rattle.ft_query.specs.Documents.{Posting, Document, AreDocuments, documents_
 use Rattle.ft_query.specs.Occurs.{PlainHit, hits_of, offsets_of}
 use Rattle.ft_values.specs.Cells.{Cell}
 use Rattle.ft_content.specs.Content.{Content, IsContent}
-use Rattle.ft_content.specs.Index.{document_tokens, document_postings, Spot, Entry, Key, StoredSpot, index_rows}
+use Rattle.ft_content.specs.Index.{document_tokens, document_postings, Spot, Entry, Key, index_rows}
 use Rattle.ft_content.specs.Command.{Match}
 use Rattle.ft_content.specs.Answer.{reading, chosen}
 
@@ -20,13 +20,10 @@ abbrev pub content_documents : Content → List Document
 content_documents content = documents_of (map (λ (d : ℤ × List Cell). (d.0, document_tokens content.columns d.1)) content.documents)
 
 -- an entry for each spot of each list
-abbrev pub plain_spot : StoredSpot → Spot
-plain_spot s = record { column = nat_abs s.column; pos = nat_abs s.pos; place = nat_abs s.place; size = nat_abs s.size }
+abbrev pub list_entries : Key × List Spot → List Entry
+list_entries list = map (λ (s : Spot). record { term = list.0.0; docid = list.0.1; spot = s }) list.1
 
-abbrev pub list_entries : Key × List StoredSpot → List Entry
-list_entries list = map (λ (s : StoredSpot). record { term = list.0.0; docid = list.0.1; spot = plain_spot s }) list.1
-
-abbrev pub entries_in : List (Key × List StoredSpot) → List Entry
+abbrev pub entries_in : List (Key × List Spot) → List Entry
 entries_in lists = flat_map list_entries lists
 
 -- by docid, column and position; the rest tells apart what no index has at one place
@@ -59,7 +56,7 @@ grouped [] = []
 grouped (e ∷ es) = with_entry e (grouped es)
 
 -- the documents that posting lists mean
-unfoldable pub documents_in : List (Key × List StoredSpot) → List Document
+unfoldable pub documents_in : List (Key × List Spot) → List Document
 documents_in lists = grouped (map (λ (e : Entry × Unit {0}). e.0) (entry_set (entries_in lists)))
 
 -- The posting lists of a content mean its documents, without those that have no tokens.
@@ -76,8 +73,8 @@ abbrev pub HitsAreChosen : Type 0
 HitsAreChosen = (table : List ℕ) (content : Content) (name text : List ℕ) (tree : Tree) → IsContent table content → reading content name text ≡ Ok (Some tree) →
     hits_of tree (documents_in (index_rows content).lists) ≡ map (hit_in content tree) (chosen content (Match name text))
 
-abbrev pub lists_with_terms : (List ℕ → Bool) → List (Key × List StoredSpot) → List (Key × List StoredSpot)
-lists_with_terms test lists = filter (λ (l : Key × List StoredSpot). test l.0.0) lists
+abbrev pub lists_with_terms : (List ℕ → Bool) → List (Key × List Spot) → List (Key × List Spot)
+lists_with_terms test lists = filter (λ (l : Key × List Spot). test l.0.0) lists
 
 abbrev pub all_places : Document → PlaceList
 all_places d = record { docid = d.docid; places = map (λ (p : Posting). p.place) d.postings }

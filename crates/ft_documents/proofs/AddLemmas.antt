@@ -11,7 +11,7 @@ use Rattle.ft_values.specs.Cells.{Cell}
 use Rattle.ft_rows.proofs.ListLemmas.{filter_passes}
 use Rattle.ft_rows.specs.Store.{StoreValue, AreInOrder, CellKey, ListKey, ColumnKey, column_key_cmp, AddTable, applied, without_rows, with_columns, with_skipped}
 use Rattle.ft_content.specs.Content.{Column, Content, names_of, skipped_from, content_rows}
-use Rattle.ft_content.specs.Index.{StoredSpot, index_rows, entries, sizes, spot_lists}
+use Rattle.ft_content.specs.Index.{Spot, index_rows, entries, sizes, spot_lists}
 use Rattle.ft_documents.specs.Tables.{table_rows, table_index}
 use Rattle.ft_documents.specs.RewriteRows.{all_put}
 use Rattle.ft_documents.proofs.CellSteps.{numbered_from}
@@ -114,7 +114,7 @@ added_rows id name columns store order =
 pub added_index : (id : ℤ) (name : List ℕ) (columns : List Column) (store : StoreValue) → table_index id (applied (AddTable id name (names_of columns) (skipped_from 0 columns)) store) ≡ index_rows (bare columns)
 unfolding index_rows entries sizes spot_lists
 added_index id name columns store = λ i. record {
-  lists = map (λ (l : ListKey × List StoredSpot). ((l.0.1, l.0.2), l.1)) (none_left (λ (k : ListKey). int_eq id k.0) store.lists i);
+  lists = map (λ (l : ListKey × List Spot). ((l.0.1, l.0.2), l.1)) (none_left (λ (k : ListKey). int_eq id k.0) store.lists i);
   sizes = map (λ (z : CellKey × ℤ). record { docid = z.0.1; column = z.0.2; n = z.1 }) (none_left (λ (k : CellKey). int_eq id k.0) store.sizes i);
 }
 

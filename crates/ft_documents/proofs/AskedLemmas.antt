@@ -1,8 +1,7 @@
 -- The rows that are asked for a content's terms are the lists that a walk wants.
-use Rattle.std.proofs.Common.{◌≡◌, ℕ, ℤ, ◌+◌, Bool, true, false, cond, Some, None, List, [], ◌∷◌, ◌++◌, map, length, refl, sym, ap, ◌∙◌, suc, arith, take, drop, subst, append_assoc, append-nil, IsPermutation, slice_get, int_eq, ◌≤◌, ◌<◌, ◌&&◌, inl, inr, Option, filter, is_some, AllPairs, ◌<ℤ◌, flat_map, Ordering, Less, Equal, Greater, nat_cmp, is_eq, add-one, zero, get_or, pos, negsuc, is_lt, nat_lt, ◌==◌, ◌||◌, IsSorted, int_lt}
-use Rattle.std.specs.List.{prefix_len, AllByRecursion, AllAdjacentBelow, IsAllAdjacentAnswer}
-use Rattle.std.proofs.lemmas.Map.Lookups.{exact_signed}
-use Rattle.std.proofs.lemmas.List.{map-append, length-map}
+use Rattle.std.proofs.Common.{map-id, ◌≡◌, ℕ, ℤ, ◌+◌, Bool, true, false, cond, Some, None, List, [], ◌∷◌, ◌++◌, map, length, refl, sym, ap, ◌∙◌, suc, arith, take, drop, subst, append_assoc, append-nil, IsPermutation, slice_get, int_eq, ◌≤◌, ◌<◌, ◌&&◌, inl, inr, Option, filter, is_some, AllPairs, ◌<ℤ◌, flat_map, Ordering, Less, Equal, Greater, nat_cmp, is_eq, add-one, zero, get_or, pos, negsuc, is_lt, nat_lt, ◌==◌, ◌||◌, IsSorted, int_lt}
+use Rattle.std.specs.List.{AllByRecursion, AllAdjacentBelow, IsAllAdjacentAnswer}
+use Rattle.std.proofs.lemmas.List.{length-map}
 use Rattle.std.proofs.lemmas.List.Sorted.{IsPermutation-refl, IsPermutation-cons, IsPermutation-trans, IsPermutation-sym, IsPermutation-middle, IsPermutation-map, length_permutation}
 use Rattle.std.proofs.lemmas.List.Sums.{sum_by-cons}
 use Rattle.std.specs.Ordering.{ordering_then, ordering_reverse}
@@ -12,10 +11,9 @@ use Rattle.std.proofs.lemmas.List.Elements.{recursion_from_All}
 use Rattle.std.proofs.lemmas.Bool.Decides.{nat_tests}
 use Rattle.std.proofs.lemmas.Int.{ints}
 use Rattle.sqlite_trees.specs.Tree.{IsAscending}
-use Rattle.sqlite_keyed.proofs.ListLemmas.{all_map, all_weaker, all-map, all-flat_map, ascending-append, ascending-map, ascending_weaker, ascending-filter, all_from_test}
+use Rattle.sqlite_keyed.proofs.ListLemmas.{all_map, all_weaker, all-map, map-map, all-flat_map, ascending-append, ascending-map, ascending_weaker, ascending-filter, all_from_test}
 use Rattle.sqlite_keyed.proofs.SortLemmas.{sorted_unique}
-use Rattle.ft_query.specs.declared.lists.doc_list.DocList.{DocList}
-use Rattle.ft_query.specs.Documents.{PlaceList, plain_list, place_count, Posting, Document, IsBefore, AreDocuments, is_filled, has_places, places_with, lists_with}
+use Rattle.ft_query.specs.Documents.{PlaceList, place_count, Posting, Document, IsBefore, AreDocuments, is_filled, has_places, places_with, lists_with}
 use Rattle.ft_query.specs.declared.lists.place.Place.{Place}
 use Rattle.ft_query.proofs.PhrasePasses.{all_filter}
 use Rattle.ft_values.specs.declared.rows.ListRow.{ListRow}
@@ -23,120 +21,66 @@ use Rattle.ft_values.specs.declared.rows.Spot.{Spot}
 use Rattle.ft_rows.specs.Store.{ListKey, list_key_cmp}
 use Rattle.ft_rows.specs.Shown.{shown_list, bare_list, spot_count}
 use Rattle.ft_rows.proofs.ListLemmas.{filter_passes, and_first, and_second}
-use Rattle.ft_content.specs.Index.{Entry, Key, StoredSpot}
-use Rattle.ft_content.specs.Meaning.{plain_spot, entries_in, entry_cmp, entry_set, posting_of, with_entry, grouped, documents_in, lists_with_terms, all_places}
+use Rattle.ft_content.specs.Index.{Entry, Key}
+use Rattle.ft_content.specs.Meaning.{entries_in, entry_cmp, entry_set, posting_of, with_entry, grouped, documents_in, lists_with_terms, all_places}
 use Rattle.ft_content.proofs.MeaningLemmas.{entry_total, sorted_set}
-use Rattle.ft_documents.specs.declared.lists.Placed.{Placed}
-use Rattle.ft_documents.specs.Placed.{place_in, list_with, with_placed, lists_by_docid, place_of, list_of, placed_in, all_in, placed_cmp, AreListsOf, is_before, rise, is_in_order, are_in_order}
-use Rattle.ft_documents.proofs.KeyedRows.{same_int, tie, turned_round, itself}
+use Rattle.ft_rows.specs.declared.terms.Posting.{Posting as Row}
+use Rattle.ft_rows.specs.Terms.{joined_posting, lists_of_postings}
+use Rattle.ft_documents.specs.Placed.{place_of, spot_in, read_list, list_of, placed_in, all_in, posting_cmp, AreListsOf, is_before, rise, is_in_order, are_in_order}
+use Rattle.ft_documents.proofs.KeyedRows.{same_int}
 
--- ---- places by document
+-- ---- postings by document
 
--- how many of the first places are in the document of this one
-abbrev pub run_with : Placed → List Placed → ℕ
-run_with first ps = prefix_len (λ p. int_eq p.docid first.docid) ps
-
--- the first list is of the first place's docid
-apart : (p q : Placed) (ls : List PlaceList) → int_eq p.docid q.docid ≡ false → with_placed p (with_placed q ls) ≡ list_with p (p ∷ []) ∷ with_placed q ls
-apart p q [] h = ap (λ b. cond b (list_with p (p ∷ q ∷ []) ∷ []) (list_with p (p ∷ []) ∷ list_with q (q ∷ []) ∷ [])) h
-apart p q (l ∷ ls) h = elim (int_eq q.docid l.docid) as (λ b.
-    with_placed p (cond b (record { docid = q.docid; places = place_in q ∷ l.places } ∷ ls) (list_with q (q ∷ []) ∷ l ∷ ls))
-    ≡ list_with p (p ∷ []) ∷ cond b (record { docid = q.docid; places = place_in q ∷ l.places } ∷ ls) (list_with q (q ∷ []) ∷ l ∷ ls)) [
-      | true ↦ ap (λ b. cond b (record { docid = p.docid; places = place_in p ∷ place_in q ∷ l.places } ∷ ls) (list_with p (p ∷ []) ∷ record { docid = q.docid; places = place_in q ∷ l.places } ∷ ls)) h
-      | false ↦ ap (λ b. cond b (list_with p (p ∷ q ∷ []) ∷ l ∷ ls) (list_with p (p ∷ []) ∷ list_with q (q ∷ []) ∷ l ∷ ls)) h
-    ]
-
--- a place before one of its document, or of another
-step : (p q : Placed) (qs : List Placed) (b : Bool) → int_eq q.docid p.docid ≡ b → with_placed q (lists_by_docid qs) ≡ list_with q (q ∷ take (run_with q qs) qs) ∷ lists_by_docid (drop (run_with q qs) qs) →
-    with_placed p (lists_by_docid (q ∷ qs)) ≡ list_with p (p ∷ take (cond b (1 + run_with p qs) 0) (q ∷ qs)) ∷ lists_by_docid (drop (cond b (1 + run_with p qs) 0) (q ∷ qs))
-unfolding lists_by_docid
-step p q qs true e rest =
-    let same = same_int q.docid p.docid e in
-    let more : suc (run_with p qs) ≡ 1 + run_with p qs = omega arith in
-    ap (with_placed p) (rest ∙ ap (λ d. list_with q (q ∷ take (prefix_len (λ (r : Placed). int_eq r.docid d) qs) qs) ∷ lists_by_docid (drop (prefix_len (λ (r : Placed). int_eq r.docid d) qs) qs)) same)
-    ∙ ap (λ b. cond b (list_with p (p ∷ q ∷ take (run_with p qs) qs) ∷ lists_by_docid (drop (run_with p qs) qs)) (list_with p (p ∷ []) ∷ list_with q (q ∷ take (run_with p qs) qs) ∷ lists_by_docid (drop (run_with p qs) qs)))
-    (ap (int_eq p.docid) same ∙ itself p.docid)
-    ∙ ap (λ n. list_with p (p ∷ take n (q ∷ qs)) ∷ lists_by_docid (drop n (q ∷ qs))) more
-step p q qs false e rest = apart p q (lists_by_docid qs) (turned_round p.docid q.docid ∙ e)
-
--- a place before those of its document, and the rest
-runs : (p : Placed) (ps : List Placed) → with_placed p (lists_by_docid ps) ≡ list_with p (p ∷ take (run_with p ps) ps) ∷ lists_by_docid (drop (run_with p ps) ps)
-unfolding lists_by_docid
-runs p [] = refl
-runs p (q ∷ qs) = step p q qs (int_eq q.docid p.docid) refl (runs q qs)
-
--- the first list, and the lists of the rest
-pub first_list : (p : Placed) (ps : List Placed) → lists_by_docid (p ∷ ps) ≡ list_with p (take (run_with p (p ∷ ps)) (p ∷ ps)) ∷ lists_by_docid (drop (run_with p (p ∷ ps)) (p ∷ ps))
-unfolding lists_by_docid
-first_list p ps =
-    let more : suc (run_with p ps) ≡ 1 + run_with p ps = omega arith in
-    runs p ps ∙ ap (λ n. list_with p (take n (p ∷ ps)) ∷ lists_by_docid (drop n (p ∷ ps))) (more ∙ ap (λ b. cond b (1 + run_with p ps) 0) (sym (itself p.docid)))
-
-pub first_lists : (ps : List Placed) (p : Placed) → slice_get ps 0 ≡ Some p → lists_by_docid ps ≡ list_with p (take (run_with p ps) ps) ∷ lists_by_docid (drop (run_with p ps) ps)
-first_lists [] p is = absurd (let no = is in cc)
-first_lists (q ∷ qs) p is = let same : q ≡ p = (let e = is in cc) in
-    subst (λ (p : Placed). lists_by_docid (q ∷ qs) ≡ list_with p (take (run_with p (q ∷ qs)) (q ∷ qs)) ∷ lists_by_docid (drop (run_with p (q ∷ qs)) (q ∷ qs))) same (first_list q qs)
-
-pub no_lists : lists_by_docid [] ≡ []
-unfolding lists_by_docid
-no_lists = refl
-
-with_count : (p : Placed) (ls : List PlaceList) → place_count (with_placed p ls) ≡ suc (place_count ls)
-with_count p [] = refl
-with_count p (l ∷ ls) =
-    let old = sum_by-cons (λ (l : PlaceList). length l.places) l ls in
-    let longer = sum_by-cons (λ (l : PlaceList). length l.places) (record { docid = p.docid; places = place_in p ∷ l.places }) ls in
-    let added = sum_by-cons (λ (l : PlaceList). length l.places) (list_with p (p ∷ [])) (l ∷ ls) in
-    elim (int_eq p.docid l.docid) as (λ b. place_count (cond b (record { docid = p.docid; places = place_in p ∷ l.places } ∷ ls) (list_with p (p ∷ []) ∷ l ∷ ls)) ≡ suc (place_count (l ∷ ls))) [ true ↦ omega arith | false ↦ omega arith ]
+joined_count : (p : Row) (ls : List (ℤ × List Spot)) → spot_count (joined_posting p ls) ≡ suc (spot_count ls)
+joined_count p [] = refl
+joined_count p (l ∷ ls) =
+    let old = sum_by-cons (λ (l : ℤ × List Spot). length l.1) l ls in
+    let longer = sum_by-cons (λ (l : ℤ × List Spot). length l.1) (p.docid, p.spot ∷ l.1) ls in
+    let added = sum_by-cons (λ (l : ℤ × List Spot). length l.1) (p.docid, p.spot ∷ []) (l ∷ ls) in
+    elim (int_eq p.docid l.0) as (λ b. spot_count (cond b ((p.docid, p.spot ∷ l.1) ∷ ls) ((p.docid, p.spot ∷ []) ∷ l ∷ ls)) ≡ suc (spot_count (l ∷ ls))) [ true ↦ omega arith | false ↦ omega arith ]
 
 -- as many places as there are
-pub counted : (ps : List Placed) → place_count (lists_by_docid ps) ≡ length ps
-unfolding lists_by_docid
+counted : (ps : List Row) → spot_count (lists_of_postings ps) ≡ length ps
 counted [] = refl
-counted (p ∷ ps) = with_count p (lists_by_docid ps) ∙ ap suc (counted ps)
+counted (p ∷ ps) = joined_count p (lists_of_postings ps) ∙ ap suc (counted ps)
 
--- the lists so far with one more
-pub next_lists : (lists more : List DocList) (ps own others : List Placed) (p : Placed) (list : DocList) (n : ℕ) → slice_get ps 0 ≡ Some p → more ≡ lists ++ list ∷ [] → plain_list list ≡ list_with p own →
-    n ≡ run_with p ps → own ≡ take n ps → others ≡ drop n ps → map plain_list more ++ lists_by_docid others ≡ map plain_list lists ++ lists_by_docid ps
-next_lists lists more ps own others p list n here longer shows count front back = simp (longer, map-append, append_assoc, shows, front, back, count, first_lists ps p here)
+same_count : (ls : List (ℤ × List Spot)) → place_count (map read_list ls) ≡ spot_count ls
+same_count [] = refl
+same_count (l ∷ ls) =
+    let here = length-map l.1 place_of in
+    let rest = same_count ls in
+    let places = sum_by-cons (λ (l : PlaceList). length l.places) (read_list l) (map read_list ls) in
+    let spots = sum_by-cons (λ (l : ℤ × List Spot). length l.1) l ls in
+    omega arith
 
--- the lists where no place is left
-pub last_lists : (lists : List DocList) (ps : List Placed) → slice_get ps 0 ≡ None → map plain_list lists ≡ map plain_list lists ++ lists_by_docid ps
-last_lists lists [] none = sym (append-nil (map plain_list lists)) ∙ ap (λ ls. map plain_list lists ++ ls) (sym no_lists)
-last_lists lists (p ∷ ps) none = absurd (let no = none in cc)
-
-pub same_places : (ps : List Placed) → IsPermutation ps ps
-same_places ps = IsPermutation-refl ps
+pub same_postings : (ps : List Row) → IsPermutation ps ps
+same_postings ps = IsPermutation-refl ps
 
 -- ---- rows as entries
 
 -- an entry without its term
-abbrev pub bare : Entry → Placed
+abbrev pub bare : Entry → Row
 bare e = placed_in e.docid (posting_of e).place
 
--- a list as a row gives it
-abbrev pub read_list : ℤ × List StoredSpot → PlaceList
-read_list l = record { docid = l.0; places = map place_of l.1 }
-
-one_list : (t : List ℕ) (d : ℤ) (ss : List StoredSpot) (xs : List Placed) (ys : List Entry) → xs ≡ map bare ys →
-    map (placed_in d) (map place_of ss) ++ xs ≡ map bare (map (λ (s : StoredSpot). record { term = t; docid = d; spot = plain_spot s }) ss ++ ys)
+one_list : (t : List ℕ) (d : ℤ) (ss : List Spot) (xs : List Row) (ys : List Entry) → xs ≡ map bare ys →
+    map (placed_in d) (map place_of ss) ++ xs ≡ map bare (map (λ (s : Spot). record { term = t; docid = d; spot = s }) ss ++ ys)
 one_list t d [] xs ys rest = rest
 one_list t d (s ∷ ss) xs ys rest = ap (λ ps. placed_in d (place_of s) ∷ ps) (one_list t d ss xs ys rest)
 
-abbrev of_table : ℤ → List (ListKey × List StoredSpot) → List (Key × List StoredSpot)
-of_table tab lists = map (λ (l : ListKey × List StoredSpot). ((l.0.1, l.0.2), l.1)) (where_key list_key_cmp (λ k. int_eq tab k.0) lists)
+abbrev of_table : ℤ → List (ListKey × List Spot) → List (Key × List Spot)
+of_table tab lists = map (λ (l : ListKey × List Spot). ((l.0.1, l.0.2), l.1)) (where_key list_key_cmp (λ k. int_eq tab k.0) lists)
 
-abbrev asked_places : List (ListKey × List StoredSpot) → List Placed
+abbrev asked_places : List (ListKey × List Spot) → List Row
 asked_places lists = all_in (map read_list (map bare_list lists))
 
 -- the places of the lists that are asked
-pub asked_entries : (tab : ℤ) (asks : ListKey → Bool) (test : List ℕ → Bool) → ((k : ListKey) → asks k ≡ (int_eq tab k.0 && test k.1)) → (lists : List (ListKey × List StoredSpot)) →
+pub asked_entries : (tab : ℤ) (asks : ListKey → Bool) (test : List ℕ → Bool) → ((k : ListKey) → asks k ≡ (int_eq tab k.0 && test k.1)) → (lists : List (ListKey × List Spot)) →
     all_in (map read_list (map bare_list (where_key list_key_cmp asks lists))) ≡ map bare (entries_in (lists_with_terms test (of_table tab lists)))
 asked_entries tab asks test same [] = refl
 asked_entries tab asks test same (l ∷ ls) =
     ap (λ b. asked_places (cond b (l ∷ where_key list_key_cmp asks ls) (where_key list_key_cmp asks ls))) (same l.0)
     ∙ elim (int_eq tab l.0.0) as (λ b. asked_places (cond (b && test l.0.1) (l ∷ where_key list_key_cmp asks ls) (where_key list_key_cmp asks ls))
-    ≡ map bare (entries_in (lists_with_terms test (map (λ (l : ListKey × List StoredSpot). ((l.0.1, l.0.2), l.1)) (cond b (l ∷ where_key list_key_cmp (λ k. int_eq tab k.0) ls) (where_key list_key_cmp (λ k. int_eq tab k.0) ls)))))) [
+    ≡ map bare (entries_in (lists_with_terms test (map (λ (l : ListKey × List Spot). ((l.0.1, l.0.2), l.1)) (cond b (l ∷ where_key list_key_cmp (λ k. int_eq tab k.0) ls) (where_key list_key_cmp (λ k. int_eq tab k.0) ls)))))) [
       | true ↦ elim (test l.0.1) as (λ b. asked_places (cond b (l ∷ where_key list_key_cmp asks ls) (where_key list_key_cmp asks ls))
           ≡ map bare (entries_in (cond b (((l.0.1, l.0.2), l.1) ∷ lists_with_terms test (of_table tab ls)) (lists_with_terms test (of_table tab ls))))) [
             | true ↦ one_list l.0.1 l.0.2 l.1 (asked_places (where_key list_key_cmp asks ls)) (entries_in (lists_with_terms test (of_table tab ls))) (asked_entries tab asks test same ls)
@@ -194,18 +138,18 @@ all_count (l ∷ ls) =
 
 -- ---- places in order
 
-pub placed_total : IsTotalOrder placed_cmp
-placed_total =
-    then_total (on_total (λ (p : Placed). p.docid) int_cmp_total)
-    (then_total (on_total (λ (p : Placed). p.column) nat_cmp_total)
-    (then_total (on_total (λ (p : Placed). p.pos) nat_cmp_total)
-    (then_total (on_total (λ (p : Placed). p.start) nat_cmp_total) (on_total (λ (p : Placed). p.size) nat_cmp_total))))
+pub posting_total : IsTotalOrder posting_cmp
+posting_total =
+    then_total (on_total (λ (p : Row). p.docid) int_cmp_total)
+    (then_total (on_total (λ (p : Row). p.spot.column) nat_cmp_total)
+    (then_total (on_total (λ (p : Row). p.spot.pos) nat_cmp_total)
+    (then_total (on_total (λ (p : Row). p.spot.place) nat_cmp_total) (on_total (λ (p : Row). p.spot.size) nat_cmp_total))))
 
-abbrev pub Below : Placed → Placed → Type 0
-Below a b = placed_cmp a b ≡ Less
+abbrev pub Below : Row → Row → Type 0
+Below a b = posting_cmp a b ≡ Less
 
-pub below_docid : (a b : Placed) → a.docid <ℤ b.docid → Below a b
-below_docid a b h = ap (λ o. ordering_then o (ordering_then (nat_cmp a.column b.column) (ordering_then (nat_cmp a.pos b.pos) (ordering_then (nat_cmp a.start b.start) (nat_cmp a.size b.size))))) (sym (int_cmp_is a.docid b.docid Less h))
+pub below_docid : (a b : Row) → a.docid <ℤ b.docid → Below a b
+below_docid a b h = ap (λ o. ordering_then o (ordering_then (nat_cmp a.spot.column b.spot.column) (ordering_then (nat_cmp a.spot.pos b.spot.pos) (ordering_then (nat_cmp a.spot.place b.spot.place) (nat_cmp a.spot.size b.spot.size))))) (sym (int_cmp_is a.docid b.docid Less h))
 
 module _ (x : ℤ) (p q : Place) where
   abbrev by_size : Ordering
@@ -239,7 +183,7 @@ pub lists_up : (ls : List PlaceList) → IsAscending (λ a b. a.docid <ℤ b.doc
 lists_up [] up each = tt
 lists_up (l ∷ ls) up each =
     ascending-append Below (map (placed_in l.docid) l.places) (all_in ls) each.0 (lists_up ls up.1 each.1)
-    (all-map (λ (x : Placed). AllByRecursion (Below x) (all_in ls)) (placed_in l.docid)
+    (all-map (λ (x : Row). AllByRecursion (Below x) (all_in ls)) (placed_in l.docid)
     (λ p. all-flat_map (Below (placed_in l.docid p)) (λ (m : PlaceList). map (placed_in m.docid) m.places) ls
     (all_weaker (λ (m : PlaceList). l.docid <ℤ m.docid) (λ (m : PlaceList). AllByRecursion (Below (placed_in l.docid p)) (map (placed_in m.docid) m.places))
     (λ m h. all-map (Below (placed_in l.docid p)) (placed_in m.docid) (λ q. below_docid (placed_in l.docid p) (placed_in m.docid q) h) m.places) ls up.0)) l.places)
@@ -267,38 +211,49 @@ module _ (test : List ℕ → Bool) where
 
 -- ---- places in order, by document
 
-abbrev first_apart : ℤ → List PlaceList → Type 0
+abbrev first_apart : ℤ → List (ℤ × List Spot) → Type 0
 first_apart x [] = Unit {0}
-first_apart x (l ∷ ls) = int_eq x l.docid ≡ false
+first_apart x (l ∷ ls) = int_eq x l.0 ≡ false
 
-begins : (x : ℤ) (p : Place) (ls : List PlaceList) → first_apart x ls → with_placed (placed_in x p) ls ≡ record { docid = x; places = p ∷ [] } ∷ ls
+begins : (x : ℤ) (p : Place) (ls : List (ℤ × List Spot)) → first_apart x ls → joined_posting (placed_in x p) ls ≡ (x, spot_in p ∷ []) ∷ ls
 begins x p [] h = refl
-begins x p (l ∷ ls) h = ap (λ b. cond b (record { docid = x; places = p ∷ l.places } ∷ ls) (record { docid = x; places = p ∷ [] } ∷ l ∷ ls)) h
+begins x p (l ∷ ls) h = ap (λ b. cond b ((x, spot_in p ∷ l.1) ∷ ls) ((x, spot_in p ∷ []) ∷ l ∷ ls)) h
 
-one_group : (x : ℤ) (ps : List Place) (qs : List Placed) (ls : List PlaceList) → lists_by_docid qs ≡ ls → first_apart x ls → lists_by_docid (map (placed_in x) ps ++ qs) ≡ cond (is_filled ps) (record { docid = x; places = ps } ∷ ls) ls
-unfolding lists_by_docid
+one_group : (x : ℤ) (ps : List Place) (qs : List Row) (ls : List (ℤ × List Spot)) → lists_of_postings qs ≡ ls → first_apart x ls → lists_of_postings (map (placed_in x) ps ++ qs) ≡ cond (is_filled ps) ((x, map spot_in ps) ∷ ls) ls
 one_group x [] qs ls is h = is
-one_group x (p ∷ []) qs ls is h = ap (with_placed (placed_in x p)) is ∙ begins x p ls h
-one_group x (p ∷ q ∷ ps) qs ls is h = ap (with_placed (placed_in x p)) (one_group x (q ∷ ps) qs ls is h)
-    ∙ ap (λ o. cond (is_eq o) (record { docid = x; places = p ∷ q ∷ ps } ∷ ls) (record { docid = x; places = p ∷ [] } ∷ record { docid = x; places = q ∷ ps } ∷ ls)) (tied_itself int_cmp_total x)
+one_group x (p ∷ []) qs ls is h = ap (joined_posting (placed_in x p)) is ∙ begins x p ls h
+one_group x (p ∷ q ∷ ps) qs ls is h = ap (joined_posting (placed_in x p)) (one_group x (q ∷ ps) qs ls is h)
+    ∙ ap (λ o. cond (is_eq o) ((x, map spot_in (p ∷ q ∷ ps)) ∷ ls) ((x, spot_in p ∷ []) ∷ (x, map spot_in (q ∷ ps)) ∷ ls)) (tied_itself int_cmp_total x)
 
-pub all_groups : (ls : List PlaceList) → AllByRecursion (λ l. has_places l ≡ true) ls → IsAscending (λ a b. a.docid <ℤ b.docid) ls → lists_by_docid (all_in ls) ≡ ls
-unfolding lists_by_docid
-all_groups [] filled up = refl
-all_groups (l ∷ ls) filled up =
-    one_group l.docid l.places (all_in ls) ls (all_groups ls filled.1 up.1) (apart ls up.0)
-    ∙ ap (λ b. cond b (l ∷ ls) ls) filled.0
+abbrev bare_places : PlaceList → ℤ × List Spot
+bare_places l = (l.docid, map spot_in l.places)
+
+joined_groups : (ls : List PlaceList) → AllByRecursion (λ l. has_places l ≡ true) ls → IsAscending (λ a b. a.docid <ℤ b.docid) ls → lists_of_postings (all_in ls) ≡ map bare_places ls
+joined_groups [] filled up = refl
+joined_groups (l ∷ ls) filled up =
+    one_group l.docid l.places (all_in ls) (map bare_places ls) (joined_groups ls filled.1 up.1) (apart ls up.0)
+    ∙ ap (λ b. cond b (map bare_places (l ∷ ls)) (map bare_places ls)) filled.0
   where
-    apart : (ls : List PlaceList) → AllByRecursion (λ b. l.docid <ℤ b.docid) ls → first_apart l.docid ls
+    apart : (ls : List PlaceList) → AllByRecursion (λ b. l.docid <ℤ b.docid) ls → first_apart l.docid (map bare_places ls)
     apart [] up = tt
     apart (b ∷ bs) up = ap is_eq (sym (int_cmp_is l.docid b.docid Less up.0))
 
-pub lists_group : (test : List ℕ → Bool) (ds : List Document) → AreDocuments ds → lists_by_docid (all_in (lists_with test ds)) ≡ lists_with test ds
+places_again : (ps : List Place) → map place_of (map spot_in ps) ≡ ps
+places_again ps = map-map place_of spot_in ps ∙ map-id ps
+
+lists_again : (ls : List PlaceList) → map read_list (map bare_places ls) ≡ ls
+lists_again [] = refl
+lists_again (l ∷ ls) = λ i. record { docid = l.docid; places = places_again l.places i } ∷ lists_again ls i
+
+pub all_groups : (ls : List PlaceList) → AllByRecursion (λ l. has_places l ≡ true) ls → IsAscending (λ a b. a.docid <ℤ b.docid) ls → map read_list (lists_of_postings (all_in ls)) ≡ ls
+all_groups ls filled up = ap (map read_list) (joined_groups ls filled up) ∙ lists_again ls
+
+lists_group : (test : List ℕ → Bool) (ds : List Document) → AreDocuments ds → map read_list (lists_of_postings (all_in (lists_with test ds))) ≡ lists_with test ds
 lists_group test ds order = all_groups (lists_with test ds) (filter_passes has_places (map (places_with test) ds)) (docids_up test ds order)
 
 -- ---- the rows' lists
 
-module _ (ds : List Document) (order : AreDocuments ds) (test : List ℕ → Bool) (lists : List (Key × List StoredSpot)) where
+module _ (ds : List Document) (order : AreDocuments ds) (test : List ℕ → Bool) (lists : List (Key × List Spot)) where
   -- rows of the lists of some terms give what a walk wants, where these mean it and none of their
   -- entries comes twice
   pub rows_answer : lists_with test ds ≡ map all_places (documents_in (lists_with_terms test lists)) → place_count (lists_with test ds) ≡ length (entries_in (lists_with_terms test lists)) →
@@ -312,27 +267,17 @@ module _ (ds : List Document) (order : AreDocuments ds) (test : List ℕ → Boo
       sym (length-map (entry_set es) (λ (e : Entry × Unit {0}). e.0)) ∙ sym (length-map set bare) ∙ sym (ap length same) ∙ all_count (lists_with test ds) ∙ counted in
       let moved : IsPermutation (map bare es) (map bare set) = IsPermutation-map bare es set ((set_is es).1 many) in
       let ordered : IsPermutation (all_in (lists_with test ds)) shown.places =
-      IsPermutation-trans _ _ _ (subst (λ (ps : List Placed). IsPermutation ps (all_in (map list_of rows))) (sym same)
-      (subst (λ (ps : List Placed). IsPermutation (map bare set) ps) (sym are) (IsPermutation-sym _ _ moved))) shown.same in
+      IsPermutation-trans _ _ _ (subst (λ (ps : List Row). IsPermutation ps (all_in (map list_of rows))) (sym same)
+      (subst (λ (ps : List Row). IsPermutation (map bare set) ps) (sym are) (IsPermutation-sym _ _ moved))) shown.same in
       shown.lists
-      ∙ ap lists_by_docid (sorted_unique placed_cmp placed_total (all_in (lists_with test ds)) shown.places (lists_rise test ds order) ordered shown.sorted)
+      ∙ ap (λ ps. map read_list (lists_of_postings ps)) (sorted_unique posting_cmp posting_total (all_in (lists_with test ds)) shown.places (lists_rise test ds order) ordered shown.sorted)
       ∙ lists_group test ds order
-
--- ---- how many places there are
-
-same_count : (rows : List ListRow) → place_count (map list_of rows) ≡ spot_count (map shown_list rows)
-same_count [] = refl
-same_count (r ∷ rows) =
-    let here = length-map r.spots.items place_of in
-    let rest = same_count rows in
-    let places = sum_by-cons (λ (l : PlaceList). length l.places) (list_of r) (map list_of rows) in
-    let spots = sum_by-cons (λ (l : ℤ × List StoredSpot). length l.1) (shown_list r) (map shown_list rows) in
-    omega arith
 
 -- as many as the rows have
 pub rows_count : (rows : List ListRow) (found : List PlaceList) → AreListsOf rows found → place_count found ≡ spot_count (map shown_list rows)
 rows_count rows found shown =
-    ap place_count shown.lists ∙ counted shown.places ∙ length_permutation (all_in (map list_of rows)) shown.places shown.same ∙ all_count (map list_of rows) ∙ same_count rows
+    ap place_count shown.lists ∙ same_count (lists_of_postings shown.places) ∙ counted shown.places ∙ length_permutation (all_in (map list_of rows)) shown.places shown.same
+    ∙ all_count (map list_of rows) ∙ ap place_count (sym (map-map read_list shown_list rows)) ∙ same_count (map shown_list rows)
 
 -- ---- rows that stand in order are lists
 
@@ -371,28 +316,28 @@ ascending_from_rise before R says after (x ∷ y ∷ xs) up =
     let rest = ascending_from_rise before R says after (y ∷ xs) (and_second (before x y) _ up) in
     ((first, all_weaker (R y) (R x) (λ z h. after x y z first h) xs rest.0), rest)
 
-sorted_up : (ps : List Placed) → IsAscending Below ps → IsSorted placed_cmp ps
+sorted_up : (ps : List Row) → IsAscending Below ps → IsSorted posting_cmp ps
 sorted_up [] up k d low within = absurd (omega (arith, within))
 sorted_up (p ∷ []) up k d low within = absurd (omega (arith, within))
-sorted_up (p ∷ q ∷ ps) up zero d low within = ap is_lt (placed_total.antisymm q p ∙ ap ordering_reverse up.0.0)
+sorted_up (p ∷ q ∷ ps) up zero d low within = ap is_lt (posting_total.antisymm q p ∙ ap ordering_reverse up.0.0)
 sorted_up (p ∷ q ∷ ps) up (suc k) d low within = rw add-one (rw add-one at (sorted_up (q ∷ ps) up.1 k d (omega arith) (omega (arith, within))))
 
-before_below : (x : ℤ) (p q : Place) → is_before p q ≡ true → Below (placed_in x p) (placed_in x q)
+before_below : (x : ℤ) (p q : Spot) → is_before p q ≡ true → Below (placed_in x (place_of p)) (placed_in x (place_of q))
 before_below x p q h = go (nat_lt p.column q.column) refl h
   where
-    go : (b : Bool) → nat_lt p.column q.column ≡ b → (b || (p.column == q.column && nat_lt p.pos q.pos)) ≡ true → Below (placed_in x p) (placed_in x q)
-    go true e h = below_column x p q (grind (arith, nat_tests))
+    go : (b : Bool) → nat_lt p.column q.column ≡ b → (b || (p.column == q.column && nat_lt p.pos q.pos)) ≡ true → Below (placed_in x (place_of p)) (placed_in x (place_of q))
+    go true e h = below_column x (place_of p) (place_of q) (grind (arith, nat_tests))
     go false e h =
         let same = and_first (p.column == q.column) (nat_lt p.pos q.pos) h in
         let less = and_second (p.column == q.column) (nat_lt p.pos q.pos) h in
-        below_pos x p q (grind (arith, nat_tests)) (grind (arith, nat_tests))
+        below_pos x (place_of p) (place_of q) (grind (arith, nat_tests)) (grind (arith, nat_tests))
 
 row_rises : (row : ListRow) → is_in_order row ≡ true → IsAscending Below (map (placed_in row.docid) (map place_of row.spots.items))
 row_rises row h =
     ascending-map Below (placed_in row.docid) (map place_of row.spots.items)
     (ascending-map (λ p q. Below (placed_in row.docid p) (placed_in row.docid q)) place_of row.spots.items
-    (ascending_from_rise (λ s t. is_before (place_of s) (place_of t)) (λ s t. Below (placed_in row.docid (place_of s)) (placed_in row.docid (place_of t)))
-    (λ s t e. before_below row.docid (place_of s) (place_of t) e) (λ a b c. placed_total.trans (placed_in row.docid (place_of a)) (placed_in row.docid (place_of b)) (placed_in row.docid (place_of c))) row.spots.items (and_second (is_filled row.spots.items) _ h)))
+    (ascending_from_rise is_before (λ s t. Below (placed_in row.docid (place_of s)) (placed_in row.docid (place_of t)))
+    (before_below row.docid) (λ a b c. posting_total.trans (placed_in row.docid (place_of a)) (placed_in row.docid (place_of b)) (placed_in row.docid (place_of c))) row.spots.items (and_second (is_filled row.spots.items) _ h)))
 
 -- ---- rows that rise
 

@@ -7,7 +7,7 @@ use Rattle.std.specs.FinMap.Entries.{by_order, put}
 use Rattle.std.proofs.lemmas.Map.Lookups.{CmpEqualImpliesEq, exact_signed}
 use Rattle.ft_values.specs.Cells.{Cell}
 use Rattle.ft_content.specs.Content.{TableRows}
-use Rattle.ft_content.specs.Index.{StoredSpot, IndexRows}
+use Rattle.ft_content.specs.Index.{Spot, IndexRows}
 use Rattle.ft_rows.specs.Store.{CellKey, ListKey, cell_key_cmp, list_key_cmp, column_key_cmp, with_columns, with_skipped, without_key, without_rows, AddTable, DropTable, PutCell, DropCells, PutEntries, DropEntries, PutSize, DropSize, ClearIndex, Note}
 use Rattle.ft_documents.specs.RowLaws.{SparesOthers}
 use Rattle.ft_content.proofs.IndexLemmas.{filter-within}
@@ -71,9 +71,9 @@ rows_from columns skipped cells = record {
   cells = map (λ (c : CellKey × Cell). record { docid = c.0.1; column = c.0.2; value = c.1 }) cells;
 }
 
-abbrev index_from : List (ListKey × List StoredSpot) → List (CellKey × ℤ) → IndexRows
+abbrev index_from : List (ListKey × List Spot) → List (CellKey × ℤ) → IndexRows
 index_from lists sizes = record {
-  lists = map (λ (l : ListKey × List StoredSpot). ((l.0.1, l.0.2), l.1)) lists;
+  lists = map (λ (l : ListKey × List Spot). ((l.0.1, l.0.2), l.1)) lists;
   sizes = map (λ (z : CellKey × ℤ). record { docid = z.0.1; column = z.0.2; n = z.1 }) sizes;
 }
 

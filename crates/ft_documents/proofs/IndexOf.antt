@@ -1,31 +1,29 @@
 -- The lists and sizes of documents that join one after another are those made from scratch.
-use Rattle.std.proofs.Common.{◌≡◌, ℕ, zero, suc, ◌+◌, ◌≤◌, true, cond, List, [], ◌∷◌, ◌++◌, map, length, drop, min, ℤ, refl, sym, ap, ◌∙◌, arith, nat_lt, filter, flat_map, false, None, option_map, Ordering, subst, All, ◌<◌, ◌^◌, length-append, get_or, pos, Less, Equal, Greater}
-use Rattle.std.specs.List.{enumerate_from, range_with_len}
-use Rattle.std.proofs.lemmas.List.{map-append, get_or-map}
+use Rattle.std.proofs.Common.{◌≡◌, ℕ, zero, suc, ◌+◌, ◌≤◌, true, cond, List, [], ◌∷◌, ◌++◌, map, length, drop, min, ℤ, refl, sym, ap, ◌∙◌, arith, nat_lt, filter, flat_map, false, None, Ordering, subst, All, ◌<◌, ◌^◌, length-append, pos, Less, Equal, Greater}
+use Rattle.std.specs.List.{enumerate_from}
+use Rattle.std.proofs.lemmas.List.{map-append}
 use Rattle.std.proofs.lemmas.Simd.{map-map}
 use Rattle.std.proofs.lemmas.Bool.Decides.{nat_tests}
 use Rattle.std.specs.Ordering.{eq_by_cmp, match_ordering}
 use Rattle.std.specs.FinMap.Entries.{put, by_order}
 use Rattle.std.proofs.lemmas.List.Concat.{flat_map-append}
-use Rattle.std.proofs.lemmas.List.Elements.{All-nil, All-append, All-head, All-tail}
+use Rattle.std.proofs.lemmas.List.Elements.{All-nil, All-append}
 use Rattle.std.specs.Char.{to_ascii_lowercase}
 use Rattle.std.specs.BTreeMap.{insert_entry}
-use Rattle.std.proofs.lemmas.List.FromFn.{get_or-range_with_len}
 use Rattle.ft_query.specs.Tokens.{PlainToken, Scan, is_eligible, token_of, ended, tokens_from, tokens_of}
 use Rattle.ft_query.specs.Documents.{posting}
-use Rattle.ft_query.proofs.TokenLaw.{computed_tokens}
 use Rattle.ft_values.specs.Cells.{Cell}
 use Rattle.ft_rows.specs.Store.{column_key_cmp}
 use Rattle.ft_content.specs.Content.{Column, Documents, cell_text}
-use Rattle.ft_content.specs.Index.{Entry, entry_at, Key, StoredSpot, Size, size_row, document_tokens, Spot, key_cmp, key_of, stored_spot, spot_lists, document_entries, entries, sizes, index_rows}
+use Rattle.ft_content.specs.Index.{Entry, entry_at, Key, Spot, Size, size_row, document_tokens, key_cmp, key_of, document_entries, entries, sizes, index_rows}
 use Rattle.ft_content.specs.Laws.{spots_of_key, some_if_any}
 use Rattle.ft_content.proofs.IndexLemmas.{lists_are_entries}
 use Rattle.ft_content.proofs.PlanLemmas.{sorted_lists}
 use Rattle.ft_documents.specs.RewriteRows.{with_spots, with_entries, entry_spot, all_put, sized, cell_entries, cell_sizes, AreShortNumbers, lists_joined_by, sizes_with, index_lists_of, sizes_of}
 use Rattle.ft_documents.specs.declared.document_index.DocumentIndex.{DocumentIndex}
-use Rattle.ft_documents.specs.MadeIndex.{lists_in, sizes_in, HaveShortNumbers, AddsDocuments, IsIndexOf, AreSmall, IsTextOf}
+use Rattle.ft_documents.specs.MadeIndex.{lists_in, sizes_in, HaveShortNumbers, AddsDocuments, IsIndexOf, IsTextOf}
 use Rattle.ft_documents.proofs.TermOrder.{with_spots-append, spots_under, joined, made_of}
-use Rattle.ft_documents.proofs.KeyedRows.{true_of, find-values, sorted-values}
+use Rattle.ft_documents.proofs.KeyedRows.{true_of}
 
 -- ---- the entries and sizes of a document, cell by cell
 
@@ -39,14 +37,14 @@ size_at docid c = record { docid = docid; column = c.0; n = length c.1 }
 abbrev pub sizes_from : ℤ → ℕ → List (List PlainToken) → List ((ℤ × ℤ) × ℤ)
 sizes_from docid k columns = sized (map size_row (filter (λ (s : Size). nat_lt 0 s.n) (map (size_at docid) (enumerate_from k columns))))
 
-pub with_entries-append : (es fs : List Entry) (lists : List (Key × List StoredSpot)) → with_entries (es ++ fs) lists ≡ with_entries fs (with_entries es lists)
+pub with_entries-append : (es fs : List Entry) (lists : List (Key × List Spot)) → with_entries (es ++ fs) lists ≡ with_entries fs (with_entries es lists)
 with_entries-append es fs lists = ap (λ xs. with_spots xs lists) (map-append entry_spot es fs) ∙ with_spots-append (map entry_spot es) (map entry_spot fs) lists
 
 entries_first : (docid : ℤ) (k : ℕ) (tokens : List PlainToken) (columns : List (List PlainToken)) → entries_from docid k (tokens ∷ columns) ≡ cell_entries docid k tokens ++ entries_from docid (k + 1) columns
 entries_first docid k tokens columns = simp (map-append, map-map)
 
 -- a column more
-pub lists_more : (docid : ℤ) (k : ℕ) (tokens : List PlainToken) (columns : List (List PlainToken)) (old new all : List (Key × List StoredSpot)) → new ≡ with_entries (cell_entries docid k tokens) old →
+pub lists_more : (docid : ℤ) (k : ℕ) (tokens : List PlainToken) (columns : List (List PlainToken)) (old new all : List (Key × List Spot)) → new ≡ with_entries (cell_entries docid k tokens) old →
     with_entries (entries_from docid k (tokens ∷ columns)) old ≡ all → with_entries (entries_from docid (k + 1) columns) new ≡ all
 lists_more docid k tokens columns old new all grown so_far =
     ap (with_entries (entries_from docid (k + 1) columns)) grown ∙ sym (with_entries-append (cell_entries docid k tokens) (entries_from docid (k + 1) columns) old)
@@ -84,7 +82,7 @@ all_put-append : {K V : Type 0} (R : K → K → Ordering) (es fs rows : List (K
 all_put-append R [] fs rows = refl
 all_put-append R (e ∷ es) fs rows = all_put-append R es fs (put R e.0 e.1 rows)
 
-pub lists_with-append : (columns : List Column) (xs ys : Documents) (lists : List (Key × List StoredSpot)) → lists_joined_by columns (xs ++ ys) lists ≡ lists_joined_by columns ys (lists_joined_by columns xs lists)
+pub lists_with-append : (columns : List Column) (xs ys : Documents) (lists : List (Key × List Spot)) → lists_joined_by columns (xs ++ ys) lists ≡ lists_joined_by columns ys (lists_joined_by columns xs lists)
 lists_with-append columns xs ys lists = ap (λ es. with_entries es lists) (flat_map-append (document_entries columns) xs ys) ∙ with_entries-append (flat_map (document_entries columns) xs) (flat_map (document_entries columns) ys) lists
 
 pub sizes_with-append : (columns : List Column) (xs ys : Documents) (old : List ((ℤ × ℤ) × ℤ)) → sizes_with columns (xs ++ ys) old ≡ sizes_with columns ys (sizes_with columns xs old)
@@ -92,15 +90,15 @@ sizes_with-append columns xs ys old = simp (flat_map-append, map-append, all_put
 
 -- ---- lists
 
-spots_of_entries : (q : Key) (es : List Entry) → spots_under q (map entry_spot es) ≡ map stored_spot (spots_of_key q es)
+spots_of_entries : (q : Key) (es : List Entry) → spots_under q (map entry_spot es) ≡ spots_of_key q es
 spots_of_entries q [] = refl
 spots_of_entries q (e ∷ es) =
-    let left : List (Key × StoredSpot) = filter (λ (x : Key × StoredSpot). eq_by_cmp key_cmp q x.0) (map entry_spot es) in
+    let left : List (Key × Spot) = filter (λ (x : Key × Spot). eq_by_cmp key_cmp q x.0) (map entry_spot es) in
     let right : List Entry = filter (λ (x : Entry). eq_by_cmp key_cmp q (key_of x)) es in
     let rest = spots_of_entries q es in
-    elim (eq_by_cmp key_cmp q (key_of e)) as (λ b. map (λ (x : Key × StoredSpot). x.1) (cond b (entry_spot e ∷ left) left) ≡ map stored_spot (map (λ (x : Entry). x.spot) (cond b (e ∷ right) right))) [ true ↦ ap (λ ss. stored_spot e.spot ∷ ss) rest | false ↦ rest ]
+    elim (eq_by_cmp key_cmp q (key_of e)) as (λ b. map (λ (x : Key × Spot). x.1) (cond b (entry_spot e ∷ left) left) ≡ map (λ (x : Entry). x.spot) (cond b (e ∷ right) right)) [ true ↦ ap (λ ss. e.spot ∷ ss) rest | false ↦ rest ]
 
-joined_none : (ss : List Spot) → joined None (map stored_spot ss) ≡ option_map (map stored_spot) (some_if_any ss)
+joined_none : (ss : List Spot) → joined None ss ≡ some_if_any ss
 joined_none [] = refl
 joined_none (s ∷ ss) = refl
 
@@ -108,8 +106,8 @@ pub lists_made : (columns : List Column) (documents : Documents) → lists_joine
 unfolding index_rows entries
 lists_made columns documents =
     let es = flat_map (document_entries columns) documents in
-    sym (made_of (index_lists_of columns documents) (map entry_spot es) (sorted-values key_cmp (map stored_spot) (spot_lists es) ∙ true_of _ (sorted_lists es))
-    (λ q. find-values key_cmp (map stored_spot) q (spot_lists es) ∙ ap (option_map (map stored_spot)) (lists_are_entries es q.0 q.1) ∙ sym (ap (joined None) (spots_of_entries q es) ∙ joined_none (spots_of_key q es))))
+    sym (made_of (index_lists_of columns documents) (map entry_spot es) (true_of _ (sorted_lists es))
+    (λ q. lists_are_entries es q.0 q.1 ∙ sym (ap (joined None) (spots_of_entries q es) ∙ joined_none (spots_of_key q es))))
 
 pub sizes_made : (columns : List Column) (documents : Documents) → sizes_with columns documents [] ≡ sizes_of columns documents
 unfolding index_rows sizes
@@ -145,19 +143,6 @@ all_joined columns left all index none so_far =
 
 -- ---- the tokens of a cell, one after another
 
-number_at : (ts : List PlainToken) → map (λ (t : PlainToken). t.pos) ts ≡ range_with_len 0 (length ts) → All (λ t. t.pos < length ts) ts
-number_at ts e k d within =
-    let is : (get_or ts k d).pos ≡ 0 + k = sym (get_or-map (λ (t : PlainToken). t.pos) ts k d d.pos within) ∙ ap (λ xs. get_or xs k d.pos) e ∙ get_or-range_with_len 0 (length ts) k d.pos within in
-    omega (arith, is, within)
-
-all_small : (most size : ℕ) (ts : List PlainToken) → most < 2 ^ 63 → size < 2 ^ 63 → All (λ t. t.pos < most) ts → All (λ t. t.start + t.size ≤ size) ts → AreSmall ts
-all_small most size [] m s h g = tt
-all_small most size (t ∷ ts) m s h g =
-    let here = All-head (λ (x : PlainToken). x.pos < most) t ts h in
-    let within = All-head (λ (x : PlainToken). x.start + x.size ≤ size) t ts g in
-    let rest = all_small most size ts m s (All-tail (λ (x : PlainToken). x.pos < most) t ts h) (All-tail (λ (x : PlainToken). x.start + x.size ≤ size) t ts g) in
-    (omega (arith, here, m), omega (arith, within, s), omega (arith, within, s), rest)
-
 few_ended : (count start : ℕ) (run : List ℕ) → length (token_of count start run) ≤ length run
 few_ended count start [] = omega arith
 few_ended count start (b ∷ bs) = omega arith
@@ -175,11 +160,6 @@ few_from s (b ∷ bs) =
 -- a text has at most as many tokens as bytes
 few_in : (text : List ℕ) → length (tokens_of text) ≤ length text
 few_in text = omega (arith, few_from (record { count = 0; start = 0; run = [] }) text)
-
-pub small_tokens : (text : List ℕ) → length text < 2 ^ 63 → AreSmall (tokens_of text)
-small_tokens text short =
-    let are = computed_tokens text in
-    all_small (length (tokens_of text)) (length text) (tokens_of text) (omega (arith, few_in text, short)) short (number_at (tokens_of text) are.positions) are.within
 
 pub few_tokens : {cell : Cell} {bytes : List ℕ} → IsTextOf cell bytes → length (tokens_of (cell_text cell)) < 2 ^ 63
 few_tokens {cell} {bytes} is = subst (λ text. length (tokens_of text) < 2 ^ 63) is.text (omega (arith, few_in bytes, is.short))

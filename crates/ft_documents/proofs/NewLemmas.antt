@@ -11,7 +11,7 @@ use Rattle.ft_values.specs.Cells.{Cell, Null, Int, Text}
 use Rattle.ft_rows.specs.Store.{column_key_cmp, Change, PutCell, DropCells, PutEntries, DropEntries, PutSize, DropSize, StoreValue, cell_key_cmp, list_key_cmp}
 use Rattle.ft_rows.proofs.ListLemmas.{filter_passes}
 use Rattle.ft_content.specs.Content.{Column, Documents, Content}
-use Rattle.ft_content.specs.Index.{Entry, Key, key_cmp, key_of, StoredSpot, stored_spot, Size, SizeRow, size_row, document_tokens, document_postings, entry_at, document_entries, document_sizes, sizes, index_rows}
+use Rattle.ft_content.specs.Index.{Entry, Key, key_cmp, key_of, Spot, Size, SizeRow, size_row, document_tokens, document_postings, entry_at, document_entries, document_sizes, sizes, index_rows}
 use Rattle.ft_content.proofs.IndexLemmas.{key_cmp_total, key_cmp_exact}
 use Rattle.ft_documents.specs.Tables.{IsOfDocids}
 use Rattle.ft_documents.specs.Rewrite.{Rewrite, befores, afters, document_if, rewritten_docids, under_docids, AreOf, HasContent, IsNew, AreNew}
@@ -35,10 +35,10 @@ keys_all_put R Q (e ∷ es) rows h g = keys_all_put R Q es (put R e.0 e.1 rows) 
 
 -- a claim of changes, kind by kind
 module _ (P : Change → Type 0) (tab : ℤ) (columns : List Column) (rewrites : List Rewrite) where
-  abbrev old_lists : List (Key × List StoredSpot)
+  abbrev old_lists : List (Key × List Spot)
   old_lists = index_lists_of columns (befores rewrites)
 
-  abbrev new_lists : List (Key × List StoredSpot)
+  abbrev new_lists : List (Key × List Spot)
   new_lists = index_lists_of columns (afters rewrites)
 
   abbrev old_sizes : List ((ℤ × ℤ) × ℤ)
@@ -48,15 +48,15 @@ module _ (P : Change → Type 0) (tab : ℤ) (columns : List Column) (rewrites :
   new_sizes = sizes_of columns (afters rewrites)
 
   pub all_changes : All (λ (r : Rewrite). P (DropCells tab r.docid)) (filter goes rewrites) → All (λ (r : Rewrite). All P (put_cells tab r.docid (unwrap_or r.before []) (unwrap_or r.after []))) rewrites
-      → All (λ (l : Key × List StoredSpot). P (DropEntries tab l.0.0 l.0.1)) (changed key_cmp same_spots new_lists old_lists) → All (λ (l : Key × List StoredSpot). P (PutEntries tab l.0.0 l.0.1 l.1)) (changed key_cmp same_spots old_lists new_lists)
+      → All (λ (l : Key × List Spot). P (DropEntries tab l.0.0 l.0.1)) (changed key_cmp same_spots new_lists old_lists) → All (λ (l : Key × List Spot). P (PutEntries tab l.0.0 l.0.1 l.1)) (changed key_cmp same_spots old_lists new_lists)
       → All (λ (s : (ℤ × ℤ) × ℤ). P (DropSize tab s.0.0 s.0.1)) (gone column_key_cmp old_sizes new_sizes) → All (λ (s : (ℤ × ℤ) × ℤ). P (PutSize tab s.0.0 s.0.1 s.1)) (changed column_key_cmp int_eq old_sizes new_sizes) → All P (rewrite_changes tab columns rewrites)
   unfolding rewrite_changes
   all_changes drops puts drop_list put_list drop_size put_size =
       All-append P (dropped_documents tab rewrites) _ (All-map P (λ (r : Rewrite). DropCells tab r.docid) (filter goes rewrites) drops)
       (All-append P (put_documents tab rewrites) _ (All-flat_map P (λ (r : Rewrite). put_cells tab r.docid (unwrap_or r.before []) (unwrap_or r.after [])) rewrites puts)
       (All-append P (list_changes tab old_lists new_lists) _
-      (All-append P (dropped_lists tab (changed key_cmp same_spots new_lists old_lists)) _ (All-map P (λ (l : Key × List StoredSpot). DropEntries tab l.0.0 l.0.1) (changed key_cmp same_spots new_lists old_lists) drop_list)
-      (All-map P (λ (l : Key × List StoredSpot). PutEntries tab l.0.0 l.0.1 l.1) (changed key_cmp same_spots old_lists new_lists) put_list))
+      (All-append P (dropped_lists tab (changed key_cmp same_spots new_lists old_lists)) _ (All-map P (λ (l : Key × List Spot). DropEntries tab l.0.0 l.0.1) (changed key_cmp same_spots new_lists old_lists) drop_list)
+      (All-map P (λ (l : Key × List Spot). PutEntries tab l.0.0 l.0.1 l.1) (changed key_cmp same_spots old_lists new_lists) put_list))
       (All-append P (dropped_sizes tab (gone column_key_cmp old_sizes new_sizes)) _ (All-map P (λ (s : (ℤ × ℤ) × ℤ). DropSize tab s.0.0 s.0.1) (gone column_key_cmp old_sizes new_sizes) drop_size)
       (All-map P (λ (s : (ℤ × ℤ) × ℤ). PutSize tab s.0.0 s.0.1 s.1) (changed column_key_cmp int_eq old_sizes new_sizes) put_size))))
 
@@ -69,16 +69,16 @@ module _ (D : ℤ → Type 0) where
   entries_near columns documents h = All-flat_map (λ (e : Entry). D e.docid) (document_entries columns) documents
       (All-weaker (λ (d : ℤ × List Cell). D d.0) (λ d. All (λ (e : Entry). D e.docid) (document_entries columns d)) (λ d is. All-map (λ (e : Entry). D e.docid) (entry_at d.0) (document_postings columns d.1) (λ _ _ _. is)) documents h)
 
-  joined_near : (es : List Entry) (lists : List (Key × List StoredSpot)) → AllByRecursion (λ (e : Entry). D e.docid) es → AllByRecursion (λ (l : Key × List StoredSpot). D l.0.1) lists → AllByRecursion (λ (l : Key × List StoredSpot). D l.0.1) (with_entries es lists)
+  joined_near : (es : List Entry) (lists : List (Key × List Spot)) → AllByRecursion (λ (e : Entry). D e.docid) es → AllByRecursion (λ (l : Key × List Spot). D l.0.1) lists → AllByRecursion (λ (l : Key × List Spot). D l.0.1) (with_entries es lists)
   joined_near [] lists h g = g
   joined_near (e ∷ es) lists h g =
-      let spots = unwrap_or (find key_cmp (key_of e) lists) [] ++ stored_spot e.spot ∷ [] in
+      let spots = unwrap_or (find key_cmp (key_of e) lists) [] ++ e.spot ∷ [] in
       joined_near es (put key_cmp (key_of e) spots lists) h.1 (keys_put key_cmp (λ (k : Key). D k.1) (key_of e) spots lists h.0 g)
 
-  pub lists_near : (columns : List Column) (documents : Documents) → OfDocuments documents → All (λ (l : Key × List StoredSpot). D l.0.1) (index_lists_of columns documents)
+  pub lists_near : (columns : List Column) (documents : Documents) → OfDocuments documents → All (λ (l : Key × List Spot). D l.0.1) (index_lists_of columns documents)
   lists_near columns documents h =
       let es = flat_map (document_entries columns) documents in
-      All-same (λ (l : Key × List StoredSpot). D l.0.1) (index_lists_of columns documents) (lists_joined_by columns documents []) (sym (lists_made columns documents))
+      All-same (λ (l : Key × List Spot). D l.0.1) (index_lists_of columns documents) (lists_joined_by columns documents []) (sym (lists_made columns documents))
       (All-from_recursion _ _ (joined_near es [] (recursion_from_All (λ (e : Entry). D e.docid) es (entries_near columns documents h)) tt))
 
   document_near : (columns : List Column) (d : ℤ × List Cell) → D d.0 → All (λ (s : Size). D s.docid) (document_sizes columns d)
@@ -107,11 +107,11 @@ module _ (D : ℤ → Type 0) where
   -- a claim of changes that holds of a document's changes holds of all changes
   module _ (P : Change → Type 0) where
     pub changes_near : (tab : ℤ) (columns : List Column) (rewrites : List Rewrite) → ((docid : ℤ) → D docid → P (DropCells tab docid)) → ((docid column : ℤ) (cell : Cell) → D docid → P (PutCell tab docid column cell)) →
-        ((term : List ℕ) (docid : ℤ) → D docid → P (DropEntries tab term docid)) → ((term : List ℕ) (docid : ℤ) (spots : List StoredSpot) → D docid → P (PutEntries tab term docid spots)) →
+        ((term : List ℕ) (docid : ℤ) → D docid → P (DropEntries tab term docid)) → ((term : List ℕ) (docid : ℤ) (spots : List Spot) → D docid → P (PutEntries tab term docid spots)) →
         ((docid column : ℤ) → D docid → P (DropSize tab docid column)) → ((docid column n : ℤ) → D docid → P (PutSize tab docid column n)) → All (λ (r : Rewrite). D r.docid) rewrites → All P (rewrite_changes tab columns rewrites)
     changes_near tab columns rewrites drops puts drop_list put_list drop_size put_size h =
         let R : Rewrite → Type 0 = λ r. D r.docid in
-        let N : Key × List StoredSpot → Type 0 = λ l. D l.0.1 in
+        let N : Key × List Spot → Type 0 = λ l. D l.0.1 in
         let S : (ℤ × ℤ) × ℤ → Type 0 = λ s. D s.0.0 in
         let old = lists_near columns (befores rewrites) (befores_near rewrites h) in
         let new = lists_near columns (afters rewrites) (afters_near rewrites h) in
@@ -218,12 +218,12 @@ module _ (name : List ℕ) (content : Content) (tab : ℤ) (store : StoreValue) 
       let known = are.befores in
       let lists_had = index_lists_of columns documents in
       let sizes_had = sizes_of columns documents in
-      let N : Key × List StoredSpot → Type 0 = λ l. find key_cmp l.0 lists_had ≢ Some l.1 in
+      let N : Key × List Spot → Type 0 = λ l. find key_cmp l.0 lists_had ≢ Some l.1 in
       let S : (ℤ × ℤ) × ℤ → Type 0 = λ s. find column_key_cmp s.0 sizes_had ≢ Some s.1 in
       let int_whole = λ (n : ℤ). ap is_eq (tied_itself int_cmp_total n) in
       all_changes (IsNew store) tab columns rewrites (λ _ _ _. tt)
       (All-weaker (λ (r : Rewrite). r.before ≡ find int_cmp r.docid documents) (λ r. All (IsNew store) (put_cells tab r.docid (unwrap_or r.before []) (unwrap_or r.after []))) cells_new rewrites known)
-      (All-weaker (λ (l : Key × List StoredSpot). IsSome (find key_cmp l.0 lists_had)) (λ l. IsSome (find list_key_cmp (tab, l.0.0, l.0.1) store.lists)) (λ l is. ap is_some (list_there l.0) ∙ is) _
+      (All-weaker (λ (l : Key × List Spot). IsSome (find key_cmp l.0 lists_had)) (λ l. IsSome (find list_key_cmp (tab, l.0.0, l.0.1) store.lists)) (λ l is. ap is_some (list_there l.0) ∙ is) _
       (old_new key_cmp key_cmp_total key_cmp_exact (λ k. k.1) (index_lists_of columns) (one_list columns) (lists_are columns) documents rewrites has.is_content.rising are.rising known same_spots (λ ss. (spots_decide ss ss).1 refl) _))
       (All-weaker N (λ l. find list_key_cmp (tab, l.0.0, l.0.1) store.lists ≢ Some l.1) (λ l is there. is (sym (list_there l.0) ∙ there)) _
       (changed_new key_cmp key_cmp_total key_cmp_exact (λ k. k.1) (index_lists_of columns) (one_list columns) (lists_are columns) documents rewrites has.is_content.rising are.rising known same_spots (λ ss. (spots_decide ss ss).1 refl)))

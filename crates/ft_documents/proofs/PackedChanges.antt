@@ -1,5 +1,5 @@
 -- The row changes of documents put lists that can be packed.
-use Rattle.std.proofs.Common.{◌≡◌, ℕ, ◌+◌, ◌<◌, ◌≤◌, Bool, true, false, cond, not, List, [], ◌∷◌, map, length, Option, Some, None, ℤ, refl, sym, ap, subst, ◌∙◌, arith, inl, inr, nat_lt, ◌==◌, filter, All, AllPairs, option_map, unwrap_or, IfSome, get_or, int_cmp, int_eq}
+use Rattle.std.proofs.Common.{◌≡◌, ℕ, ◌+◌, ◌<◌, ◌≤◌, Bool, true, false, cond, not, List, [], ◌∷◌, map, length, Option, Some, None, ℤ, refl, sym, ap, subst, ◌∙◌, arith, inl, inr, nat_lt, ◌==◌, filter, All, AllPairs, unwrap_or, IfSome, get_or, int_cmp, int_eq}
 use Rattle.std.specs.List.{list_all, range_with_len, AllByRecursion}
 use Rattle.std.specs.Ordering.{eq_by_cmp}
 use Rattle.std.proofs.lemmas.Bool.{and_parts, and_from}
@@ -8,7 +8,6 @@ use Rattle.std.proofs.lemmas.List.Elements.{All-nil, All-cons, All-head, All-tai
 use Rattle.std.proofs.lemmas.List.Kept.{AllPairs-filter}
 use Rattle.std.specs.FinMap.Entries.{find, is_sorted}
 use Rattle.sqlite_trees.proofs.ListLemmas.{all_of}
-use Rattle.sqlite_keyed.proofs.ListLemmas.{map-map}
 use Rattle.ft_query.specs.Tokens.{PlainToken, tokens_of}
 use Rattle.ft_query.specs.Documents.{Posting, posting, IsBefore, postings_of}
 use Rattle.ft_query.proofs.TokenLaw.{computed_tokens}
@@ -22,7 +21,7 @@ use Rattle.ft_rows.specs.Changes.{shown_change, CanApply}
 use Rattle.ft_rows.specs.Packed.{CanPack}
 use Rattle.ft_rows.specs.Store.{PutCell}
 use Rattle.ft_content.specs.Content.{Column, cell_text, is_cell, has_nul, Documents, is_document}
-use Rattle.ft_content.specs.Index.{Spot, Entry, entry_at, Key, key_cmp, key_of, StoredSpot, stored_spot, indexed_text, cell_tokens, document_tokens, document_postings, document_entries}
+use Rattle.ft_content.specs.Index.{Spot, Entry, entry_at, Key, key_cmp, key_of, indexed_text, cell_tokens, document_tokens, document_postings, document_entries}
 use Rattle.ft_content.specs.Laws.{spots_of_key, some_if_any}
 use Rattle.ft_content.proofs.IndexLemmas.{lists_are_entries, key_cmp_total, key_cmp_exact}
 use Rattle.ft_content.proofs.MeaningLemmas.{document_texts, tokens_are}
@@ -129,41 +128,24 @@ places_rise p (q ∷ qs) are rise = grind (arith, is_place q (All-head IsPlace q
 are_places : (p : Posting) (ps : List Posting) → All IsPlace (p ∷ ps) → AllPairs IsBefore (p ∷ ps) → packing.are_spots (map place_of (p ∷ ps)) ≡ true
 are_places p ps are rise = and_from (packing.is_spot (place_of p)) (packing.rise_after (place_of p) (map place_of ps)) (is_place p (All-head IsPlace p ps are)) (places_rise p ps (All-tail IsPlace p ps are) rise)
 
--- the spots of some postings, as the store has them
-abbrev stored_places : List Posting → List StoredSpot
-stored_places ps = map (λ (p : Posting). packing.stored_spot (place_of p)) ps
-
-plain_again : (ps : List Posting) → map packing.packed_spot (stored_places ps) ≡ map place_of ps
-plain_again [] = refl
-plain_again (p ∷ ps) = ap (λ ss. place_of p ∷ ss) (plain_again ps)
-
-stored_again : (ps : List Posting) → stored_places ps ≡ map packing.stored_spot (map place_of ps)
-stored_again ps = sym (map-map packing.stored_spot place_of ps)
-
-can_pack : (p : Posting) (ps : List Posting) → All IsPlace (p ∷ ps) → AllPairs IsBefore (p ∷ ps) → packing.CanPack (stored_places (p ∷ ps))
-can_pack p ps are rise = record {
-  plain = stored_again (p ∷ ps) ∙ ap (map packing.stored_spot) (sym (plain_again (p ∷ ps)));
-  rise = ap packing.are_spots (plain_again (p ∷ ps)) ∙ are_places p ps are rise;
-}
-
 -- the spots of a key are those of the postings with its term
-spots_of : (q : Key) (docid : ℤ) (ps : List Posting) → map stored_spot (spots_of_key q (map (entry_at docid) ps)) ≡ stored_places (filter (λ (p : Posting). eq_by_cmp key_cmp q (key_of (entry_at docid p))) ps)
+spots_of : (q : Key) (docid : ℤ) (ps : List Posting) → spots_of_key q (map (entry_at docid) ps) ≡ map place_of (filter (λ (p : Posting). eq_by_cmp key_cmp q (key_of (entry_at docid p))) ps)
 spots_of q docid [] = refl
 spots_of q docid (p ∷ ps) =
     let entries = filter (λ (e : Entry). eq_by_cmp key_cmp q (key_of e)) (map (entry_at docid) ps) in
     let kept = filter (λ (p : Posting). eq_by_cmp key_cmp q (key_of (entry_at docid p))) ps in
-    elim (eq_by_cmp key_cmp q (key_of (entry_at docid p))) as (λ b. map stored_spot (map (λ (e : Entry). e.spot) (cond b (entry_at docid p ∷ entries) entries)) ≡ stored_places (cond b (p ∷ kept) kept)) [
-      | true ↦ ap (λ ss. packing.stored_spot (place_of p) ∷ ss) (spots_of q docid ps)
+    elim (eq_by_cmp key_cmp q (key_of (entry_at docid p))) as (λ b. map (λ (e : Entry). e.spot) (cond b (entry_at docid p ∷ entries) entries) ≡ map place_of (cond b (p ∷ kept) kept)) [
+      | true ↦ ap (λ ss. place_of p ∷ ss) (spots_of q docid ps)
       | false ↦ spots_of q docid ps
     ]
 
-some_packed : (ps : List Posting) (spots : List Spot) (ss : List StoredSpot) → map stored_spot spots ≡ stored_places ps → All IsPlace ps → AllPairs IsBefore ps → option_map (map stored_spot) (some_if_any spots) ≡ Some ss → packing.CanPack ss
+some_packed : (ps : List Posting) (spots ss : List Spot) → spots ≡ map place_of ps → All IsPlace ps → AllPairs IsBefore ps → some_if_any spots ≡ Some ss → packing.CanPack ss
 some_packed ps [] ss same are rise is = absurd (let no = is in cc)
 some_packed [] (s ∷ spots) ss same are rise is = absurd (let no = same in cc)
-some_packed (p ∷ ps) (s ∷ spots) ss same are rise is = subst packing.CanPack (sym same ∙ ap (λ o. unwrap_or o []) is) (can_pack p ps are rise)
+some_packed (p ∷ ps) (s ∷ spots) ss same are rise is = subst packing.CanPack (sym same ∙ ap (λ o. unwrap_or o []) is) (are_places p ps are rise)
 
 -- Each list of a document can be packed.
-pub list_packed : (columns : List Column) (q : Key) (held : Option (List Cell)) (ss : List StoredSpot) → length columns ≤ 100 → IfSome held (AreShortTexts columns) → one_list columns q held ≡ Some ss → packing.CanPack ss
+pub list_packed : (columns : List Column) (q : Key) (held : Option (List Cell)) (ss : List Spot) → length columns ≤ 100 → IfSome held (AreShortTexts columns) → one_list columns q held ≡ Some ss → packing.CanPack ss
 list_packed columns q None ss few short is = absurd (let no = is in cc)
 list_packed columns q (Some cells) ss few short is =
     let ps = document_postings columns cells in
@@ -171,7 +153,7 @@ list_packed columns q (Some cells) ss few short is =
     let none_before : 0 + length columns ≤ 100 = omega (arith, few) in
     some_packed (filter test ps) (spots_of_key q (document_entries columns (q.1, cells))) ss (spots_of q q.1 ps)
     (All-filter test IsPlace ps (places 0 columns cells none_before short)) (AllPairs-filter IsBefore test ps (in_order columns cells))
-    (ap (option_map (map stored_spot)) (sym (lists_are_entries (document_entries columns (q.1, cells)) q.0 q.1)) ∙ is)
+    (sym (lists_are_entries (document_entries columns (q.1, cells)) q.0 q.1) ∙ is)
 
 -- ---- the row changes of documents put lists that can be packed
 
@@ -183,12 +165,12 @@ module _ (columns : List Column) where
   found_short docid [] h = tt
   found_short docid (d ∷ ds) h = elim (int_eq docid d.0) as (λ b. IfSome (cond b (Some d.1) (find int_cmp docid ds)) (AreShortTexts columns)) [ true ↦ All-head ShortDocument d ds h | false ↦ found_short docid ds (All-tail ShortDocument d ds h) ]
 
-  pub lists_packed : (documents : Documents) → length columns ≤ 100 → is_sorted int_cmp documents ≡ true → All ShortDocument documents → All (λ (l : Key × List StoredSpot). CanPack l.1) (index_lists_of columns documents)
+  pub lists_packed : (documents : Documents) → length columns ≤ 100 → is_sorted int_cmp documents ≡ true → All ShortDocument documents → All (λ (l : Key × List Spot). CanPack l.1) (index_lists_of columns documents)
   lists_packed documents few rising short =
       let rows = index_lists_of columns documents in
-      All-weaker (λ (l : Key × List StoredSpot). find key_cmp l.0 rows ≡ Some l.1) (λ (l : Key × List StoredSpot). CanPack l.1)
+      All-weaker (λ (l : Key × List Spot). find key_cmp l.0 rows ≡ Some l.1) (λ (l : Key × List Spot). CanPack l.1)
       (λ l is. list_packed columns l.0 (find int_cmp l.0.1 documents) l.1 few (found_short l.0.1 documents short) (sym ((lists_are columns).found l.0 documents rising) ∙ is)) rows
-      (All-from_recursion (λ (l : Key × List StoredSpot). find key_cmp l.0 rows ≡ Some l.1) rows (each_found key_cmp key_cmp_total key_cmp_exact rows ((lists_are columns).sorted documents rising)))
+      (All-from_recursion (λ (l : Key × List Spot). find key_cmp l.0 rows ≡ Some l.1) rows (each_found key_cmp key_cmp_total key_cmp_exact rows ((lists_are columns).sorted documents rising)))
 
   -- documents of a table have short texts
   pub document_short : (d : ℤ × List Cell) → is_document (length columns) d ≡ true → AreShortNumbers columns d.1 → ShortDocument d
@@ -209,7 +191,7 @@ module _ (columns : List Column) where
 all_packable : (tab : ℤ) (columns : List Column) (rewrites : List Rewrite) → length columns ≤ 100 → is_sorted int_cmp (under_docids rewrites) ≡ true → All (FitIfAny (length columns)) rewrites → HaveShortNumbers columns (afters rewrites) → All IsPackable (rewrite_changes tab columns rewrites)
 all_packable tab columns rewrites few rising fits numbers =
     let packed = lists_packed columns (afters rewrites) few (sorted_held (λ (r : Rewrite). r.after) rewrites rising) (afters_short columns rewrites fits numbers) in
-    all_changes IsPackable tab columns rewrites (λ _ _ _. tt) (λ k d _. put_packable (get_or rewrites k d)) (λ _ _ _. tt) (All-filter _ (λ (l : Key × List StoredSpot). CanPack l.1) (index_lists_of columns (afters rewrites)) packed) (λ _ _ _. tt) (λ _ _ _. tt)
+    all_changes IsPackable tab columns rewrites (λ _ _ _. tt) (λ k d _. put_packable (get_or rewrites k d)) (λ _ _ _. tt) (All-filter _ (λ (l : Key × List Spot). CanPack l.1) (index_lists_of columns (afters rewrites)) packed) (λ _ _ _. tt) (λ _ _ _. tt)
   where
     put_packable : (r : Rewrite) → All IsPackable (put_cells tab r.docid (unwrap_or r.before []) (unwrap_or r.after []))
     put_packable r = All-map IsPackable (λ (c : ℤ × Cell). PutCell tab r.docid c.0 c.1) (changed int_cmp same_cell (numbered_cells (unwrap_or r.before [])) (numbered_cells (unwrap_or r.after []))) (λ _ _ _. tt)

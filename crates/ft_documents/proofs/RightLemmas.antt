@@ -9,18 +9,18 @@ use Rattle.std.proofs.lemmas.Bool.{and_parts}
 use Rattle.std.proofs.lemmas.List.Elements.{All-map, All-from_recursion}
 use Rattle.std.proofs.lemmas.Map.Lookups.{exact_signed}
 use Rattle.std.proofs.lemmas.Slice.Eq.{bytes_eq-Decides, slice_eq-Decides}
-use Rattle.std.proofs.lemmas.Bool.Decides.{nat_tests}
+use Rattle.std.proofs.lemmas.Bool.Decides.{Decides-eqb}
 use Rattle.sqlite_keyed.proofs.ListLemmas.{map-map, all_from_test}
 use Rattle.ft_values.specs.Cells.{Cell, Null, Int, Text}
 use Rattle.ft_rows.specs.Store.{StoreValue, CellKey, cell_key_cmp, list_key_cmp, column_key_cmp, without_key, Change, PutCell, DropCells, all_applied, AreInOrder, ListKey}
-use Rattle.ft_content.specs.Index.{Key, StoredSpot, key_cmp, index_rows}
+use Rattle.ft_content.specs.Index.{Key, Spot, key_cmp, index_rows}
 use Rattle.ft_content.specs.Content.{Documents, Column, Content, is_cell, is_document, content_rows, document_rows}
 use Rattle.ft_content.proofs.IndexLemmas.{key_cmp_total, key_cmp_exact}
 use Rattle.ft_documents.specs.Rewrite.{Rewrite, under_docids, rewritten, befores, afters, rewritten_content, FitIfAny, AreOf, HasContent, AreRight}
 use Rattle.ft_documents.specs.RewriteRows.{all_put, same_cell, changed, numbered_cells, goes, dropped_documents, put_documents, dropped_lists, put_lists, dropped_sizes, put_sizes, was_there, same_spot, same_spots, gone, sized, index_lists_of, sizes_of, rewrite_changes}
 use Rattle.ft_documents.specs.Tables.{table_rows, table_index}
 use Rattle.ft_documents.proofs.StoreKeys.{list_exact, list_total, cell_exact, cell_total, list_keys, cell_keys, column_total, column_exact, own, joined, own_all_put, own_all_dropped}
-use Rattle.ft_documents.proofs.KeyedRows.{same_int, itself, true_of, of_true, all_dropped, found_holds, tie, none_below, sorted_put, find_all_put, or_else, fresh, changed_found, sorted-filter, turned_round, gone_is, sorted_dropped}
+use Rattle.ft_documents.proofs.KeyedRows.{same_int, true_of, of_true, all_dropped, found_holds, tie, none_below, sorted_put, find_all_put, or_else, fresh, changed_found, sorted-filter, turned_round, gone_is, sorted_dropped}
 use Rattle.ft_documents.proofs.RowKinds.{rows_by, one_by, sorted_by, find_by, sorted_numbered, cells_are, cell_row, keyed_cell, content_cells, keyed_again, one_list, lists_are, size_of, sized_again, sizes_again, counts, stored_sizes, sizes_are}
 use Rattle.ft_documents.proofs.CellSteps.{numbered_from}
 use Rattle.ft_documents.proofs.RewriteLemmas.{Cells, written, before_found, sorted_rewritten, last_rows, rows_renewed}
@@ -31,11 +31,11 @@ pub applied_append : (xs ys : List Change) (store : StoreValue) → all_applied 
 applied_append [] ys store = refl
 applied_append (x ∷ xs) ys store = applied_append xs ys (all_applied (x ∷ []) store)
 
-pub put_lists_applied : (tab : ℤ) (es : List (Key × List StoredSpot)) (store : StoreValue) → all_applied (put_lists tab es) store ≡ record store { lists = all_put list_key_cmp (joined list_keys tab es) store.lists }
+pub put_lists_applied : (tab : ℤ) (es : List (Key × List Spot)) (store : StoreValue) → all_applied (put_lists tab es) store ≡ record store { lists = all_put list_key_cmp (joined list_keys tab es) store.lists }
 put_lists_applied tab [] store = refl
 put_lists_applied tab (e ∷ es) store = put_lists_applied tab es (record store { lists = put list_key_cmp (tab, e.0.0, e.0.1) e.1 store.lists })
 
-pub dropped_lists_applied : (tab : ℤ) (es : List (Key × List StoredSpot)) (store : StoreValue) → all_applied (dropped_lists tab es) store ≡ record store { lists = all_dropped list_key_cmp list_total list_exact (joined list_keys tab es) store.lists }
+pub dropped_lists_applied : (tab : ℤ) (es : List (Key × List Spot)) (store : StoreValue) → all_applied (dropped_lists tab es) store ≡ record store { lists = all_dropped list_key_cmp list_total list_exact (joined list_keys tab es) store.lists }
 dropped_lists_applied tab [] store = refl
 dropped_lists_applied tab (e ∷ es) store = dropped_lists_applied tab es (record store { lists = without_key list_key_cmp (tab, e.0.0, e.0.1) store.lists })
 
@@ -225,10 +225,10 @@ cells_right documents rewrites ordered rising known fits =
 -- ---- the store after all changes
 
 module _ (tab : ℤ) (columns : List Column) (rewrites : List Rewrite) where
-  abbrev lists_gone : List (Key × List StoredSpot)
+  abbrev lists_gone : List (Key × List Spot)
   lists_gone = changed key_cmp same_spots (index_lists_of columns (afters rewrites)) (index_lists_of columns (befores rewrites))
 
-  abbrev lists_changed : List (Key × List StoredSpot)
+  abbrev lists_changed : List (Key × List Spot)
   lists_changed = changed key_cmp same_spots (index_lists_of columns (befores rewrites)) (index_lists_of columns (afters rewrites))
 
   abbrev sizes_gone : List ((ℤ × ℤ) × ℤ)
@@ -240,7 +240,7 @@ module _ (tab : ℤ) (columns : List Column) (rewrites : List Rewrite) where
   abbrev cells_after : StoreValue → List (CellKey × Cell)
   cells_after store = all_put cell_key_cmp (joined cell_keys tab (rows_by new_cells (under_docids rewrites))) (cells_dropped tab (filter goes rewrites) store.cells)
 
-  abbrev lists_after : StoreValue → List (ListKey × List StoredSpot)
+  abbrev lists_after : StoreValue → List (ListKey × List Spot)
   lists_after store = all_put list_key_cmp (joined list_keys tab lists_changed) (all_dropped list_key_cmp list_total list_exact (joined list_keys tab lists_gone) store.lists)
 
   abbrev sizes_after : StoreValue → List (CellKey × ℤ)
@@ -263,17 +263,20 @@ module _ (tab : ℤ) (columns : List Column) (rewrites : List Rewrite) where
 
 -- ---- tests that decide
 
-spot_sound : (s t : StoredSpot) → same_spot s t ≡ true → s ≡ t
+spot_sound : (s t : Spot) → same_spot s t ≡ true → s ≡ t
 spot_sound s t h =
-    let a = and_parts (int_eq s.column t.column) (int_eq s.pos t.pos && (int_eq s.place t.place && int_eq s.size t.size)) h in
-    let b = and_parts (int_eq s.pos t.pos) (int_eq s.place t.place && int_eq s.size t.size) a.1 in
-    let c = and_parts (int_eq s.place t.place) (int_eq s.size t.size) b.1 in
-    λ i. record { column = exact_signed s.column t.column (tie _ a.0) i; pos = exact_signed s.pos t.pos (tie _ b.0) i; place = exact_signed s.place t.place (tie _ c.0) i; size = exact_signed s.size t.size (tie _ c.1) i }
+    let a = and_parts (s.column == t.column) ((s.pos == t.pos) && ((s.place == t.place) && (s.size == t.size))) h in
+    let b = and_parts (s.pos == t.pos) ((s.place == t.place) && (s.size == t.size)) a.1 in
+    let c = and_parts (s.place == t.place) (s.size == t.size) b.1 in
+    λ i. record { column = eqb-true s.column t.column a.0 i; pos = eqb-true s.pos t.pos b.0 i; place = eqb-true s.place t.place c.0 i; size = eqb-true s.size t.size c.1 i }
 
-spot_decides : (s t : StoredSpot) → Decides (same_spot s t) (s ≡ t)
-spot_decides s t = (spot_sound s t, λ is. ap (same_spot s) (sym is) ∙ (λ i. itself s.column i && (itself s.pos i && (itself s.place i && itself s.size i))))
+spot_decides : (s t : Spot) → Decides (same_spot s t) (s ≡ t)
+spot_decides s t = (spot_sound s t, λ is. ap (same_spot s) (sym is) ∙ (λ i. one s.column i && (one s.pos i && (one s.place i && one s.size i))))
+  where
+    one : (n : ℕ) → (n == n) ≡ true
+    one n = (Decides-eqb n n).1 refl
 
-pub spots_decide : (ss ts : List StoredSpot) → Decides (same_spots ss ts) (ss ≡ ts)
+pub spots_decide : (ss ts : List Spot) → Decides (same_spots ss ts) (ss ≡ ts)
 spots_decide ss ts = slice_eq-Decides spot_decides ss ts (same_spots ss ts) refl
 
 -- ---- documents keep their columns

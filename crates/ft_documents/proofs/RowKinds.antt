@@ -1,5 +1,5 @@
 -- The cells, lists and sizes of documents as rows under keys.
-use Rattle.std.proofs.Common.{◌≡◌, ℕ, ◌+◌, ◌<◌, Bool, true, false, cond, List, [], ◌∷◌, ◌++◌, map, Option, Some, None, ℤ, pos, refl, ap, ◌∙◌, arith, filter, flat_map, option_and_then, Ordering, Less, Equal, Greater, int_cmp, int_eq, is_eq, is_lt, map-id, length, sym, nat_lt, option_map}
+use Rattle.std.proofs.Common.{◌≡◌, ℕ, ◌+◌, ◌<◌, Bool, true, false, cond, List, [], ◌∷◌, ◌++◌, map, Option, Some, None, ℤ, pos, refl, ap, ◌∙◌, arith, filter, flat_map, option_and_then, Ordering, Less, Equal, Greater, int_cmp, int_eq, is_eq, is_lt, map-id, length, sym, nat_lt}
 use Rattle.std.specs.List.{enumerate_from}
 use Rattle.std.specs.Ordering.{ordering_then}
 use Rattle.std.specs.Cmp.{IsTotalOrder, int_cmp_total, tied_itself}
@@ -13,11 +13,11 @@ use Rattle.ft_query.specs.Tokens.{PlainToken}
 use Rattle.ft_values.specs.Cells.{Cell}
 use Rattle.ft_rows.specs.Store.{column_key_cmp}
 use Rattle.ft_content.specs.Content.{Column, Documents, CellRow, document_rows}
-use Rattle.ft_content.specs.Index.{Key, key_cmp, StoredSpot, stored_spot, spot_lists, Size, SizeRow, size_row, document_tokens, document_sizes, entries, sizes, index_rows}
+use Rattle.ft_content.specs.Index.{Key, key_cmp, Spot, Size, SizeRow, size_row, document_tokens, document_sizes, entries, sizes, index_rows}
 use Rattle.ft_content.specs.Laws.{content_with, document_lists}
 use Rattle.ft_content.proofs.PlanLemmas.{sorted_lists, old_found}
 use Rattle.ft_documents.specs.RewriteRows.{sized, numbered_cells, all_put, index_lists_of, sizes_of}
-use Rattle.ft_documents.proofs.KeyedRows.{none_below, true_of, of_true, find-values, sorted-values, put_in_order}
+use Rattle.ft_documents.proofs.KeyedRows.{none_below, true_of, of_true, put_in_order}
 use Rattle.ft_documents.proofs.CellSteps.{numbered_from, pos_less}
 use Rattle.ft_documents.proofs.StoreKeys.{column_total, column_exact}
 use Rattle.ft_documents.proofs.RewriteLemmas.{AreRowsOf}
@@ -164,14 +164,14 @@ cells_are = record {
 
 -- ---- lists
 
-abbrev pub one_list : List Column → Key → Option (List Cell) → Option (List StoredSpot)
-one_list columns q held = option_map (map stored_spot) (find key_cmp q (document_lists columns q.1 held))
+abbrev pub one_list : List Column → Key → Option (List Cell) → Option (List Spot)
+one_list columns q held = find key_cmp q (document_lists columns q.1 held)
 
 pub lists_are : (columns : List Column) → AreRowsOf key_cmp (λ k. k.1) (index_lists_of columns) (one_list columns)
 unfolding index_rows
 lists_are columns = record {
-  sorted = λ documents h. sorted-values key_cmp (map stored_spot) (spot_lists (entries (content_with columns documents))) ∙ true_of _ (sorted_lists (entries (content_with columns documents)));
-  found = λ q documents h. find-values key_cmp (map stored_spot) q (spot_lists (entries (content_with columns documents))) ∙ ap (option_map (map stored_spot)) (old_found columns documents q.1 q.0 (of_true _ h));
+  sorted = λ documents h. true_of _ (sorted_lists (entries (content_with columns documents)));
+  found = λ q documents h. old_found columns documents q.1 q.0 (of_true _ h);
   none = λ q. refl;
 }
 

@@ -28,7 +28,7 @@ use lib.ListN.{length-map}
 use Rattle.ft_rows.specs.declared.terms.Posting.{Posting}
 use Rattle.ft_rows.specs.Terms.{spot_of, joined_posting as before_lists, lists_of_postings}
 use Rattle.ft_rows.specs.declared.terms.TermLists.{TermLists}
-use Rattle.ft_content.specs.Index.{Key, key_cmp, StoredSpot}
+use Rattle.ft_content.specs.Index.{Key, key_cmp, Spot}
 use Rattle.ft_content.proofs.IndexLemmas.{key_cmp_total, key_cmp_exact}
 use Rattle.ft_documents.specs.RewriteRows.{with_spots}
 use Rattle.ft_documents.specs.Terms.{Group, group_spots, lists_in_groups, spots_of_docid, by_docids, lists_of_terms}
@@ -39,46 +39,46 @@ use Rattle.ft_documents.proofs.RowKinds.{find_under, below_under, sorted_under, 
 -- ---- what spots make under their keys, one after another
 
 -- the spots of a key
-abbrev pub spots_under : Key → List (Key × StoredSpot) → List StoredSpot
-spots_under q xs = map (λ (x : Key × StoredSpot). x.1) (filter (λ (x : Key × StoredSpot). eq_by_cmp key_cmp q x.0) xs)
+abbrev pub spots_under : Key → List (Key × Spot) → List Spot
+spots_under q xs = map (λ (x : Key × Spot). x.1) (filter (λ (x : Key × Spot). eq_by_cmp key_cmp q x.0) xs)
 
-pub spots_under-append : (q : Key) (xs ys : List (Key × StoredSpot)) → spots_under q (xs ++ ys) ≡ spots_under q xs ++ spots_under q ys
+pub spots_under-append : (q : Key) (xs ys : List (Key × Spot)) → spots_under q (xs ++ ys) ≡ spots_under q xs ++ spots_under q ys
 spots_under-append q xs ys = simp (filter-append, map-append)
 
-pub with_spots-append : (xs ys : List (Key × StoredSpot)) (lists : List (Key × List StoredSpot)) → with_spots (xs ++ ys) lists ≡ with_spots ys (with_spots xs lists)
+pub with_spots-append : (xs ys : List (Key × Spot)) (lists : List (Key × List Spot)) → with_spots (xs ++ ys) lists ≡ with_spots ys (with_spots xs lists)
 with_spots-append [] ys lists = refl
 with_spots-append (x ∷ xs) ys lists = with_spots-append xs ys (put key_cmp x.0 (unwrap_or (find key_cmp x.0 lists) [] ++ x.1 ∷ []) lists)
 
 -- spots behind those of a list, if there are any
-abbrev pub joined : Option (List StoredSpot) → List StoredSpot → Option (List StoredSpot)
+abbrev pub joined : Option (List Spot) → List Spot → Option (List Spot)
 joined o [] = o
 joined o (s ∷ ss) = Some (unwrap_or o [] ++ s ∷ ss)
 
-joined_more : (before : List StoredSpot) (s : StoredSpot) (ss : List StoredSpot) → joined (Some (before ++ s ∷ [])) ss ≡ Some (before ++ s ∷ ss)
+joined_more : (before : List Spot) (s : Spot) (ss : List Spot) → joined (Some (before ++ s ∷ [])) ss ≡ Some (before ++ s ∷ ss)
 joined_more before s [] = refl
 joined_more before s (t ∷ ts) = ap Some (append_assoc before (s ∷ []) (t ∷ ts))
 
-pub found_joined : (q : Key) (xs : List (Key × StoredSpot)) (lists : List (Key × List StoredSpot)) → find key_cmp q (with_spots xs lists) ≡ joined (find key_cmp q lists) (spots_under q xs)
+pub found_joined : (q : Key) (xs : List (Key × Spot)) (lists : List (Key × List Spot)) → find key_cmp q (with_spots xs lists) ≡ joined (find key_cmp q lists) (spots_under q xs)
 found_joined q [] lists = refl
 found_joined q (x ∷ xs) lists =
     let spots = unwrap_or (find key_cmp x.0 lists) [] ++ x.1 ∷ [] in
-    let rest = filter (λ (y : Key × StoredSpot). eq_by_cmp key_cmp q y.0) xs in
+    let rest = filter (λ (y : Key × Spot). eq_by_cmp key_cmp q y.0) xs in
     found_joined q xs (put key_cmp x.0 spots lists)
     ∙ ap (λ o. joined o (spots_under q xs)) (find-put key_cmp key_cmp_total q x.0 spots lists)
-    ∙ elim (eq_by_cmp key_cmp q x.0) as (λ b. eq_by_cmp key_cmp q x.0 ≡ b → joined (cond b (Some spots) (find key_cmp q lists)) (spots_under q xs) ≡ joined (find key_cmp q lists) (map (λ (y : Key × StoredSpot). y.1) (cond b (x ∷ rest) rest))) [
+    ∙ elim (eq_by_cmp key_cmp q x.0) as (λ b. eq_by_cmp key_cmp q x.0 ≡ b → joined (cond b (Some spots) (find key_cmp q lists)) (spots_under q xs) ≡ joined (find key_cmp q lists) (map (λ (y : Key × Spot). y.1) (cond b (x ∷ rest) rest))) [
       | true ↦ λ same. ap (λ k. joined (Some (unwrap_or (find key_cmp k lists) [] ++ x.1 ∷ [])) (spots_under q xs)) (sym (key_cmp_exact q x.0 (tie _ same)))
           ∙ joined_more (unwrap_or (find key_cmp q lists) []) x.1 (spots_under q xs)
       | false ↦ λ _. refl
     ] refl
 
-pub sorted_joined : (xs : List (Key × StoredSpot)) (lists : List (Key × List StoredSpot)) → is_sorted key_cmp lists ≡ true → is_sorted key_cmp (with_spots xs lists) ≡ true
+pub sorted_joined : (xs : List (Key × Spot)) (lists : List (Key × List Spot)) → is_sorted key_cmp lists ≡ true → is_sorted key_cmp (with_spots xs lists) ≡ true
 sorted_joined [] lists h = h
 sorted_joined (x ∷ xs) lists h =
     let spots = unwrap_or (find key_cmp x.0 lists) [] ++ x.1 ∷ [] in
     sorted_joined xs (put key_cmp x.0 spots lists) (true_of _ (is_sorted-put key_cmp key_cmp_total x.0 spots lists (of_true _ h)))
 
 -- Lists in order are those that spots make, where under each key they have the spots of that key.
-pub made_of : (lists : List (Key × List StoredSpot)) (xs : List (Key × StoredSpot)) → is_sorted key_cmp lists ≡ true → ((q : Key) → find key_cmp q lists ≡ joined None (spots_under q xs)) → lists ≡ with_spots xs []
+pub made_of : (lists : List (Key × List Spot)) (xs : List (Key × Spot)) → is_sorted key_cmp lists ≡ true → ((q : Key) → find key_cmp q lists ≡ joined None (spots_under q xs)) → lists ≡ with_spots xs []
 made_of lists xs sorted same = same_entries key_cmp key_cmp_total key_cmp_exact lists (with_spots xs []) (of_true _ sorted) (of_true _ (sorted_joined xs [] refl)) (λ q. same q ∙ sym (found_joined q xs []))
 
 -- ---- the spots of terms, in whatever order they stand, and a posting more of one of them
@@ -100,27 +100,27 @@ term_is s t h = exact_bytes s (string_bytes t) (tie _ h)
 -- ---- what terms have in documents
 
 abbrev pub Has : Type 0
-Has = String Global × (ℤ → List StoredSpot)
+Has = String Global × (ℤ → List Spot)
 
 abbrev pub has_in : Group → Has
 has_in g = (g.0, spots_of_docid g.1.items)
 
 -- the spots of a key
-abbrev pub had_under : Key → Has → List StoredSpot
+abbrev pub had_under : Key → Has → List Spot
 had_under q m = cond (is_term q.0 m.0) (m.1 q.1) []
 
 own_spots : (q : Key) (t : Term) (ps : List Posting) → spots_under q (map (λ (p : Posting). ((string_bytes t, p.docid), p.spot)) ps) ≡ cond (is_term q.0 t) (spots_of_docid ps q.1) []
-own_spots q t [] = elim (is_term q.0 t) as (λ b. ◌≡◌ {A = List StoredSpot} [] (cond b [] [])) [ true ↦ refl | false ↦ refl ]
+own_spots q t [] = elim (is_term q.0 t) as (λ b. ◌≡◌ {A = List Spot} [] (cond b [] [])) [ true ↦ refl | false ↦ refl ]
 own_spots q t (p ∷ ps) =
-    let x : Key × StoredSpot = ((string_bytes t, p.docid), p.spot) in
-    let left : List (Key × StoredSpot) = filter (λ (y : Key × StoredSpot). is_eq (key_cmp q y.0)) (map (λ (r : Posting). ((string_bytes t, r.docid), r.spot)) ps) in
+    let x : Key × Spot = ((string_bytes t, p.docid), p.spot) in
+    let left : List (Key × Spot) = filter (λ (y : Key × Spot). is_eq (key_cmp q y.0)) (map (λ (r : Posting). ((string_bytes t, r.docid), r.spot)) ps) in
     let right : List Posting = filter (λ (r : Posting). int_eq q.1 r.docid) ps in
-    let rest : map (λ (y : Key × StoredSpot). y.1) left ≡ cond (is_term q.0 t) (map spot_of right) [] = own_spots q t ps in
-    elim (slice_cmp nat_cmp q.0 (string_bytes t)) as (λ o. slice_cmp nat_cmp q.0 (string_bytes t) ≡ o → map (λ (y : Key × StoredSpot). y.1) (cond (is_eq (ordering_then o (int_cmp q.1 p.docid))) (x ∷ left) left) ≡ cond (is_eq o) (map spot_of (cond (int_eq q.1 p.docid) (p ∷ right) right)) []) [
+    let rest : map (λ (y : Key × Spot). y.1) left ≡ cond (is_term q.0 t) (map spot_of right) [] = own_spots q t ps in
+    elim (slice_cmp nat_cmp q.0 (string_bytes t)) as (λ o. slice_cmp nat_cmp q.0 (string_bytes t) ≡ o → map (λ (y : Key × Spot). y.1) (cond (is_eq (ordering_then o (int_cmp q.1 p.docid))) (x ∷ left) left) ≡ cond (is_eq o) (map spot_of (cond (int_eq q.1 p.docid) (p ∷ right) right)) []) [
       | Less ↦ λ h. rest ∙ ap (λ o. cond (is_eq o) (map spot_of right) []) h
       | Equal ↦ λ h.
-          let same : map (λ (y : Key × StoredSpot). y.1) left ≡ map spot_of right = rest ∙ ap (λ o. cond (is_eq o) (map spot_of right) []) h in
-          elim (int_eq q.1 p.docid) as (λ b. map (λ (y : Key × StoredSpot). y.1) (cond b (x ∷ left) left) ≡ map spot_of (cond b (p ∷ right) right)) [ true ↦ ap (λ ss. p.spot ∷ ss) same | false ↦ same ]
+          let same : map (λ (y : Key × Spot). y.1) left ≡ map spot_of right = rest ∙ ap (λ o. cond (is_eq o) (map spot_of right) []) h in
+          elim (int_eq q.1 p.docid) as (λ b. map (λ (y : Key × Spot). y.1) (cond b (x ∷ left) left) ≡ map spot_of (cond b (p ∷ right) right)) [ true ↦ ap (λ ss. p.spot ∷ ss) same | false ↦ same ]
       | Greater ↦ λ h. rest ∙ ap (λ o. cond (is_eq o) (map spot_of right) []) h
     ] refl
 
@@ -133,7 +133,7 @@ pub found_had : (q : Key) (ms : List Has) → IsDistinct string_eq (keys_of ms) 
 found_had q [] once = refl
 found_had q (m ∷ ms) once = ap (λ ss. had_under q m ++ ss) (found_had q ms (IsDistinct-tail string_eq m.0 (keys_of ms) once)) ∙ by_head (is_term q.0 m.0) refl
   where
-    rest : Option (ℤ → List StoredSpot)
+    rest : Option (ℤ → List Spot)
     rest = lookup (is_term q.0) ms
 
     none : is_term q.0 m.0 ≡ true → rest ≡ None
@@ -142,7 +142,7 @@ found_had q (m ∷ ms) once = ap (λ ss. had_under q m ++ ss) (found_had q ms (I
         ∙ lookup-none (string_eq m.0) ms (none_past_head string_eq_equiv m.0 m ms once (string_eq_equiv.refl m.0))
 
     by_head : (b : Bool) → is_term q.0 m.0 ≡ b → cond b (m.1 q.1) [] ++ unwrap_or rest (λ _. []) q.1 ≡ unwrap_or (cond b (Some m.1) rest) (λ _. []) q.1
-    by_head true h = ap (λ (o : Option (ℤ → List StoredSpot)). m.1 q.1 ++ unwrap_or o (λ _. []) q.1) (none h) ∙ append-nil (m.1 q.1)
+    by_head true h = ap (λ (o : Option (ℤ → List Spot)). m.1 q.1 ++ unwrap_or o (λ _. []) q.1) (none h) ∙ append-nil (m.1 q.1)
     by_head false h = refl
 
 -- ---- a posting more
@@ -160,7 +160,7 @@ spots_held : (q : Key) (gs : List Group) → IsDistinct string_eq (keys_of gs) �
 spots_held q gs once =
     let spots = λ (v : Vec Posting Global). spots_of_docid v.items in
     spots_in_groups q gs ∙ found_had q (map has_in gs) (subst (IsDistinct string_eq) (sym (keys_of-map_values spots gs)) once)
-    ∙ ap (λ (o : Option (ℤ → List StoredSpot)). unwrap_or o (λ _. []) q.1) (lookup-map_values spots (is_term q.0) gs) ∙ of_held (lookup (is_term q.0) gs) q.1
+    ∙ ap (λ (o : Option (ℤ → List Spot)). unwrap_or o (λ _. []) q.1) (lookup-map_values spots (is_term q.0) gs) ∙ of_held (lookup (is_term q.0) gs) q.1
 
 module _ (t : String Global) (p : Posting) (v : Vec Posting Global) (old new : List Group) (joins : (q : String Global) → lookup (string_eq q) new ≡ cond (string_eq t q) (Some v) (lookup (string_eq q) old)) where
   abbrev Joined : List ℕ → Type 0
@@ -186,7 +186,7 @@ module _ (t : String Global) (p : Posting) (v : Vec Posting Global) (old new : L
   pub posting_joins : IsDistinct string_eq (keys_of old) → IsDistinct string_eq (keys_of new) → v.items ≡ held (lookup (string_eq t) old) ++ p ∷ [] →
       lists_in_groups new ≡ put key_cmp (string_bytes t, p.docid) (unwrap_or (find key_cmp (string_bytes t, p.docid) (lists_in_groups old)) [] ++ p.spot ∷ []) (lists_in_groups old)
   posting_joins once still more =
-      let x : Key × StoredSpot = ((string_bytes t, p.docid), p.spot) in
+      let x : Key × Spot = ((string_bytes t, p.docid), p.spot) in
       made_of (lists_in_groups new) (flat_map group_spots old ++ x ∷ []) (sorted_joined (flat_map group_spots new) [] refl) (λ q.
       found_joined q (flat_map group_spots new) [] ∙ ap (joined None) (spots_held q new still ∙ one_more q ∙ ap (λ ss. ss ++ spots_under q (x ∷ [])) (sym (spots_held q old once)) ∙ sym (spots_under-append q (flat_map group_spots old) (x ∷ []))))
       ∙ with_spots-append (flat_map group_spots old) (x ∷ []) []
@@ -196,26 +196,26 @@ module _ (t : String Global) (p : Posting) (v : Vec Posting Global) (old new : L
 
       one_more : (q : Key) → spots_of_docid (held (lookup (is_term q.0) new)) q.1 ≡ spots_of_docid (held (lookup (is_term q.0) old)) q.1 ++ spots_under q (((string_bytes t, p.docid), p.spot) ∷ [])
       one_more q =
-          let x : Key × StoredSpot = ((string_bytes t, p.docid), p.spot) in
+          let x : Key × Spot = ((string_bytes t, p.docid), p.spot) in
           let before = spots_of_docid (held (lookup (is_term q.0) old)) q.1 in
           ap (λ o. spots_of_docid (held o) q.1) (at_bytes q.0)
           ∙ elim (slice_cmp nat_cmp q.0 (string_bytes t)) as (λ o. slice_cmp nat_cmp q.0 (string_bytes t) ≡ o →
-          spots_of_docid (held (cond (is_eq o) (Some v) (lookup (is_term q.0) old))) q.1 ≡ before ++ map (λ (y : Key × StoredSpot). y.1) (cond (is_eq (ordering_then o (int_cmp q.1 p.docid))) (x ∷ []) [])) [
+          spots_of_docid (held (cond (is_eq o) (Some v) (lookup (is_term q.0) old))) q.1 ≡ before ++ map (λ (y : Key × Spot). y.1) (cond (is_eq (ordering_then o (int_cmp q.1 p.docid))) (x ∷ []) [])) [
             | Less ↦ λ h. sym (append-nil before)
             | Equal ↦ λ h.
                 let own : lookup (is_term q.0) old ≡ lookup (string_eq t) old = ap (λ s. lookup (is_term s) old) (exact_bytes q.0 (string_bytes t) h) ∙ ap (λ test. lookup test old) (same_test t) in
                 ap (λ ps. spots_of_docid ps q.1) (more ∙ ap (λ o. held o ++ p ∷ []) (sym own)) ∙ at_docid (held (lookup (is_term q.0) old)) q.1
-                ∙ ap (λ ss. before ++ ss) (elim (int_eq q.1 p.docid) as (λ b. map spot_of (cond b (p ∷ []) []) ≡ map (λ (y : Key × StoredSpot). y.1) (cond b (x ∷ []) [])) [ true ↦ refl | false ↦ refl ])
+                ∙ ap (λ ss. before ++ ss) (elim (int_eq q.1 p.docid) as (λ b. map spot_of (cond b (p ∷ []) []) ≡ map (λ (y : Key × Spot). y.1) (cond b (x ∷ []) [])) [ true ↦ refl | false ↦ refl ])
             | Greater ↦ λ h. sym (append-nil before)
           ] refl
 
 -- ---- terms and lists
 
 abbrev Lists : Type 0
-Lists = List (Key × List StoredSpot)
+Lists = List (Key × List Spot)
 
 abbrev DocLists : Type 0
-DocLists = List (ℤ × List StoredSpot)
+DocLists = List (ℤ × List Spot)
 
 -- ---- the lists of postings by rising docid
 
@@ -229,11 +229,11 @@ equal_or_less Less h k = refl
 equal_or_less Equal h k = absurd (let no = k in cc)
 equal_or_less Greater h k = absurd (let no = h in cc)
 
-some_joined : (ss ts : List StoredSpot) → Some ts ≡ joined None ss → ts ≡ ss
+some_joined : (ss ts : List Spot) → Some ts ≡ joined None ss → ts ≡ ss
 some_joined [] ts h = absurd (let no = h in cc)
 some_joined (s ∷ ss) ts h = ap (λ o. unwrap_or o ts) h
 
-none_joined : (ss : List StoredSpot) → None ≡ joined None ss → ss ≡ []
+none_joined : (ss : List Spot) → None ≡ joined None ss → ss ≡ []
 none_joined [] h = refl
 none_joined (s ∷ ss) h = absurd (let no = h in cc)
 
@@ -339,7 +339,7 @@ made (t ∷ ts) sorted all =
 
 -- ---- terms that change places
 
-some_found : (ms ns : List Has) → IsPermutation ms ns → IsDistinct string_eq (keys_of ns) → (s : List ℕ) (f : ℤ → List StoredSpot) → lookup (is_term s) ms ≡ Some f → lookup (is_term s) ns ≡ Some f
+some_found : (ms ns : List Has) → IsPermutation ms ns → IsDistinct string_eq (keys_of ns) → (s : List ℕ) (f : ℤ → List Spot) → lookup (is_term s) ms ≡ Some f → lookup (is_term s) ns ≡ Some f
 some_found ms ns moves once s f h =
     let p = place_from_lookup (is_term s) ms f h in
     let at = Contains-permutation ms ns (p.1, f) moves (p.0, slice_get_within ms p.0 (p.1, f) p.2, get_or_from_slice_get ms p.0 (p.1, f) (p.1, f) p.2) in
@@ -349,7 +349,7 @@ some_found ms ns moves once s f h =
 same_found : (ms ns : List Has) → IsPermutation ms ns → IsDistinct string_eq (keys_of ms) → IsDistinct string_eq (keys_of ns) → (s : List ℕ) → lookup (is_term s) ms ≡ lookup (is_term s) ns
 same_found ms ns moves once still s = by (lookup (is_term s) ms) (lookup (is_term s) ns) refl refl
   where
-    by : (a b : Option (ℤ → List StoredSpot)) → lookup (is_term s) ms ≡ a → lookup (is_term s) ns ≡ b → lookup (is_term s) ms ≡ lookup (is_term s) ns
+    by : (a b : Option (ℤ → List Spot)) → lookup (is_term s) ms ≡ a → lookup (is_term s) ns ≡ b → lookup (is_term s) ms ≡ lookup (is_term s) ns
     by (Some f) b h k = h ∙ sym (some_found ms ns moves still s f h)
     by None (Some f) h k = some_found ns ms (IsPermutation-sym ms ns moves) once s f k ∙ sym k
     by None None h k = h ∙ sym k
@@ -406,4 +406,4 @@ sorted_terms found sorted gs are once risen moves rising =
     let all = made sorted (strictly_sorted sorted rising (subst (IsDistinct string_eq) (map-map (λ (m : Has). m.0) term_has sorted) still)) (All-permutation HasRisen found sorted moves risen) in
     made_of (lists_of_terms sorted) (flat_map group_spots gs) all.sorted (λ q.
     all.found q
-    ∙ ap (joined None) (found_had q ns still ∙ ap (λ (o : Option (ℤ → List StoredSpot)). unwrap_or o (λ _. []) q.1) (sym (same_found ms ns moved own still q.0)) ∙ sym (found_had q ms own) ∙ sym (spots_in_groups q gs)))
+    ∙ ap (joined None) (found_had q ns still ∙ ap (λ (o : Option (ℤ → List Spot)). unwrap_or o (λ _. []) q.1) (sym (same_found ms ns moved own still q.0)) ∙ sym (found_had q ms own) ∙ sym (spots_in_groups q gs)))

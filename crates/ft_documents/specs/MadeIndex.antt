@@ -1,26 +1,26 @@
 -- Steps. What calls make of an index that is kept in memory, its lists and its sizes together. All
 -- of it is our own choice.
-use Rattle.std.specs.Prelude.{◌≡◌, ◌<◌, ◌^◌, ℕ, ℤ, List, [], ◌∷◌, length, All}
+use Rattle.std.specs.Prelude.{◌≡◌, ◌<◌, ◌^◌, ℕ, ℤ, List, length, All}
 use Rattle.ft_values.specs.Cells.{Cell}
 use Rattle.ft_query.specs.declared.text.Token.{Token}
-use Rattle.ft_query.specs.Tokens.{PlainToken, tokens_of}
+use Rattle.ft_query.specs.Tokens.{tokens_of}
 use Rattle.ft_rows.specs.Store.{column_key_cmp}
 use Rattle.ft_content.specs.Content.{Column, Documents, cell_text}
-use Rattle.ft_content.specs.Index.{Key, StoredSpot, stored_spot}
+use Rattle.ft_content.specs.Index.{Key, Spot}
 use Rattle.ft_documents.specs.declared.document_index.DocumentIndex.{DocumentIndex}
 use Rattle.ft_documents.specs.RewriteRows.{lists_joined_by, sizes_with, index_lists_of, sizes_of, with_entries}
 use Rattle.ft_documents.specs.RewriteRows.{cell_entries, cell_sizes, sized, all_put, IsShortNumber, AreShortNumbers}
 use Rattle.ft_documents.specs.Terms.{lists_in_groups}
 
 -- an index that is kept in memory: its lists, and its sizes
-abbrev pub lists_in : DocumentIndex → List (Key × List StoredSpot)
+abbrev pub lists_in : DocumentIndex → List (Key × List Spot)
 lists_in index = lists_in_groups index.terms.entries
 
 abbrev pub sizes_in : DocumentIndex → List ((ℤ × ℤ) × ℤ)
 sizes_in index = index.sizes.entries
 
 -- an index has these lists and these sizes
-pub record Shows (index : DocumentIndex) (its_lists : List (Key × List StoredSpot)) (its_sizes : List ((ℤ × ℤ) × ℤ)) : Type 0 where
+pub record Shows (index : DocumentIndex) (its_lists : List (Key × List Spot)) (its_sizes : List ((ℤ × ℤ) × ℤ)) : Type 0 where
   pub lists : lists_in index ≡ its_lists
   pub sizes : sizes_in index ≡ its_sizes
 
@@ -46,21 +46,9 @@ pub record AddsCell (docid : ℤ) (place : ℕ) (cell : Cell) (old new : Documen
   pub sizes : sizes_in new ≡ all_put column_key_cmp (sized (cell_sizes docid place (length (tokens_of (cell_text cell))))) (sizes_in old)
   pub number : IsShortNumber cell
 
--- a token's numbers are of 63 bits
-pub record FitsSpot (column : ℕ) (token : Token) : Type 0 where
-  pub place : column < 2 ^ 63
-  pub pos : token.pos < 2 ^ 63
-  pub start : token.start < 2 ^ 63
-  pub size : token.size < 2 ^ 63
-
 -- where a token of a column stands
-abbrev pub token_spot : ℕ → Token → StoredSpot
-token_spot column t = stored_spot (record { column = column; pos = t.pos; place = t.start; size = t.size })
-
--- the numbers of tokens are
-abbrev pub AreSmall : List PlainToken → Type 0
-AreSmall [] = Unit {0}
-AreSmall (t ∷ ts) = (t.pos < 2 ^ 63) × (t.start < 2 ^ 63) × (t.size < 2 ^ 63) × AreSmall ts
+abbrev pub token_spot : ℕ → Token → Spot
+token_spot column t = record { column = column; pos = t.pos; place = t.start; size = t.size }
 
 -- bytes are the text of a cell, and no more than memory has
 pub record IsTextOf (cell : Cell) (bytes : List ℕ) : Type 0 where

@@ -1,6 +1,6 @@
 -- Meaning. The row changes that follow from documents which are written anew. All of it is our own
 -- choice.
-use Rattle.std.specs.Prelude.{◌≡◌, ◌≤◌, length, ℕ, zero, suc, Bool, true, false, not, ◌&&◌, List, [], ◌∷◌, ◌++◌, map, filter, Option}
+use Rattle.std.specs.Prelude.{◌≡◌, ◌≤◌, length, ℕ, zero, suc, Bool, true, false, not, ◌&&◌, ◌==◌, List, [], ◌∷◌, ◌++◌, map, filter, Option}
 use Rattle.std.specs.Prelude.{Some, None, ℤ, pos, is_some, unwrap_or, bytes_eq}
 use Rattle.std.specs.List.{flat_map, enumerate_from}
 use Rattle.std.specs.declared.cmp.Ordering.{Ordering}
@@ -13,7 +13,7 @@ use Rattle.ft_rows.specs.Store.{column_key_cmp, Change, PutCell, DropCells, PutE
 use Rattle.ft_query.specs.Tokens.{PlainToken}
 use Rattle.ft_query.specs.Documents.{posting}
 use Rattle.ft_content.specs.Content.{Column, Documents}
-use Rattle.ft_content.specs.Index.{Entry, document_entries, document_sizes, entry_at, Key, key_cmp, key_of, StoredSpot, stored_spot}
+use Rattle.ft_content.specs.Index.{Entry, document_entries, document_sizes, entry_at, Key, key_cmp, key_of, Spot}
 use Rattle.ft_content.specs.Index.{SizeRow, size_row, index_rows}
 use Rattle.ft_content.specs.Laws.{content_with}
 use Rattle.ft_documents.specs.Rewrite.{Rewrite, befores, afters}
@@ -30,10 +30,10 @@ same_cell (Text s) Null = false
 same_cell (Text s) (Int n) = false
 same_cell (Text s) (Text t) = bytes_eq s t
 
-abbrev pub same_spot : StoredSpot → StoredSpot → Bool
-same_spot s t = int_eq s.column t.column && (int_eq s.pos t.pos && (int_eq s.place t.place && int_eq s.size t.size))
+abbrev pub same_spot : Spot → Spot → Bool
+same_spot s t = (s.column == t.column) && ((s.pos == t.pos) && ((s.place == t.place) && (s.size == t.size)))
 
-abbrev pub same_spots : List StoredSpot → List StoredSpot → Bool
+abbrev pub same_spots : List Spot → List Spot → Bool
 same_spots = pointwise same_spot
 
 -- whether exactly this was there
@@ -71,11 +71,11 @@ abbrev pub put_documents : ℤ → List Rewrite → List Change
 put_documents tab rewrites = flat_map (λ (r : Rewrite). put_cells tab r.docid (unwrap_or r.before []) (unwrap_or r.after [])) rewrites
 
 -- the lists that are gone or differ and the sizes that are gone, and what is new or differs
-abbrev pub dropped_lists : ℤ → List (Key × List StoredSpot) → List Change
-dropped_lists tab lists = map (λ (l : Key × List StoredSpot). DropEntries tab l.0.0 l.0.1) lists
+abbrev pub dropped_lists : ℤ → List (Key × List Spot) → List Change
+dropped_lists tab lists = map (λ (l : Key × List Spot). DropEntries tab l.0.0 l.0.1) lists
 
-abbrev pub put_lists : ℤ → List (Key × List StoredSpot) → List Change
-put_lists tab lists = map (λ (l : Key × List StoredSpot). PutEntries tab l.0.0 l.0.1 l.1) lists
+abbrev pub put_lists : ℤ → List (Key × List Spot) → List Change
+put_lists tab lists = map (λ (l : Key × List Spot). PutEntries tab l.0.0 l.0.1 l.1) lists
 
 abbrev pub dropped_sizes : ℤ → List ((ℤ × ℤ) × ℤ) → List Change
 dropped_sizes tab sizes = map (λ (s : (ℤ × ℤ) × ℤ). DropSize tab s.0.0 s.0.1) sizes
@@ -96,14 +96,14 @@ AreShortNumbers (column ∷ columns) (cell ∷ cells) = (column.indexed ≡ true
 
 -- Lists with spots that join them one after another, each at the end of the list under its key, and
 -- rows that are put one after another.
-abbrev pub with_spots : List (Key × StoredSpot) → List (Key × List StoredSpot) → List (Key × List StoredSpot)
+abbrev pub with_spots : List (Key × Spot) → List (Key × List Spot) → List (Key × List Spot)
 with_spots [] lists = lists
 with_spots (s ∷ ss) lists = with_spots ss (put key_cmp s.0 (unwrap_or (find key_cmp s.0 lists) [] ++ s.1 ∷ []) lists)
 
-abbrev pub entry_spot : Entry → Key × StoredSpot
-entry_spot e = (key_of e, stored_spot e.spot)
+abbrev pub entry_spot : Entry → Key × Spot
+entry_spot e = (key_of e, e.spot)
 
-abbrev pub with_entries : List Entry → List (Key × List StoredSpot) → List (Key × List StoredSpot)
+abbrev pub with_entries : List Entry → List (Key × List Spot) → List (Key × List Spot)
 with_entries es lists = with_spots (map entry_spot es) lists
 
 abbrev pub all_put : {K V : Type 0} → (K → K → Ordering) → List (K × V) → List (K × V) → List (K × V)
@@ -119,14 +119,14 @@ cell_sizes docid column zero = []
 cell_sizes docid column (suc n) = size_row (record { docid = docid; column = column; n = suc n }) ∷ []
 
 -- lists and sizes that those of documents join
-abbrev pub lists_joined_by : List Column → Documents → List (Key × List StoredSpot) → List (Key × List StoredSpot)
+abbrev pub lists_joined_by : List Column → Documents → List (Key × List Spot) → List (Key × List Spot)
 lists_joined_by columns documents lists = with_entries (flat_map (document_entries columns) documents) lists
 
 abbrev pub sizes_with : List Column → Documents → List ((ℤ × ℤ) × ℤ) → List ((ℤ × ℤ) × ℤ)
 sizes_with columns documents sizes = all_put column_key_cmp (sized (map size_row (flat_map (document_sizes columns) documents))) sizes
 
 -- the lists and sizes of documents under their keys
-abbrev pub index_lists_of : List Column → Documents → List (Key × List StoredSpot)
+abbrev pub index_lists_of : List Column → Documents → List (Key × List Spot)
 index_lists_of columns documents = (index_rows (content_with columns documents)).lists
 
 abbrev pub sizes_of : List Column → Documents → List ((ℤ × ℤ) × ℤ)
@@ -134,7 +134,7 @@ sizes_of columns documents = all_put column_key_cmp (sized (index_rows (content_
 
 -- The row changes from one index to another: kind by kind, each by rising keys. A list that differs
 -- is dropped first, so that no list is put under a key that is there.
-abbrev pub list_changes : ℤ → List (Key × List StoredSpot) → List (Key × List StoredSpot) → List Change
+abbrev pub list_changes : ℤ → List (Key × List Spot) → List (Key × List Spot) → List Change
 list_changes tab old new = dropped_lists tab (changed key_cmp same_spots new old) ++ put_lists tab (changed key_cmp same_spots old new)
 
 abbrev pub size_changes : ℤ → List ((ℤ × ℤ) × ℤ) → List ((ℤ × ℤ) × ℤ) → List Change

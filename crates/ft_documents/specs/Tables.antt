@@ -7,7 +7,7 @@ use Rattle.ft_values.specs.Cells.{Cell}
 use Rattle.ft_rows.specs.Store.{StoreValue, CellKey, ListKey, ColumnKey, cell_key_cmp, list_key_cmp, column_key_cmp, Change, AddTable}
 use Rattle.ft_rows.specs.Store.{DropTable, PutCell, DropCells, PutEntries, DropEntries, PutSize, DropSize, ClearIndex, Note}
 use Rattle.ft_content.specs.Content.{TableRows}
-use Rattle.ft_content.specs.Index.{StoredSpot, IndexRows}
+use Rattle.ft_content.specs.Index.{Spot, IndexRows}
 
 -- what is read of one table: its columns, the numbers of those that aren't indexed, and its cells
 abbrev pub table_rows : ℤ → StoreValue → TableRows
@@ -20,7 +20,7 @@ table_rows tab store = record {
 -- its posting lists and sizes
 abbrev pub table_index : ℤ → StoreValue → IndexRows
 table_index tab store = record {
-  lists = map (λ (l : ListKey × List StoredSpot). ((l.0.1, l.0.2), l.1)) (where_key list_key_cmp (λ k. int_eq tab k.0) store.lists);
+  lists = map (λ (l : ListKey × List Spot). ((l.0.1, l.0.2), l.1)) (where_key list_key_cmp (λ k. int_eq tab k.0) store.lists);
   sizes = map (λ (z : CellKey × ℤ). record { docid = z.0.1; column = z.0.2; n = z.1 }) (where_key cell_key_cmp (λ k. int_eq tab k.0) store.sizes);
 }
 

@@ -7,23 +7,23 @@ use Rattle.ft_values.specs.declared.rows.Spot.{Spot}
 use Rattle.ft_rows.specs.declared.terms.Posting.{Posting}
 use Rattle.ft_rows.specs.declared.terms.TermLists.{TermLists}
 use Rattle.ft_rows.specs.Terms.{spot_of, lists_of_postings}
-use Rattle.ft_content.specs.Index.{Key, StoredSpot}
+use Rattle.ft_content.specs.Index.{Key}
 use Rattle.ft_documents.specs.RewriteRows.{with_spots}
 
 -- lists of a term under their keys
-abbrev pub under_term : List ℕ → List (ℤ × List StoredSpot) → List (Key × List StoredSpot)
-under_term term lists = map (λ (l : ℤ × List StoredSpot). ((term, l.0), l.1)) lists
+abbrev pub under_term : List ℕ → List (ℤ × List Spot) → List (Key × List Spot)
+under_term term lists = map (λ (l : ℤ × List Spot). ((term, l.0), l.1)) lists
 
 -- those of a term's postings
-abbrev pub lists_of_term : List ℕ → List Posting → List (Key × List StoredSpot)
+abbrev pub lists_of_term : List ℕ → List Posting → List (Key × List Spot)
 lists_of_term term postings = under_term term (lists_of_postings postings)
 
 -- those of terms, one after another
-abbrev pub lists_of_terms : List TermLists → List (Key × List StoredSpot)
+abbrev pub lists_of_terms : List TermLists → List (Key × List Spot)
 lists_of_terms terms = flat_map (λ (t : TermLists). lists_of_term (string_bytes t.term) t.postings.items) terms
 
 -- a list under its term and docid, as it is kept
-abbrev pub kept_list : (String Global × ℤ) × Vec Spot Global → Key × List StoredSpot
+abbrev pub kept_list : (String Global × ℤ) × Vec Spot Global → Key × List Spot
 kept_list l = ((string_bytes l.0.0, l.0.1), l.1.items)
 
 -- a term of a map, with its postings
@@ -31,12 +31,12 @@ abbrev pub Group : Type 0
 Group = String Global × Vec Posting Global
 
 -- its spots under their keys
-abbrev pub group_spots : Group → List (Key × StoredSpot)
+abbrev pub group_spots : Group → List (Key × Spot)
 group_spots g = map (λ (p : Posting). ((string_bytes g.0, p.docid), p.spot)) g.1.items
 
 -- The lists of a map of terms: the spots of each term in the order in which they came. The order of
 -- terms has no part in it.
-abbrev pub lists_in_groups : List Group → List (Key × List StoredSpot)
+abbrev pub lists_in_groups : List Group → List (Key × List Spot)
 lists_in_groups groups = with_spots (flat_map group_spots groups) []
 
 -- the spots that postings have in a document

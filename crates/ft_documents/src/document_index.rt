@@ -79,7 +79,7 @@ impl DocumentIndex {
         let mut tokenizer = Tokenizer::new(self.alloc, text_of(value, &mut buffer));
         let mut count: usize = 0;
         while let Some(token) = tokenizer.next()? {
-            let spot = spot_of(place, &token);
+            let spot = spot_of(place, &token)?;
             self.add_posting(token.term, Posting { docid, spot })?;
             count += 1;
         }

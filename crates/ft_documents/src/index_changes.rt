@@ -9,7 +9,7 @@ ghost use Rattle.ft_documents.specs.Terms.{kept_list, lists_of_term, lists_in_gr
 ghost use Rattle.ft_documents.specs.RewriteRows as rows;
 
 use crate::document_index::{Sizes, Terms, term_lists};
-use ft_rows::{TermLists, first_list};
+use ft_rows::{TermLists, lists_of};
 use ft_values::{RowChange, Spot};
 use std::alloc::{AllocError, Global};
 
@@ -36,13 +36,8 @@ fn add_lists(
     ensures { OnOk result (map kept_list lists.new.items ≡ map kept_list lists.old.items
         ++ lists_of_term (string_bytes term.now.term) term.now.postings.items) }
 {
-    let mut rest = term.postings.as_slice();
-    while let Some(first) = rest.first() {
-        let docid = first.docid;
-        let (own, others) = rest.split_at(first_list(rest));
-        let spots = own.iter().map(|posting| posting.spot).collect(alloc)?;
-        lists.push(((term.term.clone()?, docid), spots))?;
-        rest = others;
+    for list in lists_of(alloc, term.postings.as_slice())? {
+        lists.push(((term.term.clone()?, list.docid), list.spots))?;
     }
     Ok(())
 }

@@ -1,69 +1,27 @@
 //! Index rows, as lists of places by document.
-ghost use Rattle.std.specs.Prelude.{◌≡◌, map, nat_abs, IfOk, OnOk, IsPermutation, IsSorted};
+ghost use Rattle.std.specs.Prelude.{◌≡◌, map, IfOk, OnOk, IsPermutation, IsSorted};
 ghost use Rattle.ft_query.specs.Documents.{plain_list};
-ghost use Rattle.ft_documents.specs.Placed.{place_of, list_of, placed_in, all_in, place_in, placed_cmp, lists_by_docid, is_before, is_in_order, are_in_order, AreListsOf};
+ghost use Rattle.ft_documents.specs.Placed.{place_of, list_of, all_in, posting_cmp, is_before, is_in_order, are_in_order, AreListsOf};
 
 use ft_query::{DocList, Place};
+use ft_rows::{Posting, lists_of};
 use ft_values::{ListRow, Spot};
 use std::alloc::{AllocError, Global};
-
-/// A place in a document. Places stand by docid, column and position.
-#[derive(Clone, Copy, PartialEq, Eq, PartialOrd, Ord)]
-struct Placed {
-    docid: i64,
-    column: usize,
-    pos: usize,
-    start: usize,
-    size: usize,
-}
-
-impl Placed {
-    fn new(docid: i64, spot: &Spot) -> Placed
-        ensures { result ≡ placed_in docid (place_of spot.now) }
-    {
-        Placed {
-            docid,
-            column: number(spot.column),
-            pos: number(spot.pos),
-            start: number(spot.place),
-            size: number(spot.size),
-        }
-    }
-
-    fn place(self) -> Place
-        ensures { result ≡ place_in self }
-    {
-        Place::new(self.column, self.pos, self.start, self.size)
-    }
-}
-
-// A number of a spot. No index has one below 0.
-fn number(n: i64) -> usize
-    ensures { result ≡ nat_abs n }
-{
-    n.unsigned_abs() as usize
-}
 
 // The place of a spot.
 fn place_of(spot: &Spot) -> Place
     ensures { result ≡ place_of spot.now }
 {
-    Place::new(
-        number(spot.column),
-        number(spot.pos),
-        number(spot.place),
-        number(spot.size),
-    )
+    Place::new(spot.column, spot.pos, spot.place, spot.size)
 }
 
 // ---- rows in order, each a list
 
-// Whether a place stands before another of its document.
+// Whether a spot stands before another of its document.
 fn is_before(one: &Spot, other: &Spot) -> bool
-    ensures { result ≡ is_before (place_of one.now) (place_of other.now) }
+    ensures { result ≡ is_before one.now other.now }
 {
-    let (column, other_column) = (number(one.column), number(other.column));
-    column < other_column || (column == other_column && number(one.pos) < number(other.pos))
+    one.column < other.column || (one.column == other.column && one.pos < other.pos)
 }
 
 // Whether a row has places, in order.
@@ -97,45 +55,28 @@ fn row_lists(alloc: Global, rows: Vec<ListRow>) -> Result<Vec<DocList>, AllocErr
 
 // ---- rows of several terms, by document
 
-// The places of rows, one after another.
-fn places_of(alloc: Global, rows: &[ListRow]) -> Result<Vec<Placed>, AllocError>
-    ensures { IfOk result (λ places. places.items ≡ all_in (map list_of rows.now)) }
+// The postings of rows, one after another.
+fn postings_of(alloc: Global, rows: &[ListRow]) -> Result<Vec<Posting>, AllocError>
+    ensures { IfOk result (λ postings. postings.items ≡ all_in (map list_of rows.now)) }
 {
-    let mut places = Vec::new(alloc);
+    let mut postings = Vec::new(alloc);
     for row in rows {
         let docid = row.docid;
-        places.extend(row.spots.iter().map(|spot| Placed::new(docid, spot)))?;
+        postings.extend(row.spots.iter().map(|spot| Posting { docid, spot: *spot }))?;
     }
-    Ok(places)
+    Ok(postings)
 }
 
-#[tactic(auto, using(crate::proofs::AskedLemmas::same_places))]
-// Puts places in order.
-fn put_in_order(places: &mut Vec<Placed>) -> Result<(), AllocError>
-    ensures { IsPermutation places.old.items places.new.items
-        × OnOk result (IsSorted placed_cmp places.new.items) }
+#[tactic(auto, using(crate::proofs::AskedLemmas::same_postings))]
+// Puts postings in order.
+fn put_in_order(postings: &mut Vec<Posting>) -> Result<(), AllocError>
+    ensures { IsPermutation postings.old.items postings.new.items
+        × OnOk result (IsSorted posting_cmp postings.new.items) }
 {
-    if !places.is_sorted() {
-        places.sort()?;
+    if !postings.is_sorted() {
+        postings.sort()?;
     }
     Ok(())
-}
-
-// A list for each document, of places in order.
-fn grouped(alloc: Global, places: &[Placed]) -> Result<Vec<DocList>, AllocError>
-    ensures { IfOk result (λ lists. map plain_list lists.items ≡ lists_by_docid places.now) }
-{
-    let mut lists = Vec::new(alloc);
-    let mut rest = places;
-    while let Some(first) = rest.first() {
-        let docid = first.docid;
-        let count = rest.iter().take_while(|p| p.docid == docid).count();
-        let (own, others) = rest.split_at(count);
-        let bare = own.iter().map(|p| p.place()).collect(alloc)?;
-        lists.push(DocList::new(docid, bare))?;
-        rest = others;
-    }
-    Ok(lists)
 }
 
 /// A list for each document of some rows, by rising docid, with its places by column and position.
@@ -145,7 +86,7 @@ pub fn doc_lists(alloc: Global, rows: Vec<ListRow>) -> Result<Vec<DocList>, Allo
     if are_in_order(rows.as_slice()) {
         return row_lists(alloc, rows);
     }
-    let mut places = places_of(alloc, rows.as_slice())?;
-    put_in_order(&mut places)?;
-    grouped(alloc, places.as_slice())
+    let mut postings = postings_of(alloc, rows.as_slice())?;
+    put_in_order(&mut postings)?;
+    row_lists(alloc, lists_of(alloc, postings.as_slice())?)
 }

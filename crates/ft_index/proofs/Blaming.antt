@@ -33,7 +33,7 @@ use Rattle.ft_content.proofs.AnswerLemmas.{cut_of_map}
 use Rattle.ft_documents.specs.Matched.{hit_read, chosen_hits, as_wanted}
 use Rattle.ft_documents.proofs.ChosenLemmas.{all_found}
 use Rattle.ft_index.specs.Refused.{AreThere, AreRewrites, BlamesMade}
-use Rattle.ft_content.specs.Index.{Key, Spot, StoredSpot, Entry, IndexRows, entries, spot_lists, spots_at, stored_spot, key_cmp, key_of, index_rows}
+use Rattle.ft_content.specs.Index.{Key, Spot, Entry, IndexRows, entries, spot_lists, spots_at, key_cmp, key_of, index_rows}
 use Rattle.ft_documents.specs.Rewrite.{HasContent}
 use Rattle.ft_documents.specs.Tables.{table_index}
 use Rattle.ft_index.specs.DocumentsRead.{HasRows, Looks}
@@ -117,28 +117,23 @@ unfolding spot_lists
 spots_some [] = tt
 spots_some (e ∷ es) = put_some (key_of e) (e.spot ∷ spots_at (spot_lists es) (key_of e)) (spot_lists es) (λ none. absurd (let h = none in cc)) (spots_some es)
 
-stored_some : (ls : List (Key × List Spot)) → AllByRecursion (λ (l : Key × List Spot). IsFull l.1) ls → AllByRecursion (λ (l : Key × List StoredSpot). IsFull l.1) (map (λ (l : Key × List Spot). (l.0, map stored_spot l.1)) ls)
-stored_some [] all = tt
-stored_some ((k, []) ∷ ls) all = absurd (all.0 refl)
-stored_some ((k, s ∷ ss) ∷ ls) all = (λ none. absurd (let h = none in cc), stored_some ls all.1)
-
-index_some : (content : Content) → AllByRecursion (λ (l : Key × List StoredSpot). IsFull l.1) (index_rows content).lists
+index_some : (content : Content) → AllByRecursion (λ (l : Key × List Spot). IsFull l.1) (index_rows content).lists
 unfolding index_rows
-index_some content = stored_some (spot_lists (entries content)) (spots_some (entries content))
+index_some content = spots_some (entries content)
 
-asked_whole : (tab : ℤ) (asks : ListKey → Bool) (test : ListKey → Bool) → ((k : ListKey) → asks k ≡ (int_eq tab k.0 && test k)) → (lists : List (ListKey × List StoredSpot)) →
-    AllByRecursion (λ (l : Key × List StoredSpot). IsFull l.1) (map (λ (l : ListKey × List StoredSpot). ((l.0.1, l.0.2), l.1)) (where_key list_key_cmp (λ k. int_eq tab k.0) lists)) → AreWhole (where_key list_key_cmp asks lists)
+asked_whole : (tab : ℤ) (asks : ListKey → Bool) (test : ListKey → Bool) → ((k : ListKey) → asks k ≡ (int_eq tab k.0 && test k)) → (lists : List (ListKey × List Spot)) →
+    AllByRecursion (λ (l : Key × List Spot). IsFull l.1) (map (λ (l : ListKey × List Spot). ((l.0.1, l.0.2), l.1)) (where_key list_key_cmp (λ k. int_eq tab k.0) lists)) → AreWhole (where_key list_key_cmp asks lists)
 asked_whole tab asks test same [] all = tt
 asked_whole tab asks test same (l ∷ ls) all = go (asked_whole tab asks test same ls) (int_eq tab l.0.0) refl (test l.0) refl all
   where
-    few : List (ListKey × List StoredSpot)
+    few : List (ListKey × List Spot)
     few = where_key list_key_cmp asks ls
 
-    many : List (ListKey × List StoredSpot)
+    many : List (ListKey × List Spot)
     many = where_key list_key_cmp (λ k. int_eq tab k.0) ls
 
-    AreFull : List (ListKey × List StoredSpot) → Type 0
-    AreFull lists = AllByRecursion (λ (l : Key × List StoredSpot). IsFull l.1) (map (λ (l : ListKey × List StoredSpot). ((l.0.1, l.0.2), l.1)) lists)
+    AreFull : List (ListKey × List Spot) → Type 0
+    AreFull lists = AllByRecursion (λ (l : Key × List Spot). IsFull l.1) (map (λ (l : ListKey × List Spot). ((l.0.1, l.0.2), l.1)) lists)
 
     go : (AreFull many → AreWhole few) → (b : Bool) → int_eq tab l.0.0 ≡ b → (t : Bool) → test l.0 ≡ t → AreFull (cond b (l ∷ many) many) → AreWhole (cond (asks l.0) (l ∷ few) few)
     go rest true is true passes all = subst (λ b. AreWhole (cond b (l ∷ few) few)) (sym (same l.0 ∙ (λ i. is i && passes i))) (all.0, rest all.1)
@@ -148,10 +143,10 @@ asked_whole tab asks test same (l ∷ ls) all = go (asked_whole tab asks test sa
 -- none of the lists that are asked of a table is damaged
 pub none_damaged : (tab : ℤ) (store : StoreValue) (content : Content) (asks : ListKey → Bool) (test : ListKey → Bool) → ((k : ListKey) → asks k ≡ (int_eq tab k.0 && test k)) → table_index tab store ≡ index_rows content → AreWhole (where_key list_key_cmp asks store.lists)
 none_damaged tab store content asks test same index =
-    asked_whole tab asks test same store.lists (subst (AllByRecursion (λ (l : Key × List StoredSpot). IsFull l.1)) (sym (ap (λ (r : IndexRows). r.lists) index)) (index_some content))
+    asked_whole tab asks test same store.lists (subst (AllByRecursion (λ (l : Key × List Spot). IsFull l.1)) (sym (ap (λ (r : IndexRows). r.lists) index)) (index_some content))
 
 -- a read of lists that fails, of which none is damaged
-pub read_failed : {S X : Type 0} (g : Ghosts S) (a b : StoreState S) (e : StoreFault) (read : Result X StoreFault) (asked : List (ListKey × List StoredSpot)) (failed failed_now : Bool) → read ≡ Err e → IsReadFault e → Blames (shows g a) (shows g b) read →
+pub read_failed : {S X : Type 0} (g : Ghosts S) (a b : StoreState S) (e : StoreFault) (read : Result X StoreFault) (asked : List (ListKey × List Spot)) (failed failed_now : Bool) → read ≡ Err e → IsReadFault e → Blames (shows g a) (shows g b) read →
     (HasCleanDisk (shows g b) → read ≡ Err causes.Damaged → ¬ AreWhole asked) → AreWhole asked → (e ≡ causes.Memory → failed_now ≡ failed) → HasCleanDisk (shows g b) → failed_now ≡ true → (failed ≡ true) ⊎ IsBlamed (shows g a) (shows g b)
 read_failed g a b e read asked failed failed_now was (inl (inl memory)) blames damaged whole kept clean has = inl (sym (kept memory) ∙ has)
 read_failed g a b e read asked failed failed_now was (inl (inr refused)) blames damaged whole kept clean has = inr (blames clean (was ∙ ap Err refused))

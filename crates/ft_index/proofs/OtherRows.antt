@@ -12,7 +12,7 @@ use Rattle.ft_rows.specs.Store.{StoreValue, CellKey, ColumnKey, ListKey, cell_ke
 use Rattle.ft_values.specs.declared.table.TableInfo.{TableInfo as RustTableInfo}
 use Rattle.ft_content.specs.Content.{names_of, skipped_from}
 use Rattle.ft_content.specs.Views.{column_of}
-use Rattle.ft_content.specs.Index.{StoredSpot}
+use Rattle.ft_content.specs.Index.{Spot}
 use Rattle.ft_documents.specs.Tables.{table_rows, table_index}
 use Rattle.ft_index.specs.Kept.{KeepsOthers, has_table_id, no_index, no_rows}
 use Rattle.ft_index.specs.Planned.{table_change}
@@ -109,6 +109,6 @@ keeps_dropped id store named = record {
 
     index_gone : table_index id new ≡ no_index
     index_gone = λ i. record {
-      lists = map (λ (l : ListKey × List StoredSpot). ((l.0.1, l.0.2), l.1)) (none_twice list_key_cmp (λ k. int_eq id k.0) store.lists i);
+      lists = map (λ (l : ListKey × List Spot). ((l.0.1, l.0.2), l.1)) (none_twice list_key_cmp (λ k. int_eq id k.0) store.lists i);
       sizes = map (λ (z : CellKey × ℤ). record { docid = z.0.1; column = z.0.2; n = z.1 }) (none_twice cell_key_cmp (λ k. int_eq id k.0) store.sizes i);
     }

@@ -21,7 +21,7 @@ use Rattle.ft_values.specs.Cells.{Cell}
 use Rattle.ft_rows.specs.Store.{StoreValue, CellKey, ListKey, cell_key_cmp, list_key_cmp}
 use Rattle.ft_rows.specs.Shown as shown
 use Rattle.ft_content.specs.Content.{Column, Content, IsContent, TableRows, content_rows, content_in}
-use Rattle.ft_content.specs.Index.{Key, StoredSpot, SizeRow, IndexRows, index_rows}
+use Rattle.ft_content.specs.Index.{Key, Spot, SizeRow, IndexRows, index_rows}
 use Rattle.ft_content.specs.Views.{TableInfo}
 use Rattle.ft_content.specs.Deserved.{TableState, Sound, Stale, Loose}
 use Rattle.ft_content.proofs.RowLemmas.{rows_are_read}
@@ -37,10 +37,10 @@ use Rattle.ft_rows.specs.declared.terms.TermLists.{TermLists}
 use Rattle.ft_documents.specs.Tables.{table_rows, table_index}
 use Rattle.ft_documents.proofs.RowKinds.{size_of, sizes_again}
 
-abbrev lists_asked : ℤ → StoreValue → List (ListKey × List StoredSpot)
+abbrev lists_asked : ℤ → StoreValue → List (ListKey × List Spot)
 lists_asked tab store = where_key list_key_cmp (λ k. int_eq tab k.0) store.lists
 
-abbrev own_list : ListKey × List StoredSpot → Key × List StoredSpot
+abbrev own_list : ListKey × List Spot → Key × List Spot
 own_list l = ((l.0.1, l.0.2), l.1)
 
 abbrev own_size : CellKey × ℤ → SizeRow
@@ -57,10 +57,10 @@ SizesRead tab store ss = map (shown.shown_size tab) ss ≡ where_key cell_key_cm
 
 -- ---- lists by their terms
 
-abbrev given : ℤ → Key × List StoredSpot → ListKey × List StoredSpot
+abbrev given : ℤ → Key × List Spot → ListKey × List Spot
 given tab l = ((tab, l.0.0, l.0.1), l.1)
 
-asked_given : (tab : ℤ) (lists : List (ListKey × List StoredSpot)) → map (given tab) (map own_list (where_key list_key_cmp (λ k. int_eq tab k.0) lists)) ≡ where_key list_key_cmp (λ k. int_eq tab k.0) lists
+asked_given : (tab : ℤ) (lists : List (ListKey × List Spot)) → map (given tab) (map own_list (where_key list_key_cmp (λ k. int_eq tab k.0) lists)) ≡ where_key list_key_cmp (λ k. int_eq tab k.0) lists
 asked_given tab [] = refl
 asked_given tab (l ∷ ls) =
     let rest = where_key list_key_cmp (λ k. int_eq tab k.0) ls in
@@ -73,11 +73,11 @@ terms_given : (tab : ℤ) (terms : List TermLists) → map (given tab) (lists_of
 terms_given tab [] = refl
 terms_given tab (t ∷ ts) =
     let lists = lists_of_postings t.postings.items in
-    map-append (given tab) (under_term (string_bytes t.term) lists) (lists_of_terms ts) ∙ (λ i. map-map (given tab) (λ (l : ℤ × List StoredSpot). ((string_bytes t.term, l.0), l.1)) lists i ++ terms_given tab ts i)
+    map-append (given tab) (under_term (string_bytes t.term) lists) (lists_of_terms ts) ∙ (λ i. map-map (given tab) (λ (l : ℤ × List Spot). ((string_bytes t.term, l.0), l.1)) lists i ++ terms_given tab ts i)
 
 terms_own : (tab : ℤ) (terms : List TermLists) → map own_list (lists_by_terms tab terms) ≡ lists_of_terms terms
 terms_own tab [] = refl
-terms_own tab (t ∷ ts) = map-append own_list (lists_under tab t) (lists_by_terms tab ts) ∙ (λ i. map-map own_list (λ (l : ℤ × List StoredSpot). ((tab, string_bytes t.term, l.0), l.1)) (lists_of_postings t.postings.items) i ++ terms_own tab ts i)
+terms_own tab (t ∷ ts) = map-append own_list (lists_under tab t) (lists_by_terms tab ts) ∙ (λ i. map-map own_list (λ (l : ℤ × List Spot). ((tab, string_bytes t.term, l.0), l.1)) (lists_of_postings t.postings.items) i ++ terms_own tab ts i)
 
 -- A table's index rows are those of a content where its sizes and lists are.
 pub rows_same : (tab : ℤ) (store : StoreValue) (content : Content) (ss : List stored_size.SizeRow) (terms : List TermLists) → SizesRead tab store ss → (map size_under_key ss ≡ sized (index_rows content).sizes) × (lists_of_terms terms ≡ (index_rows content).lists) →

@@ -1,48 +1,32 @@
 -- Bytes stand for places where they are their packed list, and only there.
 use Rattle.std.proofs.Common.{◌≡◌, ℕ, ◌+◌, ◌<◌, ◌≤◌, Bool, true, false, true≢false, cond, List, [], ◌∷◌, ◌++◌, map, length, drop, get_or, suc, pos, Option, Some, None, refl, sym, ap, ◌∙◌, arith}
-use Rattle.std.specs.Prelude.{◌↔◌, ◌==◌, ◌/◌, ◌%◌, ◌^◌, IsTrue, option_map, slice_index}
+use Rattle.std.specs.Prelude.{◌↔◌, ◌==◌, ◌/◌, ◌%◌, ◌^◌, IsTrue, slice_index}
 use Rattle.std.specs.Borrow.{Bor}
 use Rattle.std.specs.List.{flat_map}
 use Rattle.std.specs.Option.{option_and_then}
 use Rattle.std.proofs.lemmas.Bool.Decides.{Decides-eqb, nat_tests}
 use Rattle.std.proofs.lemmas.List.{drop_more}
 use Rattle.std.proofs.lemmas.List.Concat.{flat_map-append}
-use Rattle.ft_values.specs.declared.rows.Spot.{Spot as StoredSpot}
-use Rattle.ft_rows.specs.Packed.{Spot, CanPack, are_spots, leb128, numbers_after, origin, packed, unpacked, stored_spot, packed_spot, packed_spots, spots_in}
+use Rattle.ft_rows.specs.Packed.{Spot, CanPack, leb128, numbers_after, origin, packed, unpacked}
 use Rattle.ft_rows.specs.declared.terms.Posting.{Posting}
 use Rattle.ft_rows.specs.Terms.{spot_of}
 use Rattle.ft_rows.specs.Unpacking.{after_front, Follows}
 use Rattle.ft_rows.proofs.PackedLemmas.{same_some, last_byte, packed_is_read, only_packed_is_read}
 use Rattle.ft_rows.proofs.ReadLemmas.{leb128-low}
 
-plain_again : (ss : List Spot) → map packed_spot (map stored_spot ss) ≡ ss
-plain_again [] = refl
-plain_again (s ∷ ss) = ap (λ xs. s ∷ xs) (plain_again ss)
-
-pub record StandFor (bytes : List ℕ) (spots : List StoredSpot) : Type 0 where
+pub record StandFor (bytes : List ℕ) (spots : List Spot) : Type 0 where
   pub can : CanPack spots
-  pub packed : packed_spots spots ≡ bytes
-
-stands : (bytes : List ℕ) (spots : List StoredSpot) (o : Option (List Spot)) → unpacked bytes ≡ o → ((i : ℕ) → slice_index bytes i < 256) → option_map (map stored_spot) o ≡ Some spots → StandFor bytes spots
-stands bytes spots None is small h = absurd (let no = h in cc)
-stands bytes spots (Some ss) is small h =
-    let same : map stored_spot ss ≡ spots = same_some _ _ h in
-    let plain : map packed_spot spots ≡ ss = ap (map packed_spot) (sym same) ∙ plain_again ss in
-    let only = only_packed_is_read bytes ss small is in
-    record {
-      can = record { plain = sym same ∙ ap (map stored_spot) (sym plain); rise = ap are_spots plain ∙ only.0 };
-      packed = ap packed plain ∙ only.1;
-    }
+  pub packed : packed spots ≡ bytes
 
 -- bytes that stand for places are their packed list
-pub stand_for : (bytes : List ℕ) (spots : List StoredSpot) → ((i : ℕ) → slice_index bytes i < 256) → spots_in bytes ≡ Some spots → StandFor bytes spots
-stand_for bytes spots small h = stands bytes spots (unpacked bytes) refl small h
+pub stand_for : (bytes : List ℕ) (spots : List Spot) → ((i : ℕ) → slice_index bytes i < 256) → unpacked bytes ≡ Some spots → StandFor bytes spots
+stand_for bytes spots small h = let only = only_packed_is_read bytes spots small h in record { can = only.0; packed = only.1 }
 
 -- the packed list of places stands for them
-pub packed_stands : (spots : List StoredSpot) → CanPack spots → spots_in (packed_spots spots) ≡ Some spots
-packed_stands spots can = ap (option_map (map stored_spot)) (packed_is_read (map packed_spot spots) can.rise) ∙ ap Some (sym can.plain)
+pub packed_stands : (spots : List Spot) → CanPack spots → unpacked (packed spots) ≡ Some spots
+packed_stands = packed_is_read
 
-pub none_can : (bytes : List ℕ) (spots : List StoredSpot) (can : Bool) → ((i : ℕ) → slice_index bytes i < 256) → can ≡ false → (CanPack spots → IsTrue can) → IsTrue false ↔ (spots_in bytes ≡ Some spots)
+pub none_can : (bytes : List ℕ) (spots : List Spot) (can : Bool) → ((i : ℕ) → slice_index bytes i < 256) → can ≡ false → (CanPack spots → IsTrue can) → IsTrue false ↔ (unpacked bytes ≡ Some spots)
 none_can bytes spots can small is cannot = (λ h. absurd (true≢false (sym h)), λ h. absurd (true≢false (sym (cannot (stand_for bytes spots small h).can) ∙ is)))
 
 -- ---- what comes after the first bytes
@@ -94,43 +78,43 @@ last_behind n bs small = ap (λ xs. after_front xs bs) (sym (last_byte n (grind 
 
 -- ---- places one after another
 
-abbrev pub bytes_after : Spot → List StoredSpot → List ℕ
-bytes_after last spots = flat_map leb128 (numbers_after last (map packed_spot spots))
+abbrev pub bytes_after : Spot → List Spot → List ℕ
+bytes_after last spots = flat_map leb128 (numbers_after last spots)
 
-one_spot : (last : Spot) (s : StoredSpot) (ss : List StoredSpot) → bytes_after last (s ∷ ss) ≡ bytes_after last (s ∷ []) ++ bytes_after (packed_spot s) ss
-one_spot last s ss = flat_map-append leb128 (numbers_after last (packed_spot s ∷ [])) (numbers_after (packed_spot s) (map packed_spot ss))
+one_spot : (last : Spot) (s : Spot) (ss : List Spot) → bytes_after last (s ∷ ss) ≡ bytes_after last (s ∷ []) ++ bytes_after s ss
+one_spot last s ss = flat_map-append leb128 (numbers_after last (s ∷ [])) (numbers_after s ss)
 
-pub spot_none : (last : Spot) (s : StoredSpot) (ss : List StoredSpot) (bs : List ℕ) → after_front (bytes_after last (s ∷ [])) bs ≡ None → after_front (bytes_after last (s ∷ ss)) bs ≡ None
-spot_none last s ss bs h = ap (λ xs. after_front xs bs) (one_spot last s ss) ∙ first_none (bytes_after last (s ∷ [])) (bytes_after (packed_spot s) ss) bs h
+pub spot_none : (last : Spot) (s : Spot) (ss : List Spot) (bs : List ℕ) → after_front (bytes_after last (s ∷ [])) bs ≡ None → after_front (bytes_after last (s ∷ ss)) bs ≡ None
+spot_none last s ss bs h = ap (λ xs. after_front xs bs) (one_spot last s ss) ∙ first_none (bytes_after last (s ∷ [])) (bytes_after s ss) bs h
 
-pub spot_some : (last : Spot) (s : StoredSpot) (ss : List StoredSpot) (bs cs : List ℕ) → after_front (bytes_after last (s ∷ [])) bs ≡ Some cs → after_front (bytes_after last (s ∷ ss)) bs ≡ after_front (bytes_after (packed_spot s) ss) cs
-spot_some last s ss bs cs h = ap (λ xs. after_front xs bs) (one_spot last s ss) ∙ first_some (bytes_after last (s ∷ [])) (bytes_after (packed_spot s) ss) bs cs h
+pub spot_some : (last : Spot) (s : Spot) (ss : List Spot) (bs cs : List ℕ) → after_front (bytes_after last (s ∷ [])) bs ≡ Some cs → after_front (bytes_after last (s ∷ ss)) bs ≡ after_front (bytes_after s ss) cs
+spot_some last s ss bs cs h = ap (λ xs. after_front xs bs) (one_spot last s ss) ∙ first_some (bytes_after last (s ∷ [])) (bytes_after s ss) bs cs h
 
-pub begins : (spots : List StoredSpot) (bs : List ℕ) → after_front (packed_spots spots) bs ≡ after_front (bytes_after origin spots) bs
+pub begins : (spots : List Spot) (bs : List ℕ) → after_front (packed spots) bs ≡ after_front (bytes_after origin spots) bs
 unfolding packed
 begins spots bs = refl
 
 -- ---- the answer
 
-pub not_behind : (bytes : List ℕ) (spots : List StoredSpot) → ((i : ℕ) → slice_index bytes i < 256) → after_front (packed_spots spots) bytes ≡ None → IsTrue false ↔ (spots_in bytes ≡ Some spots)
+pub not_behind : (bytes : List ℕ) (spots : List Spot) → ((i : ℕ) → slice_index bytes i < 256) → after_front (packed spots) bytes ≡ None → IsTrue false ↔ (unpacked bytes ≡ Some spots)
 not_behind bytes spots small none = (
   λ h. absurd (true≢false (sym h)),
-  λ h. absurd (let here : after_front (packed_spots spots) bytes ≡ Some [] = ap (after_front (packed_spots spots)) (sym (stand_for bytes spots small h).packed) ∙ all_behind (packed_spots spots) in
+  λ h. absurd (let here : after_front (packed spots) bytes ≡ Some [] = ap (after_front (packed spots)) (sym (stand_for bytes spots small h).packed) ∙ all_behind (packed spots) in
       let no = sym none ∙ here in cc),
 )
 
-pub answer : (bytes left : List ℕ) (spots : List StoredSpot) (b : Bool) → ((i : ℕ) → slice_index bytes i < 256) → after_front (packed_spots spots) bytes ≡ Some left → (IsTrue b → (left ≡ []) × CanPack spots) → (left ≡ [] → CanPack spots → IsTrue b) → IsTrue b ↔ (spots_in bytes ≡ Some spots)
+pub answer : (bytes left : List ℕ) (spots : List Spot) (b : Bool) → ((i : ℕ) → slice_index bytes i < 256) → after_front (packed spots) bytes ≡ Some left → (IsTrue b → (left ≡ []) × CanPack spots) → (left ≡ [] → CanPack spots → IsTrue b) → IsTrue b ↔ (unpacked bytes ≡ Some spots)
 answer bytes left spots b small is gives back = (
-  λ h. let both = gives h in ap spots_in (sym (none_behind (packed_spots spots) bytes (is ∙ ap Some both.0))) ∙ packed_stands spots both.1,
-  λ h. let stand = stand_for bytes spots small h in back (same_some left [] (sym is ∙ ap (after_front (packed_spots spots)) (sym stand.packed) ∙ all_behind (packed_spots spots))) stand.can,
+  λ h. let both = gives h in ap unpacked (sym (none_behind (packed spots) bytes (is ∙ ap Some both.0))) ∙ packed_stands spots both.1,
+  λ h. let stand = stand_for bytes spots small h in back (same_some left [] (sym is ∙ ap (after_front (packed spots)) (sym stand.packed) ∙ all_behind (packed spots))) stand.can,
 )
 
 -- ---- the places of postings
 
 abbrev pub no_posting : Posting
-no_posting = record { docid = pos 0; spot = record { column = pos 0; pos = pos 0; place = pos 0; size = pos 0 } }
+no_posting = record { docid = pos 0; spot = origin }
 
-abbrev pub spot_at : List Posting → ℕ → StoredSpot
+abbrev pub spot_at : List Posting → ℕ → Spot
 spot_at ps i = (get_or ps i no_posting).spot
 
 pub left_are : (ps : List Posting) (i : ℕ) → i < length ps → map spot_of (drop i ps) ≡ spot_at ps i ∷ map spot_of (drop (i + 1) ps)

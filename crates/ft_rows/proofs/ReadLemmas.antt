@@ -1,13 +1,11 @@
 -- How the functions that pack and unpack go through numbers and places.
-use Rattle.std.proofs.Common.{◌≡◌, ℕ, zero, suc, ◌+◌, ◌-◌, ◌*◌, ◌/◌, ◌%◌, ◌^◌, ◌<◌, ◌≤◌, Bool, true, false, ◌&&◌, ◌||◌, ◌==◌, List, [], ◌∷◌, ◌++◌, length, map, get_or, Some, None, Option, sym, ap, subst, ◌∙◌, arith, nat_lt, append_assoc, append-nil, ltb-true, refl, ◌≢◌, true≢false}
-use Rattle.std.specs.Prelude.{unwrap_or, option_map, if◌then◌else◌, IsTrue}
+use Rattle.std.proofs.Common.{◌≡◌, ℕ, zero, suc, ◌+◌, ◌-◌, ◌*◌, ◌/◌, ◌%◌, ◌^◌, ◌<◌, ◌≤◌, Bool, true, false, ◌&&◌, ◌||◌, ◌==◌, List, [], ◌∷◌, ◌++◌, length, get_or, Some, None, Option, sym, ap, subst, ◌∙◌, arith, nat_lt, append_assoc, append-nil, ltb-true, refl, ◌≢◌, true≢false}
+use Rattle.std.specs.Prelude.{if◌then◌else◌, IsTrue}
 use Rattle.std.specs.Option.{option_and_then}
-use Rattle.std.proofs.lemmas.List.{map-append}
 use Rattle.std.proofs.lemmas.Option.{option_and_then_some, cond_some}
 use Rattle.std.proofs.lemmas.Bool.{eqb-true, eqb-false, and_parts}
 use Rattle.std.proofs.lemmas.Bool.Decides.{nat_tests}
-use Rattle.ft_rows.specs.Packed.{Spot, leb128_within, leb128, going_on, numbers_in, is_spot, is_after, origin, spots_after, rise_after, are_spots, unpacked, packed_spot, stored_spot, spots_in}
-use Rattle.ft_values.specs.declared.rows.Spot.{Spot as StoredSpot}
+use Rattle.ft_rows.specs.Packed.{Spot, leb128_within, leb128, going_on, numbers_in, is_spot, is_after, origin, spots_after, rise_after, are_spots, unpacked}
 use Rattle.ft_rows.specs.Unpacking.{spot_from, passes, checked, read_after, BeginsWith, BeginsWithSpot, HasNoNumber}
 use Rattle.ft_rows.proofs.PackedLemmas.{reach, more_fuel, last_byte, is_spot-fits, same_some}
 
@@ -174,15 +172,12 @@ first_spot first last c p l z bytes rest t h is = ap (option_and_then (checked f
 pub no_place : {c p l z : ℕ} {bytes rest : List ℕ} → (first : Bool) (last : Spot) → Begins bytes (c ∷ p ∷ l ∷ z ∷ []) rest → passes first last (spot_from last c p l z) ≡ false → read_after first last bytes ≡ None
 no_place {c} {p} {l} {z} {bytes} {rest} first last h is = first_spot first last c p l z bytes rest false h is
 
-pub a_place : {c p l z : ℕ} {bytes left rest : List ℕ} → (first : Bool) (last : Spot) (spot : StoredSpot) → Begins bytes (c ∷ p ∷ l ∷ []) left → BeginsWith left z rest
-    → (passes first last (spot_from last c p l z) ≡ true) × (spot ≡ stored_spot (spot_from last c p l z)) → BeginsWithSpot first last bytes spot rest
-a_place {c} {p} {l} {z} {bytes} {left} {rest} first last spot h k found =
-    let same : packed_spot spot ≡ spot_from last c p l z = ap packed_spot found.1 in
-    record {
-      places = first_spot first last c p l z bytes rest true (one_more h k) found.0 ∙ (λ i. option_and_then (λ ss. Some (sym same i ∷ ss)) (read_after false (sym same i) rest));
-      stored = found.1 ∙ ap stored_spot (sym same);
-      shorter = omega (arith, h.shorter, k.shorter);
-    }
+pub a_place : {c p l z : ℕ} {bytes left rest : List ℕ} → (first : Bool) (last : Spot) (spot : Spot) → Begins bytes (c ∷ p ∷ l ∷ []) left → BeginsWith left z rest
+    → (passes first last (spot_from last c p l z) ≡ true) × (spot ≡ spot_from last c p l z) → BeginsWithSpot first last bytes spot rest
+a_place {c} {p} {l} {z} {bytes} {left} {rest} first last spot h k found = record {
+  places = first_spot first last c p l z bytes rest true (one_more h k) found.0 ∙ (λ i. option_and_then (λ ss. Some (sym found.1 i ∷ ss)) (read_after false (sym found.1 i) rest));
+  shorter = omega (arith, h.shorter, k.shorter);
+}
 
 -- ---- places that are tested as they come
 
@@ -239,14 +234,9 @@ joined xs ys s None e = refl
 joined xs ys s (Some ss) e = ap Some (sym (append_assoc xs (s ∷ []) ss) ∙ ap (λ l. l ++ ss) (sym e))
 
 -- one place more
-pub one_passed : (first : Bool) (last : Spot) (bytes rest : List ℕ) (xs : List StoredSpot) (spot : StoredSpot) (all : Option (List Spot)) → BeginsWithSpot first last bytes spot rest
-    → all ≡ option_and_then (λ ss. Some (map packed_spot xs ++ ss)) (read_after first last bytes) → all ≡ option_and_then (λ ss. Some (map packed_spot (xs ++ spot ∷ []) ++ ss)) (read_after false (packed_spot spot) rest)
-one_passed first last bytes rest xs spot all begins h =
-    h ∙ ap (option_and_then (λ ss. Some (map packed_spot xs ++ ss))) begins.places
-    ∙ joined (map packed_spot xs) (map packed_spot (xs ++ spot ∷ [])) (packed_spot spot) (read_after false (packed_spot spot) rest) (map-append packed_spot xs (spot ∷ []))
-
-pub stored_more : (xs : List StoredSpot) (spot : StoredSpot) → spot ≡ stored_spot (packed_spot spot) → xs ≡ map stored_spot (map packed_spot xs) → xs ++ spot ∷ [] ≡ map stored_spot (map packed_spot (xs ++ spot ∷ []))
-stored_more xs spot is h = (λ i. h i ++ is i ∷ []) ∙ sym (map-append stored_spot (map packed_spot xs) (packed_spot spot ∷ [])) ∙ ap (map stored_spot) (sym (map-append packed_spot xs (spot ∷ [])))
+pub one_passed : (first : Bool) (last : Spot) (bytes rest : List ℕ) (xs : List Spot) (spot : Spot) (all : Option (List Spot)) → BeginsWithSpot first last bytes spot rest
+    → all ≡ option_and_then (λ ss. Some (xs ++ ss)) (read_after first last bytes) → all ≡ option_and_then (λ ss. Some ((xs ++ spot ∷ []) ++ ss)) (read_after false spot rest)
+one_passed first last bytes rest xs spot all begins h = h ∙ ap (option_and_then (λ ss. Some (xs ++ ss))) begins.places ∙ joined xs (xs ++ spot ∷ []) spot (read_after false spot rest) refl
 
 pub unpacked-no_length : (bytes : List ℕ) → (length bytes == 0) ≡ true → unpacked bytes ≡ None
 unpacked-no_length [] h = unpacked-empty [] refl
@@ -278,10 +268,5 @@ no_spots bytes h =
     option_and_then_some (λ (xs : List Spot). if are_spots xs then Some xs else None) (option_and_then (spots_after origin) (numbers_in bytes)) [] h
     (λ xs read kept. let test = cond_some (are_spots xs) xs [] kept in true≢false (sym (subst (λ ys. are_spots ys ≡ true) test.1 test.0)))
 
-pub some_places : (bytes : List ℕ) (spots : List StoredSpot) → spots_in bytes ≡ Some spots → spots ≢ []
-some_places bytes spots h none = go (unpacked bytes) refl (h ∙ ap Some none)
-  where
-    go : (o : Option (List Spot)) → unpacked bytes ≡ o → option_map (map stored_spot) o ≡ Some [] → ⊥
-    go None e k = cc
-    go (Some []) e k = no_spots bytes e
-    go (Some (s ∷ ss)) e k = let same = ap (λ (o : Option (List StoredSpot)). unwrap_or o []) k in absurd cc
+pub some_places : (bytes : List ℕ) (spots : List Spot) → unpacked bytes ≡ Some spots → spots ≢ []
+some_places bytes spots h none = no_spots bytes (h ∙ ap Some none)

@@ -1,11 +1,10 @@
 -- Meaning. The packed list: the spots of one term in one document as bytes (own choice; the numbers
 -- are not those of "Variable Length Integer (varint) Format").
-use Rattle.std.specs.Prelude.{◌≡◌, ℕ, zero, suc, ◌+◌, ◌-◌, ◌*◌, ◌/◌, ◌%◌, ◌<◌, ℤ, pos, negsuc, option_map, Bool, true, false, ◌&&◌, ◌||◌, List}
-use Rattle.std.specs.Prelude.{[], ◌∷◌, map, Option, Some, None, nat_lt, nat_le, ◌==◌, slice_index, IsTrue, if◌then◌else◌}
+use Rattle.std.specs.Prelude.{◌≡◌, ℕ, zero, suc, ◌+◌, ◌-◌, ◌*◌, ◌/◌, ◌%◌, ◌<◌, Bool, true, false, ◌&&◌, ◌||◌, List}
+use Rattle.std.specs.Prelude.{[], ◌∷◌, Option, Some, None, nat_lt, nat_le, ◌==◌, slice_index, IsTrue, if◌then◌else◌}
 use Rattle.std.specs.List.{flat_map}
 use Rattle.std.specs.Option.{option_and_then}
-use Rattle.ft_values.specs.declared.rows.Spot.{Spot as StoredSpot}
-pub use Rattle.ft_values.specs.Spots.{Spot, stored_spot}
+pub use Rattle.ft_values.specs.declared.rows.Spot.{Spot}
 
 -- unsigned LEB128 in at most k bytes: seven bits a byte from the lowest on, 128 more in each but
 -- the last
@@ -65,6 +64,10 @@ abbrev pub are_spots : List Spot → Bool
 are_spots [] = false
 are_spots (s ∷ ss) = is_spot s && rise_after s ss
 
+-- spots that a list can be packed of
+abbrev pub CanPack : List Spot → Type 0
+CanPack spots = IsTrue (are_spots spots)
+
 -- the packed list of spots
 unfoldable pub packed : List Spot → List ℕ
 packed ss = flat_map leb128 (numbers_after origin ss)
@@ -73,42 +76,15 @@ packed ss = flat_map leb128 (numbers_after origin ss)
 unfoldable pub unpacked : List ℕ → Option (List Spot)
 unpacked bytes = option_and_then (λ ss. if are_spots ss then Some ss else None) (option_and_then (spots_after origin) (numbers_in bytes))
 
-abbrev pub natural : ℤ → ℕ
-natural (pos n) = n
-natural (negsuc n) = 0
-
-abbrev pub packed_spot : StoredSpot → Spot
-packed_spot s = record { column = natural s.column; pos = natural s.pos; place = natural s.place; size = natural s.size }
-
--- no number of the place is negative
-abbrev pub is_nonnegative : ℤ → Bool
-is_nonnegative (pos n) = true
-is_nonnegative (negsuc n) = false
-
-abbrev pub is_natural : StoredSpot → Bool
-is_natural s = is_nonnegative s.column && is_nonnegative s.pos && is_nonnegative s.place && is_nonnegative s.size
-
--- Places that a posting may have: those of a list that may be packed, so no number is negative.
-pub record CanPack (spots : List StoredSpot) : Type 0 where
-  pub plain : spots ≡ map stored_spot (map packed_spot spots)
-  pub rise : IsTrue (are_spots (map packed_spot spots))
-
--- what stands for places, and the places that bytes stand for, None for damaged bytes
-abbrev pub packed_spots : List StoredSpot → List ℕ
-packed_spots spots = packed (map packed_spot spots)
-
-abbrev pub spots_in : List ℕ → Option (List StoredSpot)
-spots_in bytes = option_map (map stored_spot) (unpacked bytes)
-
 -- Spots that a posting may have are read again from their packed list.
 abbrev pub PackedIsRead : Type 0
-PackedIsRead = (ss : List Spot) → IsTrue (are_spots ss) → unpacked (packed ss) ≡ Some ss
+PackedIsRead = (ss : List Spot) → CanPack ss → unpacked (packed ss) ≡ Some ss
 
 -- Two lists of spots with one packed list are equal.
 abbrev pub PackedIsExact : Type 0
-PackedIsExact = (ss ts : List Spot) → IsTrue (are_spots ss) → IsTrue (are_spots ts) → packed ss ≡ packed ts → ss ≡ ts
+PackedIsExact = (ss ts : List Spot) → CanPack ss → CanPack ts → packed ss ≡ packed ts → ss ≡ ts
 
 -- What is read is the packed list of spots that a posting may have, so any other bytes are damaged.
 abbrev pub OnlyPackedIsRead : Type 0
 OnlyPackedIsRead =
-    (bytes : List ℕ) (ss : List Spot) → ((i : ℕ) → slice_index bytes i < 256) → unpacked bytes ≡ Some ss → IsTrue (are_spots ss) × (packed ss ≡ bytes)
+    (bytes : List ℕ) (ss : List Spot) → ((i : ℕ) → slice_index bytes i < 256) → unpacked bytes ≡ Some ss → CanPack ss × (packed ss ≡ bytes)

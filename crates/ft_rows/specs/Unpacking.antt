@@ -2,8 +2,7 @@
 use Rattle.std.specs.Prelude.{◌≡◌, ℕ, suc, MatchOption, ◌+◌, ◌<◌, ◌≤◌, Bool, false, ◌&&◌, ◌||◌, ◌==◌, List, [], ◌∷◌, length, Option, Some, None, if◌then◌else◌}
 use Rattle.std.specs.Borrow.{Bor}
 use Rattle.std.specs.Option.{option_and_then}
-use Rattle.ft_values.specs.declared.rows.Spot.{Spot as StoredSpot}
-use Rattle.ft_rows.specs.Packed.{Spot, numbers_in, is_spot, is_after, packed_spot, stored_spot}
+use Rattle.ft_rows.specs.Packed.{Spot, numbers_in, is_spot, is_after}
 
 abbrev pub spot_from : Spot → ℕ → ℕ → ℕ → ℕ → Spot
 spot_from last c p l z = record {
@@ -44,9 +43,8 @@ abbrev pub HasNoUpper : List ℕ → Type 0
 HasNoUpper bytes = (n : ℕ) (ns : List ℕ) → numbers_in bytes ≡ Some (suc n ∷ ns) → 16384 ≤ suc n
 
 -- the places of bytes are one that a posting may have and those of the rest
-pub record BeginsWithSpot (first : Bool) (last : Spot) (bytes : List ℕ) (spot : StoredSpot) (rest : List ℕ) : Type 0 where
-  pub places : read_after first last bytes ≡ option_and_then (λ ss. Some (packed_spot spot ∷ ss)) (read_after false (packed_spot spot) rest)
-  pub stored : spot ≡ stored_spot (packed_spot spot)
+pub record BeginsWithSpot (first : Bool) (last : Spot) (bytes : List ℕ) (spot : Spot) (rest : List ℕ) : Type 0 where
+  pub places : read_after first last bytes ≡ option_and_then (λ ss. Some (spot ∷ ss)) (read_after false spot rest)
   pub shorter : length rest < length bytes
 
 -- what comes after the first bytes, None where others are first

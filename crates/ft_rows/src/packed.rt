@@ -1,7 +1,7 @@
 //! The packed list: where one term stands in one document, as bytes.
-ghost use Rattle.std.specs.Prelude.{◌≡◌, ◌↔◌, ℕ, [], ◌∷◌, ◌++◌, ◌+◌, ◌<◌, ◌&&◌, ◌||◌, ◌==◌, map, length, nat_lt, true, false, if◌then◌else◌, Some, None, IfOk, IfSome, IfNone, OnOk, MatchOption, IsTrue};
+ghost use Rattle.std.specs.Prelude.{◌≡◌, ◌↔◌, [], ◌∷◌, ◌++◌, ◌<◌, map, length, nat_lt, true, false, if◌then◌else◌, Some, None, IfOk, IfSome, IfNone, OnOk, MatchOption, IsTrue};
 ghost use Rattle.std.specs.List.{flat_map};
-ghost use Rattle.ft_rows.specs.Packed.{CanPack, is_natural, PackedIsRead, PackedIsExact, OnlyPackedIsRead, packed_spots, spots_in, stored_spot, packed_spot, leb128, natural, numbers_after, is_spot, is_after};
+ghost use Rattle.ft_rows.specs.Packed.{CanPack, PackedIsRead, PackedIsExact, OnlyPackedIsRead, packed, unpacked, leb128, numbers_after, is_spot, is_after};
 ghost use Rattle.ft_rows.specs.Terms.{spot_of};
 ghost use Rattle.ft_rows.specs.Unpacking.{spot_from, passes, read_after, Follows, BeginsWith, BeginsWithSpot, HasNoNumber, HasNoUpper};
 
@@ -23,22 +23,29 @@ const ORIGIN: Spot = Spot {
     size: 0,
 };
 
-fn natural(number: i64) -> u64
-    ensures { result ≡ natural number }
+// Where a number counts from: the last one in the same column, else 0.
+fn kept(same: bool, number: u32) -> u32
+    ensures { result ≡ (if same then number else 0) }
 {
-    if number < 0 { 0 } else { number as u64 }
+    if same { number } else { 0 }
 }
 
-// Where a number counts from: the last one in the same column, else 0.
-fn kept(same: bool, number: i64) -> u64
-    ensures { result ≡ (if same then natural number else 0) }
+// The four numbers of a place after the last one.
+fn numbers(last: &Spot, spot: &Spot) -> [u32; 4]
+    ensures { result ≡ numbers_after last.now (spot.now ∷ []) }
 {
-    if same { natural(number) } else { 0 }
+    let same = spot.column == last.column;
+    [
+        spot.column.saturating_sub(last.column),
+        spot.pos.saturating_sub(kept(same, last.pos)),
+        spot.place.saturating_sub(kept(same, last.place)),
+        spot.size,
+    ]
 }
 
 // ---- packing
 
-fn push_number(bytes: &mut Vec<u8>, number: u64) -> Result<(), AllocError>
+fn push_number(bytes: &mut Vec<u8>, number: u32) -> Result<(), AllocError>
     ensures { OnOk result (bytes.new.items ≡ bytes.old.items ++ leb128 number) }
 {
     let mut rest = number;
@@ -50,28 +57,19 @@ fn push_number(bytes: &mut Vec<u8>, number: u64) -> Result<(), AllocError>
     Ok(())
 }
 
-// The four numbers of a place after the last one.
 fn push_spot(bytes: &mut Vec<u8>, last: &Spot, spot: &Spot) -> Result<(), AllocError>
     ensures { OnOk result (bytes.new.items ≡ bytes.old.items ++ flat_map leb128
-        (numbers_after (packed_spot last.now) (packed_spot spot.now ∷ []))) }
+        (numbers_after last.now (spot.now ∷ []))) }
 {
-    let column = natural(spot.column);
-    let same = column == natural(last.column);
-    push_number(bytes, column.saturating_sub(natural(last.column)))?;
-    push_number(
-        bytes,
-        natural(spot.pos).saturating_sub(kept(same, last.pos)),
-    )?;
-    push_number(
-        bytes,
-        natural(spot.place).saturating_sub(kept(same, last.place)),
-    )?;
-    push_number(bytes, natural(spot.size))
+    for number in numbers(last, spot) {
+        push_number(bytes, number)?;
+    }
+    Ok(())
 }
 
 /// The packed list of places that rise.
 pub fn pack(alloc: Global, spots: &[Spot]) -> Result<Vec<u8>, AllocError>
-    ensures { IfOk result (λ bytes. bytes.items ≡ packed_spots spots.now) }
+    ensures { IfOk result (λ bytes. bytes.items ≡ packed spots.now) }
 {
     let mut bytes = Vec::new(alloc);
     let mut last = ORIGIN;
@@ -84,26 +82,28 @@ pub fn pack(alloc: Global, spots: &[Spot]) -> Result<Vec<u8>, AllocError>
 
 // ---- which places can be packed
 
-fn is_natural(spot: &Spot) -> bool
-    ensures { result ≡ is_natural spot.now }
+fn is_spot(spot: &Spot) -> bool
+    ensures { result ≡ is_spot spot.now }
 {
-    spot.column >= 0 && spot.pos >= 0 && spot.place >= 0 && spot.size >= 0
+    spot.column <= 99
+        && spot.pos < 1_000_000
+        && spot.place < 1_000_000
+        && 0 < spot.size
+        && spot.size <= 1_000_000
+}
+
+fn is_after(last: &Spot, spot: &Spot) -> bool
+    ensures { result ≡ is_after last.now spot.now }
+{
+    last.column < spot.column
+        || (last.column == spot.column && last.pos < spot.pos && last.place < spot.place)
 }
 
 // Whether a posting may have a place, the first or one after the last.
-fn may_follow(is_first: bool, last: &Spot, spot: &Spot) -> bool
-    ensures { result ≡ (is_natural spot.now && passes is_first (packed_spot last.now)
-        (packed_spot spot.now)) }
+fn passes(is_first: bool, last: &Spot, spot: &Spot) -> bool
+    ensures { result ≡ passes is_first last.now spot.now }
 {
-    is_natural(spot)
-        && passes(
-            is_first,
-            last,
-            natural(spot.column),
-            natural(spot.pos),
-            natural(spot.place),
-            natural(spot.size),
-        )
+    is_spot(spot) && (is_first || is_after(last, spot))
 }
 
 /// Whether places can be packed.
@@ -113,7 +113,7 @@ pub fn can_pack(spots: &[Spot]) -> bool
 {
     let mut last = ORIGIN;
     for (at, spot) in spots.iter().enumerate() {
-        if !may_follow(at == 0, &last, spot) {
+        if !passes(at == 0, &last, spot) {
             return false;
         }
         last = *spot;
@@ -134,7 +134,7 @@ fn behind_byte(bytes: &[u8], byte: u8) -> Option<&[u8]>
 }
 
 // What comes after a number, where it is the first.
-fn behind_number(bytes: &[u8], number: u64) -> Option<&[u8]>
+fn behind_number(bytes: &[u8], number: u32) -> Option<&[u8]>
     ensures { Follows result bytes.now (leb128 number) }
 {
     let mut left = bytes;
@@ -149,27 +149,24 @@ fn behind_number(bytes: &[u8], number: u64) -> Option<&[u8]>
 // What comes after the four numbers of a place after the last one, where they are the first.
 fn behind_spot<'a>(bytes: &'a [u8], last: &Spot, spot: &Spot) -> Option<&'a [u8]>
     ensures { Follows result bytes.now (flat_map leb128
-        (numbers_after (packed_spot last.now) (packed_spot spot.now ∷ []))) }
+        (numbers_after last.now (spot.now ∷ []))) }
 {
-    let column = natural(spot.column);
-    let same = column == natural(last.column);
-    let left = behind_number(bytes, column.saturating_sub(natural(last.column)))?;
-    let pos = natural(spot.pos).saturating_sub(kept(same, last.pos));
-    let left = behind_number(left, pos)?;
-    let place = natural(spot.place).saturating_sub(kept(same, last.place));
-    let left = behind_number(left, place)?;
-    behind_number(left, natural(spot.size))
+    let mut left = bytes;
+    for number in numbers(last, spot) {
+        left = behind_number(left, number)?;
+    }
+    Some(left)
 }
 
 /// Whether bytes are the packed list of these postings' places: no other bytes stand for them.
 pub fn is_list_of(bytes: &[u8], postings: &[Posting]) -> bool
-    ensures { IsTrue result ↔ (spots_in bytes.now ≡ Some (map spot_of postings.now)) }
+    ensures { IsTrue result ↔ (unpacked bytes.now ≡ Some (map spot_of postings.now)) }
 {
     let mut left = bytes;
     let mut last = ORIGIN;
     for (at, posting) in postings.iter().enumerate() {
         let spot = &posting.spot;
-        if !may_follow(at == 0, &last, spot) {
+        if !passes(at == 0, &last, spot) {
             return false;
         }
         let Some(rest) = behind_spot(left, &last, spot) else {
@@ -226,69 +223,31 @@ fn first_number(bytes: &[u8]) -> Option<(u32, &[u8])>
     Some((low - 128 + 128 * upper, rest))
 }
 
-fn is_spot(column: u64, pos: u64, place: u64, size: u64) -> bool
-    ensures { result ≡ is_spot (record { column = column; pos = pos; place = place; size = size }) }
-{
-    column <= 99 && pos < 1_000_000 && place < 1_000_000 && 0 < size && size <= 1_000_000
-}
-
-fn is_after(last: &Spot, column: u64, pos: u64, place: u64) -> bool
-    ensures { (size : ℕ)
-        → result ≡ is_after (packed_spot last.now)
-        (record { column = column; pos = pos; place = place; size = size }) }
-{
-    natural(last.column) < column
-        || (natural(last.column) == column
-            && natural(last.pos) < pos
-            && natural(last.place) < place)
-}
-
-fn passes(is_first: bool, last: &Spot, column: u64, pos: u64, place: u64, size: u64) -> bool
-    ensures { result ≡ passes is_first (packed_spot last.now)
-        (record { column = column; pos = pos; place = place; size = size }) }
-{
-    is_spot(column, pos, place, size) && (is_first || is_after(last, column, pos, place))
-}
-
-fn stored(column: u64, pos: u64, place: u64, size: u64) -> Spot
-    requires { is_spot (record { column = column; pos = pos; place = place; size = size }) ≡ true }
-    ensures { result ≡ stored_spot
-        (record { column = column; pos = pos; place = place; size = size }) }
-{
-    Spot {
-        column: column as i64,
-        pos: pos as i64,
-        place: place as i64,
-        size: size as i64,
-    }
-}
-
 // The place that four numbers say after the last one, if a posting may have it.
 fn spot_at(last: &Spot, is_first: bool, c: u32, p: u32, l: u32, z: u32) -> Option<Spot>
-    ensures found { IfSome result (λ spot. (passes is_first (packed_spot last.now)
-        (spot_from (packed_spot last.now) c p l z) ≡ true)
-        × (spot ≡ stored_spot (spot_from (packed_spot last.now) c p l z))) }
-    ensures none { IfNone result (passes is_first (packed_spot last.now)
-        (spot_from (packed_spot last.now) c p l z) ≡ false) }
+    ensures found { IfSome result (λ spot. (passes is_first last.now
+        (spot_from last.now c p l z) ≡ true)
+        × (spot ≡ spot_from last.now c p l z)) }
+    ensures none { IfNone result (passes is_first last.now
+        (spot_from last.now c p l z) ≡ false) }
 {
     let same = c == 0;
-    let column = natural(last.column) + u64::from(c);
-    let pos = kept(same, last.pos) + u64::from(p);
-    let place = kept(same, last.place) + u64::from(l);
-    let size = u64::from(z);
-    if !passes(is_first, last, column, pos, place, size) {
-        return None;
-    }
-    Some(stored(column, pos, place, size))
+    let spot = Spot {
+        column: last.column.saturating_add(c),
+        pos: kept(same, last.pos).saturating_add(p),
+        place: kept(same, last.place).saturating_add(l),
+        size: z,
+    };
+    passes(is_first, last, &spot).then_some(spot)
 }
 
 // The place that bytes begin with, after the last one, and what comes behind it; if a posting may
 // have it.
 fn first_spot<'a>(bytes: &'a [u8], last: &Spot, is_first: bool) -> Option<(Spot, &'a [u8])>
-    ensures found { IfSome result (λ spot. BeginsWithSpot is_first (packed_spot last.now) bytes.now
+    ensures found { IfSome result (λ spot. BeginsWithSpot is_first last.now bytes.now
         spot.0 spot.1.now) }
     ensures none { IfNone result (IsTrue (nat_lt 0 (length bytes.now))
-        → read_after is_first (packed_spot last.now) bytes.now ≡ None) }
+        → read_after is_first last.now bytes.now ≡ None) }
 {
     let (column, rest) = first_number(bytes)?;
     let (pos, rest) = first_number(rest)?;
@@ -300,8 +259,8 @@ fn first_spot<'a>(bytes: &'a [u8], last: &Spot, is_first: bool) -> Option<(Spot,
 
 /// The places that a packed list stands for. None for any bytes that are no packed list.
 pub fn unpack(alloc: Global, bytes: &[u8]) -> Result<Option<Vec<Spot>>, AllocError>
-    ensures { IfOk result (λ o. MatchOption o (spots_in bytes.now ≡ None)
-        (λ spots. spots_in bytes.now ≡ Some spots.items)) }
+    ensures { IfOk result (λ o. MatchOption o (unpacked bytes.now ≡ None)
+        (λ spots. unpacked bytes.now ≡ Some spots.items)) }
 {
     if bytes.is_empty() {
         return Ok(None);

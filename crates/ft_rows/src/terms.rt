@@ -1,13 +1,15 @@
 //! Postings by their terms.
-ghost use Rattle.std.specs.Prelude.{◌≡◌};
+ghost use Rattle.std.specs.Prelude.{◌≡◌, map, IfOk};
 ghost use Rattle.std.specs.List.{prefix_len};
 ghost use Rattle.std.specs.Ordering.{int_eq};
-ghost use Rattle.ft_rows.specs.Terms.{AreFirstList};
+ghost use Rattle.ft_rows.specs.Shown.{shown_list};
+ghost use Rattle.ft_rows.specs.Terms.{AreFirstList, lists_of_postings};
 
-use ft_values::Spot;
+use ft_values::{ListRow, Spot};
+use std::alloc::{AllocError, Global};
 
-/// A place of a term in a document.
-#[derive(Clone, Copy, Debug)]
+/// A place of a term in a document. Postings stand by docid, column and position.
+#[derive(Clone, Copy, Debug, PartialEq, Eq, PartialOrd, Ord)]
 pub struct Posting {
     pub docid: i64,
     pub spot: Spot,
@@ -37,4 +39,20 @@ fn count_with(first: &Posting, postings: &[Posting]) -> usize
 {
     let docid = first.docid;
     postings.iter().take_while(|p| p.docid == docid).count()
+}
+
+/// The lists of postings: those of one document that stand beside each other are one.
+pub fn lists_of(alloc: Global, postings: &[Posting]) -> Result<Vec<ListRow>, AllocError>
+    ensures { IfOk result (λ lists. map shown_list lists.items ≡ lists_of_postings postings.now) }
+{
+    let mut lists = Vec::new(alloc);
+    let mut rest = postings;
+    while let Some(first) = rest.first() {
+        let docid = first.docid;
+        let (own, others) = rest.split_at(first_list(rest));
+        let spots = own.iter().map(|posting| posting.spot).collect(alloc)?;
+        lists.push(ListRow { docid, spots })?;
+        rest = others;
+    }
+    Ok(lists)
 }

@@ -61,7 +61,7 @@ use Rattle.ft_store.proofs.PutLemmas.{then_step}
 use Rattle.sqlite.specs.Rows.{stamped}
 use Rattle.sqlite.specs.Store.{Ghosts}
 use Rattle.sqlite.specs.Held.{Held, state}
-use Rattle.ft_rows.specs.Packed.{spots_in}
+use Rattle.ft_rows.specs.Packed.{unpacked}
 use Rattle.ft_store.specs.Changes.{TakesRows, ReplacesRow}
 use Rattle.ft_store.proofs.WriteLemmas.{then_tie, turned, turned_text, turned_case, cast_num, cast_txt, cast_lists, list_row}
 use Rattle.ft_store.proofs.GoneLemmas.{wrote_grown, rest_of, drop_column, drop_skip, drop_cell, drop_list, drop_size, drop_note}
@@ -300,7 +300,7 @@ list_big : (id tab : ℤ) (term : List ℕ) (docid : ℤ) (list : List ℕ) → 
 list_big id tab term docid list over =
     let all = oversized tables.lists (Int id ∷ Int tab ∷ Text term ∷ Int docid ∷ Blob list ∷ []) refl refl (int_is_number id, (int_is_number tab, (zero_is_number, (int_is_number docid, (zero_is_number, tt))))) (int_is_number tab, (zero_is_number, (int_is_number docid, (int_is_number id, tt)))) (omega arith, omega arith) (omega arith, omega arith) (omega arith) over in omega (arith, all)
 
-list_adds : (tab : ℤ) (term : List ℕ) (docid : ℤ) (list : List ℕ) → AddsRow tables.lists add_list_text (Int tab ∷ Text term ∷ Int docid ∷ Blob list ∷ []) (tab, term, docid) (unwrap_or (spots_in list) []) 5 (length term + length list)
+list_adds : (tab : ℤ) (term : List ℕ) (docid : ℤ) (list : List ℕ) → AddsRow tables.lists add_list_text (Int tab ∷ Text term ∷ Int docid ∷ Blob list ∷ []) (tab, term, docid) (unwrap_or (unpacked list) []) 5 (length term + length list)
 unfolding first_key
 list_adds tab term docid list = record {
   terms = _;
@@ -363,8 +363,8 @@ module _ {S : Type 0} (g : Ghosts S) where
   pub put_cell : (tab docid at : ℤ) (c : Cell) → cell_in (num_of c) (txt_of c) ≡ c → ReplacesRow g drop_cell_text add_cell_text (Int tab ∷ Int docid ∷ Int at ∷ []) (Int tab ∷ Int docid ∷ Int at ∷ num_of c ∷ txt_of c ∷ []) 5 (λ v. record v { cells = put cell_key_cmp (tab, docid, at) c v.cells }) 6 (length (bytes (txt_of c)))
   put_cell tab docid at c again = replaces tables.cells add_cell_text (Int tab ∷ Int docid ∷ Int at ∷ num_of c ∷ txt_of c ∷ []) (tab, docid, at) c 6 (length (bytes (txt_of c))) (cell_row tab docid at c again) g drop_cell_text (Int tab ∷ Int docid ∷ Int at ∷ []) (drop_cell g tab docid at) (λ a b h. h.1.0)
 
-  pub put_list : (tab : ℤ) (term : List ℕ) (docid : ℤ) (list : List ℕ) → ReplacesRow g drop_list_text add_list_text (Int tab ∷ Text term ∷ Int docid ∷ []) (Int tab ∷ Text term ∷ Int docid ∷ Blob list ∷ []) 7 (λ v. record v { lists = put list_key_cmp (tab, term, docid) (unwrap_or (spots_in list) []) v.lists }) 5 (length term + length list)
-  put_list tab term docid list = replaces tables.lists add_list_text (Int tab ∷ Text term ∷ Int docid ∷ Blob list ∷ []) (tab, term, docid) (unwrap_or (spots_in list) []) 5 (length term + length list) (list_adds tab term docid list) g drop_list_text (Int tab ∷ Text term ∷ Int docid ∷ []) (drop_list g tab term docid) (λ a b h. h.1.1.0)
+  pub put_list : (tab : ℤ) (term : List ℕ) (docid : ℤ) (list : List ℕ) → ReplacesRow g drop_list_text add_list_text (Int tab ∷ Text term ∷ Int docid ∷ []) (Int tab ∷ Text term ∷ Int docid ∷ Blob list ∷ []) 7 (λ v. record v { lists = put list_key_cmp (tab, term, docid) (unwrap_or (unpacked list) []) v.lists }) 5 (length term + length list)
+  put_list tab term docid list = replaces tables.lists add_list_text (Int tab ∷ Text term ∷ Int docid ∷ Blob list ∷ []) (tab, term, docid) (unwrap_or (unpacked list) []) 5 (length term + length list) (list_adds tab term docid list) g drop_list_text (Int tab ∷ Text term ∷ Int docid ∷ []) (drop_list g tab term docid) (λ a b h. h.1.1.0)
 
   pub put_size : (tab docid at n : ℤ) → ReplacesRow g drop_size_text add_size_text (Int tab ∷ Int docid ∷ Int at ∷ []) (Int tab ∷ Int docid ∷ Int at ∷ Int n ∷ []) 9 (λ v. record v { sizes = put cell_key_cmp (tab, docid, at) n v.sizes }) 5 0
   put_size tab docid at n = replaces tables.sizes add_size_text (Int tab ∷ Int docid ∷ Int at ∷ Int n ∷ []) (tab, docid, at) n 5 0 (size_row tab docid at n) g drop_size_text (Int tab ∷ Int docid ∷ Int at ∷ []) (drop_size g tab docid at) (λ a b h. h.1.1.1.0)

@@ -28,7 +28,7 @@ use Rattle.sqlite.proofs.Callers.{reads_as}
 use Rattle.sqlite_typed.proofs.TestLemmas.{by_order, at_texts, same_bytes, then_key, last_key, then_term, last_term}
 use Rattle.sqlite_keyed.proofs.ListLemmas.{map-map, filter-map}
 use Rattle.ft_values.specs.declared.rows.Spot.{Spot}
-use Rattle.ft_rows.specs.Packed.{spots_in}
+use Rattle.ft_rows.specs.Packed.{unpacked}
 use Rattle.ft_store.specs.Tables.{store_schema}
 use Rattle.ft_values.specs.Cells.{Cell}
 use Rattle.ft_rows.specs.Store.{ListKey, cell_key_cmp, list_key_cmp, column_key_cmp, name_cmp}
@@ -273,7 +273,7 @@ lists_stored_shown tab old new rows if_open h =
 -- ---- lists, with their places
 
 abbrev spots_of : List ℕ → List Spot
-spots_of b = unwrap_or (spots_in b) []
+spots_of b = unwrap_or (unpacked b) []
 
 lists_are : (db : Trees) → keyed list_key_cmp (map list_entry (db 7)) ≡ map (at_value list_key_cmp spots_of) (keyed list_key_cmp (map stored_entry (db 7)))
 lists_are db = ap (keyed list_key_cmp) (sym (map-map (at_value list_key_cmp spots_of) stored_entry (db 7))) ∙ keyed-map list_key_cmp spots_of (map stored_entry (db 7))

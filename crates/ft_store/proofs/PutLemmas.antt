@@ -10,7 +10,7 @@ use Rattle.std.proofs.lemmas.Cmp.{int_cmp_total}
 use Rattle.std.proofs.lemmas.List.{take_more, map-append, length-map, length-take-le}
 use Rattle.sqlite.specs.State.{State}
 use Rattle.ft_values.specs.declared.rows.Spot.{Spot}
-use Rattle.ft_rows.specs.Packed.{CanPack, packed_spots, packed_spot, stored_spot, spots_in}
+use Rattle.ft_rows.specs.Packed.{CanPack, packed, unpacked}
 use Rattle.ft_rows.specs.Store.{ColumnKey, column_key_cmp, StoreValue, with_columns, with_skipped}
 use Rattle.ft_store.specs.Rows.{value_of}
 use Rattle.ft_store.specs.Calls.{IsStore, Steps}
@@ -57,8 +57,8 @@ one_more_skip tab [] x skipped = refl
 one_more_skip tab (y ∷ xs) x skipped = one_more_skip tab xs x _
 
 -- places that can be packed are read back
-pub packed_back : (spots : List Spot) → CanPack spots → unwrap_or (spots_in (packed_spots spots)) [] ≡ spots
-packed_back spots can = ap (λ o. unwrap_or (option_map (map stored_spot) o) []) (packed_is_read (map packed_spot spots) can.rise) ∙ sym can.plain
+pub packed_back : (spots : List Spot) → CanPack spots → unwrap_or (unpacked (packed spots)) [] ≡ spots
+packed_back spots can = ap (λ o. unwrap_or o []) (packed_is_read spots can)
 
 -- ---- the loops over the columns of a table
 

@@ -2,7 +2,7 @@
 use Rattle.std.specs.Prelude.{ℕ, ℤ, List, [], unwrap_or, string_bytes}
 use Rattle.ft_values.specs.declared.rows.Spot.{Spot}
 use Rattle.ft_values.specs.declared.rows.TabRow.{TabRow}
-use Rattle.ft_rows.specs.Packed.{spots_in}
+use Rattle.ft_rows.specs.Packed.{unpacked}
 use Rattle.sqlite.specs.Order.{Row, column}
 use Rattle.sqlite_value.specs.Order.{bytes}
 use Rattle.sqlite_value.specs.Keys.{without_case}
@@ -35,7 +35,7 @@ found_note row = (without_case (bytes (column row 0)), bytes (column row 0))
 
 -- a list as its places, none where it is damaged: its docid and its bytes come first
 abbrev pub found_spots : Row → ℤ × List Spot
-found_spots row = (id_in (column row 0), unwrap_or (spots_in (bytes (column row 1))) [])
+found_spots row = (id_in (column row 0), unwrap_or (unpacked (bytes (column row 1))) [])
 
 -- a list as its bytes, with its term after them
 abbrev pub found_list : ℤ → Row → ListKey × List ℕ

@@ -9,7 +9,7 @@ use Rattle.sqlite.specs.Store.{Ghosts}
 use Rattle.sqlite.specs.Held.{Held, state}
 use Rattle.ft_store.specs.declared.fault.StoreFault.{StoreFault}
 use Rattle.ft_values.specs.declared.rows.Spot.{Spot}
-use Rattle.ft_rows.specs.Packed.{CanPack, packed_spots, spots_in}
+use Rattle.ft_rows.specs.Packed.{CanPack, packed, unpacked}
 use Rattle.ft_rows.specs.Store.{ListKey, list_key_cmp, StoreValue}
 use Rattle.ft_values.specs.declared.rows.RowChange.{RowChange}
 use Rattle.ft_values.specs.declared.rows.RowChange.TheVariants as row
@@ -26,7 +26,7 @@ entry_values e = Int e.0.0 ∷ Text e.0.1 ∷ Int e.0.2 ∷ Blob e.1 ∷ []
 
 -- with the places that it stands for, none for a damaged list
 abbrev pub entry_spots : PackedList → ListKey × List Spot
-entry_spots e = (e.0, unwrap_or (spots_in e.1) [])
+entry_spots e = (e.0, unwrap_or (unpacked e.1) [])
 
 -- rows that are put one after the other
 abbrev pub put_each : {K X : Type 0} → (K → K → Ordering) → List (K × X) → List (K × X) → List (K × X)
@@ -38,7 +38,7 @@ with_lists es store = record store { lists = put_each list_key_cmp (map entry_sp
 
 -- the list that a change puts, where it puts one that can be packed
 abbrev pub entry_put : RowChange → PackedList
-entry_put (row.PutEntries tab term docid spots) = ((tab, string_bytes term, docid), packed_spots spots.items)
+entry_put (row.PutEntries tab term docid spots) = ((tab, string_bytes term, docid), packed spots.items)
 entry_put _ = ((pos 0, [], pos 0), [])
 
 abbrev pub PutsList : RowChange → Type 0

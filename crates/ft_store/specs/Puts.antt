@@ -19,7 +19,7 @@ use Rattle.sqlite.specs.declared.error.ErrorCode.TheVariants as code
 use Rattle.sqlite_schema.specs.declared.schema.Constraint.{Constraint}
 use Rattle.sqlite.specs.Store.{Ghosts}
 use Rattle.sqlite.specs.Held.{Held, state}
-use Rattle.ft_rows.specs.Packed.{packed_spots}
+use Rattle.ft_rows.specs.Packed.{packed}
 use Rattle.ft_rows.specs.Store.{StoreValue, Change, AddTable, PutCell, PutEntries, PutSize, Note, all_applied}
 use Rattle.ft_store.specs.declared.fault.StoreFault.{StoreFault}
 use Rattle.ft_store.specs.declared.fault.StoreFault.TheVariants as fault
@@ -84,7 +84,7 @@ abbrev pub CantPut : ℕ → Trees → StoreValue → Change → Type 0
 CantPut count db value (AddTable tab name columns skipped) =
     IsFull count (db 3) ⊎ (IsFull count (db 13) ⊎ (IsTooBig 3 (length name) ⊎ (Any (λ c. IsTooBig 4 (length c)) columns ⊎ IsOthers tab name value.tables)))
 CantPut count db value (PutCell tab docid column cell) = IsFull count (db 5) ⊎ IsTooBig 6 (length (bytes (txt_of cell)))
-CantPut count db value (PutEntries tab term docid spots) = IsFull count (db 7) ⊎ IsTooBig 5 (length term + length (packed_spots spots))
+CantPut count db value (PutEntries tab term docid spots) = IsFull count (db 7) ⊎ IsTooBig 5 (length term + length (packed spots))
 CantPut count db value (PutSize tab docid column n) = IsFull count (db 9)
 CantPut count db value (Note name) = IsFull count (db 11) ⊎ IsTooBig 2 (length name)
 CantPut count db value _ = ⊥

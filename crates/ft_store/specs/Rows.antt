@@ -11,7 +11,7 @@ use Rattle.sqlite_value.specs.Keys.{without_case}
 use Rattle.sqlite_trees.specs.Tree.{Trees}
 use Rattle.sqlite_rules.specs.Edit.{id_in}
 use Rattle.ft_values.specs.declared.rows.Spot.{Spot}
-use Rattle.ft_rows.specs.Packed.{spots_in}
+use Rattle.ft_rows.specs.Packed.{unpacked}
 use Rattle.ft_values.specs.Cells.{Cell, Null, Int, Text}
 use Rattle.ft_rows.specs.Store.{CellKey, ListKey, ColumnKey, cell_key_cmp, list_key_cmp, column_key_cmp, name_cmp, StoreValue}
 
@@ -42,7 +42,7 @@ txt_of _ = value.Null
 
 -- none for a damaged list
 abbrev pub spots_or_none : Value → List Spot
-spots_or_none v = unwrap_or (spots_in (bytes v)) []
+spots_or_none v = unwrap_or (unpacked (bytes v)) []
 
 abbrev pub table_entry : Row → ℤ × List ℕ
 table_entry row = (id_in (column row 0), bytes (column row 2))

@@ -8,7 +8,7 @@ ghost use Rattle.sqlite_value.specs.Value.{owned};
 ghost use Rattle.sqlite_value.specs.Order.{bytes};
 ghost use Rattle.sqlite_value.specs.Keys.{without_case};
 ghost use Rattle.sqlite.specs.declared.types.Value.TheVariants.{Int};
-ghost use Rattle.ft_rows.specs.Packed.{spots_in};
+ghost use Rattle.ft_rows.specs.Packed.{unpacked};
 ghost use Rattle.ft_rows.specs.Store.{cell_key_cmp, list_key_cmp, column_key_cmp, name_cmp};
 ghost use Rattle.ft_values.specs.Cells.{shown_value};
 ghost use Rattle.ft_store.specs.Blame.{RefusesRun};
@@ -317,7 +317,7 @@ pub(crate) fn put_list<'a, S: Alter>(
     ensures { Changes S.Store tx.old.conn tx.new.conn result
         (λ v. record v {
           lists = put list_key_cmp (tab, term.now, docid)
-              (unwrap_or (spots_in list.now) []) v.lists;
+              (unwrap_or (unpacked list.now) []) v.lists;
         })
         1 (λ db. IsFull 1 (db 7) ⊎ IsTooBig 5 (length term.now + length list.now)) }
 {

@@ -41,7 +41,7 @@ enum Step {
     PutNull(i64),
     DropCells(i64),
     // A term at the first place of a document, with a size in bytes.
-    PutTerm(&'static str, i64, i64),
+    PutTerm(&'static str, i64, u32),
     DropTerm(&'static str, i64),
     PutSize(i64, i64),
     DropSize(i64),
@@ -76,7 +76,7 @@ fn table_d(alloc: Global) -> Result<RowChange, AllocError> {
     Ok(RowChange::AddTable(1, name, columns, Vec::new(alloc)))
 }
 
-fn put_term(alloc: Global, term: &str, docid: i64, size: i64) -> Result<RowChange, AllocError> {
+fn put_term(alloc: Global, term: &str, docid: i64, size: u32) -> Result<RowChange, AllocError> {
     let mut spots = Vec::new(alloc);
     spots.push(Spot {
         column: 0,

@@ -1,4 +1,3 @@
 -- Meaning
 pub mod Cells
 pub mod Names
-pub mod Spots

@@ -26,14 +26,14 @@ pub struct CellRow {
     pub value: Value,
 }
 
-/// Where a term stands in a document: the column and the position from 0, the place and the size in
-/// bytes.
-#[derive(Clone, Copy, Debug, PartialEq, Eq)]
+/// Where a term stands in a document: its column and its position among the tokens there, from 0,
+/// its place and its size in bytes. Spots of one document stand in this order.
+#[derive(Clone, Copy, Debug, PartialEq, Eq, PartialOrd, Ord)]
 pub struct Spot {
-    pub column: i64,
-    pub pos: i64,
-    pub place: i64,
-    pub size: i64,
+    pub column: u32,
+    pub pos: u32,
+    pub place: u32,
+    pub size: u32,
 }
 
 /// A term at a place of a document, in a table that is known.

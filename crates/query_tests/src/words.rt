@@ -36,6 +36,10 @@ fn is_asked(term: &str, asked: &str, begins: bool) -> bool {
     }
 }
 
+fn number(n: usize) -> Result<u32, AllocError> {
+    u32::try_from(n).map_err(|_| AllocError)
+}
+
 fn push_places(
     alloc: Global,
     column: usize,
@@ -46,7 +50,12 @@ fn push_places(
 ) -> Result<(), AllocError> {
     for token in &tokens(alloc, text)? {
         if is_asked(token.term.as_str(), asked, begins) {
-            places.push(Place::new(column, token.pos, token.start, token.size))?;
+            places.push(Place::new(
+                number(column)?,
+                number(token.pos)?,
+                number(token.start)?,
+                number(token.size)?,
+            ))?;
         }
     }
     Ok(())

@@ -11,14 +11,14 @@ use std::cmp::Ordering;
 /// Nothing but a comparison that is counted tells its number in the cell.
 #[derive(Clone, Copy)]
 pub struct Place {
-    column: usize,
-    pos: usize,
-    start: usize,
-    size: usize,
+    column: u32,
+    pos: u32,
+    start: u32,
+    size: u32,
 }
 
 impl Place {
-    pub fn new(column: usize, pos: usize, start: usize, size: usize) -> Place
+    pub fn new(column: u32, pos: u32, start: u32, size: u32) -> Place
         ensures { result ≡ record { column = column; pos = pos; start = start; size = size } }
     {
         Place {
@@ -30,7 +30,7 @@ impl Place {
     }
 
     // Looks at the position.
-    fn look(&self, steps: &mut Steps) -> usize
+    fn look(&self, steps: &mut Steps) -> u32
         ensures pos { result ≡ self.now.pos }
         ensures step { TakesSteps 1 steps.old steps.new }
     {
@@ -88,7 +88,7 @@ impl Place {
         let pos = self.look(steps);
         let is_within = match only {
             None => true,
-            Some(column) => column == self.column,
+            Some(column) => column == self.column as usize,
         };
         is_within && (!first || pos == 0)
     }
@@ -101,10 +101,10 @@ impl Place {
     {
         let _pos = self.look(steps);
         Offset {
-            column: self.column,
+            column: self.column as usize,
             term: number,
-            place: self.start,
-            size: self.size,
+            place: self.start as usize,
+            size: self.size as usize,
         }
     }
 }

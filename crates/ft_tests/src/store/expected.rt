@@ -21,7 +21,7 @@ const TWICE: &str =
     "INSERT INTO posting VALUES (1, 'pear', 2, x'0001040400010504'), (1, 'pear', 5, x'00000004')";
 
 // A document with a place of a term: its position, where its bytes begin, and how many they are.
-type Place = (i64, i64, i64, i64);
+type Place = (i64, u32, u32, u32);
 
 // A term and its places.
 type Term = (&'static str, &'static [Place]);

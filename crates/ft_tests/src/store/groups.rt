@@ -15,7 +15,7 @@ const WORDS: [&str; 17] = [
 
 // A word at the front of the only document, with a size in bytes. A place without a byte can't be
 // packed.
-fn put_word(number: usize, size: i64) -> Step {
+fn put_word(number: usize, size: u32) -> Step {
     match WORDS.get(number) {
         Some(word) => Step::PutTerm(word, 1, size),
         None => Step::ClearIndex,
@@ -23,7 +23,7 @@ fn put_word(number: usize, size: i64) -> Step {
 }
 
 // All words are put, each of one size.
-fn words(size: i64) -> [Step; 17] {
+fn words(size: u32) -> [Step; 17] {
     let mut steps = [Step::ClearIndex; 17];
     for (step, word) in steps.iter_mut().zip(WORDS.iter()) {
         *step = Step::PutTerm(word, 1, size);

@@ -1,5 +1,5 @@
 -- They stand in order, or a sort that keeps ties puts them so.
-use Rattle.std.proofs.Common.{◌≡◌, ◌+◌, Bool, true, false, not, ◌&&◌, List, map, get_or, ℤ, pos, refl, sym, ap, ◌∙◌, arith, rules, filter, Ordering, Less, Equal, Greater, int_cmp, int_eq, is_eq, is_le, is_lt}
+use Rattle.std.proofs.Common.{◌≡◌, ◌+◌, Bool, true, false, not, ◌&&◌, List, map, get_or, ℤ, refl, sym, ap, ◌∙◌, arith, rules, filter, Ordering, Less, Equal, Greater, int_cmp, int_eq, is_eq, is_le, is_lt}
 use Rattle.std.specs.Cmp.{int_cmp_total}
 use Rattle.std.specs.List.Sorted.{ties}
 use Rattle.std.specs.Ordering.{ordering_reverse}
@@ -31,7 +31,7 @@ same_docid a b = go (int_cmp a b) refl
     go Greater is = (λ i. not (is_lt (is i)) && not (is_lt ((int_cmp_total.antisymm b a ∙ ap ordering_reverse is) i))) ∙ ap is_eq (sym is)
 
 abbrev of_docid : ℤ → Posting
-of_docid d = record { docid = d; spot = record { column = pos 0; pos = pos 0; place = pos 0; size = pos 0 } }
+of_docid d = record { docid = d; spot = record { column = 0; pos = 0; place = 0; size = 0 } }
 
 own_docid : (d : ℤ) (ps : List Posting) → filter (λ (p : Posting). int_eq d p.docid) ps ≡ filter (ties before (of_docid d)) ps
 own_docid d ps = λ i. filter (λ (p : Posting). sym (same_docid d p.docid) i) ps

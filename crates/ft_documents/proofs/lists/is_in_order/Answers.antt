@@ -2,7 +2,7 @@
 use Rattle.std.proofs.Common.{◌≡◌, ◌&&◌, true, sym, ap, ◌∙◌, rules}
 use Rattle.std.proofs.lemmas.List.Sorted.{answers_always}
 use Rattle.ft_query.specs.Documents.{is_filled}
-use Rattle.ft_documents.specs.Placed.{place_of, is_before, places_rise}
+use Rattle.ft_documents.specs.Placed.{is_before, rise}
 use Rattle.ft_documents.proofs.AskedLemmas.{neighbours_tell}
 use Rattle.ft_documents.proofs.lists.is_in_order.Goals as goal
 
@@ -10,6 +10,6 @@ pub returns-then-not-is_empty : goal.returns-then-not-is_empty
 returns-then-not-is_empty c =
     let spots = c.args.row.now.spots.items in
     let filled : is_filled spots ≡ true = search rules in
-    neighbours_tell (λ s t. is_before (place_of s) (place_of t)) c.as_slice-spots.result.now c.is_sorted_by.result
-    (c.is_sorted_by.ensures.cases (λ s t. is_before (place_of s) (place_of t)) (answers_always _ _ _ (λ f a r g called. search rules)))
-    ∙ ap places_rise c.as_slice-spots.ensures.value ∙ sym (ap (λ b. b && places_rise spots) filled)
+    neighbours_tell is_before c.as_slice-spots.result.now c.is_sorted_by.result
+    (c.is_sorted_by.ensures.cases is_before (answers_always _ _ _ (λ f a r g called. search rules)))
+    ∙ ap (rise is_before) c.as_slice-spots.ensures.value ∙ sym (ap (λ b. b && rise is_before spots) filled)

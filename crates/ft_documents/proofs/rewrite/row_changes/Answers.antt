@@ -4,7 +4,7 @@ use Rattle.std.proofs.lemmas.List.{length-map, drop_all}
 use Rattle.std.proofs.lemmas.List.Elements.{All-same}
 use Rattle.ft_rows.specs.Store.{DropCells, column_key_cmp}
 use Rattle.ft_rows.specs.Changes.{shown_change}
-use Rattle.ft_content.specs.Index.{Key, key_cmp, StoredSpot}
+use Rattle.ft_content.specs.Index.{Key, key_cmp, Spot}
 use Rattle.ft_content.specs.Views.{cells_of, column_of}
 use Rattle.ft_documents.specs.declared.rewrite.Rewrite as source
 use Rattle.sqlite_keyed.proofs.SliceLemmas.{is_some-map}
@@ -54,7 +54,7 @@ loop-rewrite-preserved c =
       kept_more goes (λ (x : Rewrite). DropCells tab x.docid) r rest made _ _ grown (sym (ap (λ rs. made ++ dropped_documents tab rs) left) ∙ so_far.2),
     )
 
-in_order : (lists : List (Key × List StoredSpot)) (gs : List Group) → lists ≡ lists_in_groups gs → IsTrue (is_sorted key_cmp lists)
+in_order : (lists : List (Key × List Spot)) (gs : List Group) → lists ≡ lists_in_groups gs → IsTrue (is_sorted key_cmp lists)
 in_order lists gs is = subst (λ ls. IsTrue (is_sorted key_cmp ls)) (sym is) (sorted_joined (flat_map group_spots gs) [] refl)
 
 pub drop_lists-requires : goal.drop_lists-requires

@@ -1,9 +1,9 @@
 -- the tests of all places are those of the places to come
 use Rattle.std.proofs.Common.{◌≡◌, true, drop}
 use Rattle.std.specs.Prelude.{◌==◌}
-use Rattle.ft_rows.specs.Packed.{origin, packed_spot}
+use Rattle.ft_rows.specs.Packed.{origin}
 use Rattle.ft_rows.proofs.PackTests.{tests}
 use Rattle.ft_rows.proofs.packed.can_pack.Given as goal
 
 abbrev pub invariant-loop-at : goal.invariant-loop-at
-invariant-loop-at l = tests true origin l.spots ≡ tests (l.at == 0) (packed_spot l.last) (drop l.at l.spots)
+invariant-loop-at l = tests true origin l.spots ≡ tests (l.at == 0) l.last (drop l.at l.spots)

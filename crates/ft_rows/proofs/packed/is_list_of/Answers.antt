@@ -2,7 +2,6 @@
 use Rattle.std.proofs.Common.{◌≡◌, ℕ, ◌+◌, ◌<◌, Bool, not, ◌&&◌, true, false, true≢false, [], refl, sym, ap, ◌∙◌, drop, map, length, rules}
 use Rattle.std.specs.Prelude.{◌==◌, slice_index}
 use Rattle.std.proofs.lemmas.List.{drop_all}
-use Rattle.ft_rows.specs.Packed.{packed_spot}
 use Rattle.ft_rows.specs.Terms.{spot_of}
 use Rattle.ft_rows.specs.Unpacking.{after_front}
 use Rattle.ft_rows.proofs.PackTests.{tests, fails_all, all_pass, can_is_some}
@@ -12,19 +11,19 @@ use Rattle.ft_rows.proofs.packed.is_list_of.Goals as goal
 pub loop-at-init : goal.loop-at-init
 loop-at-init c = (refl, begins (map spot_of c.args.postings.now) c.args.bytes.now)
 
-pub returns-then-not-may_follow : goal.returns-then-not-may_follow
-returns-then-not-may_follow c =
+pub returns-then-not-passes : goal.returns-then-not-passes
+returns-then-not-passes c =
     let small : (i : ℕ) → slice_index c.args.bytes.now i < 256 = search rules in
     let postings = c.args.postings.now in
     none_can c.args.bytes.now (map spot_of postings) false small refl (λ can.
-    fails_all (c.loop-at.at == 0) (packed_spot c.loop-at.last) (map spot_of postings) (map spot_of (drop c.loop-at.at postings)) (spot_at postings c.loop-at.at) (map spot_of (drop (c.loop-at.at + 1) postings)) c.loop-at.invariant.0
-    (left_are postings c.loop-at.at c.loop-at-test.true) (sym c.may_follow.ensures ∙ c.if-not-may_follow.true) can)
+    fails_all (c.loop-at.at == 0) c.loop-at.last (map spot_of postings) (map spot_of (drop c.loop-at.at postings)) (spot_at postings c.loop-at.at) (map spot_of (drop (c.loop-at.at + 1) postings)) c.loop-at.invariant.0
+    (left_are postings c.loop-at.at c.loop-at-test.true) (sym c.passes.ensures ∙ c.if-not-passes.true) can)
 
 pub returns-in_default : goal.returns-in_default
 returns-in_default c =
     let small : (i : ℕ) → slice_index c.args.bytes.now i < 256 = search rules in
     let postings = c.args.postings.now in
-    let last = packed_spot c.loop-at.last in
+    let last = c.loop-at.last in
     let left = c.loop-at.left.now in
     not_behind c.args.bytes.now (map spot_of postings) small
     (c.loop-at.invariant.1 ∙ ap (λ xs. after_front (bytes_after last xs) left) (left_are postings c.loop-at.at c.loop-at-test.true) ∙ spot_none last (spot_at postings c.loop-at.at) (map spot_of (drop (c.loop-at.at + 1) postings)) left c.in_default.ensures)
@@ -32,10 +31,10 @@ returns-in_default c =
 pub loop-at-preserved : goal.loop-at-preserved
 loop-at-preserved c =
     let postings = c.args.postings.now in
-    let last = packed_spot c.loop-at.last in
+    let last = c.loop-at.last in
     let left = c.loop-at.left.now in
     let rest = map spot_of (drop (c.loop-at.at + 1) postings) in (
-      c.loop-at.invariant.0 ∙ ap (tests (c.loop-at.at == 0) last) (left_are postings c.loop-at.at c.loop-at-test.true) ∙ ap (λ b. b && tests false (packed_spot (spot_at postings c.loop-at.at)) rest) (sym c.if-not-may_follow.ensures) ∙ ap (λ b. tests b (packed_spot (spot_at postings c.loop-at.at)) rest) (sym (never_first c.loop-at.at)),
+      c.loop-at.invariant.0 ∙ ap (tests (c.loop-at.at == 0) last) (left_are postings c.loop-at.at c.loop-at-test.true) ∙ ap (λ b. b && tests false (spot_at postings c.loop-at.at) rest) (sym c.if-not-passes.ensures) ∙ ap (λ b. tests b (spot_at postings c.loop-at.at) rest) (sym (never_first c.loop-at.at)),
       c.loop-at.invariant.1 ∙ ap (λ xs. after_front (bytes_after last xs) left) (left_are postings c.loop-at.at c.loop-at-test.true) ∙ spot_some last (spot_at postings c.loop-at.at) rest left c.in-Some.rest.now c.in-Some.ensures,
     )
 
@@ -43,7 +42,7 @@ pub returns-then-is_empty : goal.returns-then-is_empty
 returns-then-is_empty c =
     let small : (i : ℕ) → slice_index c.args.bytes.now i < 256 = search rules in
     let postings = c.args.postings.now in
-    let last = packed_spot c.loop-at.last in
+    let last = c.loop-at.last in
     let none : map spot_of (drop c.loop-at.at postings) ≡ [] = ap (map spot_of) (drop_all c.loop-at.at postings c.loop-at-test.false) in
     answer c.args.bytes.now c.loop-at.left.now (map spot_of postings) (not c.is_empty-then-is_empty.result) small
     (c.loop-at.invariant.1 ∙ ap (λ xs. after_front (bytes_after last xs) c.loop-at.left.now) none)
@@ -62,7 +61,7 @@ pub returns-else-is_empty : goal.returns-else-is_empty
 returns-else-is_empty c =
     let small : (i : ℕ) → slice_index c.args.bytes.now i < 256 = search rules in
     let postings = c.args.postings.now in
-    let last = packed_spot c.loop-at.last in
+    let last = c.loop-at.last in
     let none : map spot_of (drop c.loop-at.at postings) ≡ [] = ap (map spot_of) (drop_all c.loop-at.at postings c.loop-at-test.false) in
     answer c.args.bytes.now c.loop-at.left.now (map spot_of postings) c.is_empty.result small
     (c.loop-at.invariant.1 ∙ ap (λ xs. after_front (bytes_after last xs) c.loop-at.left.now) none)

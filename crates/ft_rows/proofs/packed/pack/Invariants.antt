@@ -1,7 +1,7 @@
-use Rattle.std.proofs.Common.{◌≡◌, ◌++◌, map, drop}
+use Rattle.std.proofs.Common.{◌≡◌, ◌++◌, drop}
 use Rattle.std.specs.List.{flat_map}
-use Rattle.ft_rows.specs.Packed.{leb128, numbers_after, packed_spot, packed_spots}
+use Rattle.ft_rows.specs.Packed.{leb128, numbers_after, packed}
 use Rattle.ft_rows.proofs.packed.pack.Given as goal
 
 abbrev pub invariant-loop-spot : goal.invariant-loop-spot
-invariant-loop-spot l = l.bytes.items ++ flat_map leb128 (numbers_after (packed_spot l.last) (map packed_spot (drop l.spot-index l.spots))) ≡ packed_spots l.spots
+invariant-loop-spot l = l.bytes.items ++ flat_map leb128 (numbers_after l.last ((drop l.spot-index l.spots))) ≡ packed l.spots

@@ -5,7 +5,7 @@ use Rattle.sqlite_value.specs.Order.{bytes}
 use Rattle.sqlite_value.specs.Value.{owned}
 use Rattle.sqlite.specs.declared.types.ValueRef.{ValueRef}
 use Rattle.sqlite_rules.specs.Edit.{id_in}
-use Rattle.ft_rows.specs.Packed.{spots_in}
+use Rattle.ft_rows.specs.Packed.{unpacked}
 use Rattle.ft_rows.proofs.ReadLemmas.{some_places}
 use Rattle.ft_store.proofs.lists.list_row.Goals as goal
 
@@ -14,8 +14,8 @@ returns-in-Some-clause-found c =
     let fits : FitsSigned w64 c.in_ok-docid.docid = search rules in
     let docid : c.in_ok-docid.docid ≡ id_in (column c.args.row.now 0) = search rules in
     let list : c.in-Blob.bytes.now ≡ bytes (column c.args.row.now 1) = ap (λ (v : ValueRef). bytes (owned v)) (sym c.in-Blob.is) ∙ ap bytes c.in_ok-bytes.ensures.ok.1 in
-    let places = ap spots_in (sym list) ∙ (rw c.in-Some.is at c.in_ok-spots.ensures) in
-    let spots : c.in-Some.spots.items ≡ unwrap_or (spots_in (bytes (column c.args.row.now 1))) [] = sym (ap (λ o. unwrap_or o []) places) in
+    let places = ap unpacked (sym list) ∙ (rw c.in-Some.is at c.in_ok-spots.ensures) in
+    let spots : c.in-Some.spots.items ≡ unwrap_or (unpacked (bytes (column c.args.row.now 1))) [] = sym (ap (λ o. unwrap_or o []) places) in
     let number = to_z-of_z fits ∙ docid in
     record {
       found = (
@@ -28,4 +28,4 @@ returns-in-Some-clause-found c =
 pub returns-in-None-clause-found : goal.returns-in-None-clause-found
 returns-in-None-clause-found c =
     let list : c.in-Blob.bytes.now ≡ bytes (column c.args.row.now 1) = ap (λ (v : ValueRef). bytes (owned v)) (sym c.in-Blob.is) ∙ ap bytes c.in_ok-bytes.ensures.ok.1 in
-    record { found = ap (λ o. unwrap_or o []) (ap spots_in (sym list) ∙ (rw c.in-None.is at c.in_ok-spots.ensures)); fault = search rules }
+    record { found = ap (λ o. unwrap_or o []) (ap unpacked (sym list) ∙ (rw c.in-None.is at c.in_ok-spots.ensures)); fault = search rules }

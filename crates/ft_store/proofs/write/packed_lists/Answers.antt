@@ -2,7 +2,7 @@ use Rattle.std.proofs.Common.{◌∙◌, map, ap, sym, subst}
 use Rattle.std.specs.Vec.{vec_items}
 use Rattle.std.proofs.lemmas.List.{map_push}
 use Rattle.std.proofs.lemmas.List.Elements.{All-more}
-use Rattle.ft_rows.specs.Packed.{CanPack, packed_spots}
+use Rattle.ft_rows.specs.Packed.{CanPack, packed}
 use Rattle.ft_store.specs.Groups.{entry_put, PutsList}
 use Rattle.ft_values.specs.declared.rows.RowChange.{RowChange}
 use Rattle.ft_store.proofs.GroupLemmas.{one_more_list}
@@ -15,7 +15,7 @@ loop-change-preserved c =
     let lists = c.loop-change.lists.items in
     let list = c.in_ok-pack.field-0 in
     let can = subst CanPack c.as_slice.ensures.value (c.can_pack.ensures.can c.if-not-can_pack.false) in
-    let packed = c.in_ok-pack.ensures ∙ ap packed_spots c.as_slice-in-loop-change.ensures.value ∙ ap (λ (r : RowChange). (entry_put r).1) (sym c.in-PutEntries.is) in (
+    let packed = c.in_ok-pack.ensures ∙ ap packed c.as_slice-in-loop-change.ensures.value ∙ ap (λ (r : RowChange). (entry_put r).1) (sym c.in-PutEntries.is) in (
       All-more PutsList c.args.changes.now at change c.loop-change-test.true c.loop-change.invariant.0 (subst PutsList (sym c.in-PutEntries.is ∙ c.change-item.is) can),
       ap (map vec_items) c.in_ok-push.ensures.items ∙ map_push vec_items lists list
           ∙ one_more_list c.args.changes.now at change (map vec_items lists) (vec_items list) c.loop-change-test.true c.change-item.is packed c.loop-change.invariant.1,

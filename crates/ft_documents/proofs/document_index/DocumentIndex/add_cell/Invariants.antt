@@ -3,13 +3,13 @@ use Rattle.ft_query.specs.Tokens.{tokens_of}
 use Rattle.ft_values.specs.Cells.{shown_value}
 use Rattle.ft_content.specs.Content.{cell_text}
 use Rattle.ft_documents.specs.RewriteRows.{with_entries, cell_entries}
-use Rattle.ft_documents.specs.MadeIndex.{lists_in, sizes_in, AreSmall}
+use Rattle.ft_documents.specs.MadeIndex.{lists_in, sizes_in}
 use Rattle.ft_documents.proofs.document_index.DocumentIndex.add_cell.Given as goal
 
 -- the tokens so far are in the lists, and the others join them
 abbrev pub invariant-loop-token : goal.invariant-loop-token
 invariant-loop-token l =
-    AreSmall l.tokenizer × (l.count + length l.tokenizer ≡ length (tokens_of (cell_text (shown_value l.value)))) ×
+    (l.count + length l.tokenizer ≡ length (tokens_of (cell_text (shown_value l.value)))) ×
     (with_entries (cell_entries l.docid l.place l.tokenizer) (lists_in l.self) ≡ with_entries (cell_entries l.docid l.place (tokens_of (cell_text (shown_value l.value)))) (lists_in l.fn.self)) ×
     (sizes_in l.self ≡ sizes_in l.fn.self)
 
