@@ -23,10 +23,10 @@ use Rattle.ft_content.specs.Content.{Content, IsContent}
 use Rattle.ft_content.specs.Index.{IndexRows, index_rows}
 use Rattle.ft_content.specs.Meaning.{content_documents, documents_in, entries_in, lists_with_terms, ListsMeanDocuments, TermsAreTheirLists, DocumentsAreInOrder}
 use Rattle.ft_content.proofs.MeaningLemmas.{lists_mean_documents, terms_are_their_lists, terms_are_counted, documents_are_in_order}
-use Rattle.ft_documents.specs.Placed.{list_of, all_in, AreListsOf}
+use Rattle.ft_documents.specs.Placed.{read_list, list_of, all_in, AreListsOf}
 use Rattle.ft_documents.specs.Tables.{table_index}
 use Rattle.ft_index.specs.Walked.{table_documents, AreReliable, IsIndexed}
-use Rattle.ft_documents.proofs.AskedLemmas.{read_list, bare, asked_entries, rows_answer}
+use Rattle.ft_documents.proofs.AskedLemmas.{bare, asked_entries, rows_answer}
 
 means : ListsMeanDocuments
 means = lists_mean_documents postings_rise
