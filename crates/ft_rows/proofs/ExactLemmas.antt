@@ -1,115 +1,107 @@
--- Bytes stand for places where they are their packed list, and only there.
-use Rattle.std.proofs.Common.{◌≡◌, ℕ, ◌+◌, ◌<◌, ◌≤◌, Bool, true, false, true≢false, cond, List, [], ◌∷◌, ◌++◌, map, length, drop, get_or, suc, pos, Option, Some, None, refl, sym, ap, ◌∙◌, arith}
-use Rattle.std.specs.Prelude.{◌↔◌, ◌==◌, ◌/◌, ◌%◌, ◌^◌, IsTrue, slice_index}
-use Rattle.std.specs.Borrow.{Bor}
-use Rattle.std.specs.List.{flat_map}
+-- Bytes stand for places where these are read from them one after another.
+use Rattle.std.proofs.Common.{◌≡◌, ℕ, ◌+◌, ◌<◌, Bool, true, false, true≢false, List, [], ◌∷◌, map, length, drop, get_or, not, suc, pos, Option, Some, None, refl, sym, ap, ◌∙◌, arith, ◌≢◌, unwrap_or}
+use Rattle.std.specs.Prelude.{◌↔◌, ◌==◌, ◌&&◌, IsTrue, nat_lt, if◌then◌else◌}
 use Rattle.std.specs.Option.{option_and_then}
-use Rattle.std.proofs.lemmas.Bool.Decides.{Decides-eqb, nat_tests}
+use Rattle.std.proofs.lemmas.Bool.{eqb-true, eq-eqb, false_from_ne_true, and_parts}
+use Rattle.std.proofs.lemmas.Bool.Decides.{nat_tests}
 use Rattle.std.proofs.lemmas.List.{drop_more}
-use Rattle.std.proofs.lemmas.List.Concat.{flat_map-append}
-use Rattle.ft_rows.specs.Packed.{Spot, CanPack, leb128, numbers_after, origin, packed, unpacked}
+use Rattle.ft_rows.specs.Packed.{Spot, origin, numbers_in, unpacked}
 use Rattle.ft_rows.specs.declared.terms.Posting.{Posting}
 use Rattle.ft_rows.specs.Terms.{spot_of}
-use Rattle.ft_rows.specs.Unpacking.{after_front, Follows}
-use Rattle.ft_rows.proofs.PackedLemmas.{same_some, last_byte, packed_is_read, only_packed_is_read}
-use Rattle.ft_rows.proofs.ReadLemmas.{leb128-low}
+use Rattle.ft_rows.specs.Unpacking.{spot_from, passes, checked, read_after, BeginsWithSpot}
+use Rattle.ft_rows.proofs.PackedLemmas.{same_some}
+use Rattle.ft_rows.proofs.ReadLemmas.{some_number, unpacked-is_read}
 
-pub record StandFor (bytes : List ℕ) (spots : List Spot) : Type 0 where
-  pub can : CanPack spots
-  pub packed : packed spots ≡ bytes
+never_none : (n : ℕ) → (suc n == 0) ≡ false
+never_none n = false_from_ne_true (suc n == 0) (λ h. let e : suc n ≡ 0 = eqb-true (suc n) 0 h in omega arith)
 
--- bytes that stand for places are their packed list
-pub stand_for : (bytes : List ℕ) (spots : List Spot) → ((i : ℕ) → slice_index bytes i < 256) → unpacked bytes ≡ Some spots → StandFor bytes spots
-stand_for bytes spots small h = let only = only_packed_is_read bytes spots small h in record { can = only.0; packed = only.1 }
+pub never_first : (n : ℕ) → (n + 1 == 0) ≡ false
+never_first n = false_from_ne_true (n + 1 == 0) (λ h. let e : n + 1 ≡ 0 = eqb-true (n + 1) 0 h in omega arith)
 
--- the packed list of places stands for them
-pub packed_stands : (spots : List Spot) → CanPack spots → unpacked (packed spots) ≡ Some spots
-packed_stands = packed_is_read
+-- no bytes are no places, and bytes are some
+read_none : (first : Bool) (last : Spot) (ps : List Spot) → read_after first last [] ≡ Some ps → ps ≡ []
+unfolding numbers_in
+read_none first last ps h = sym (same_some [] ps h)
 
-pub none_can : (bytes : List ℕ) (spots : List Spot) (can : Bool) → ((i : ℕ) → slice_index bytes i < 256) → can ≡ false → (CanPack spots → IsTrue can) → IsTrue false ↔ (unpacked bytes ≡ Some spots)
-none_can bytes spots can small is cannot = (λ h. absurd (true≢false (sym h)), λ h. absurd (true≢false (sym (cannot (stand_for bytes spots small h).can) ∙ is)))
-
--- ---- what comes after the first bytes
-
-behind-append : (xs ys bs : List ℕ) → after_front (xs ++ ys) bs ≡ option_and_then (after_front ys) (after_front xs bs)
-behind-append [] ys bs = refl
-behind-append (x ∷ xs) ys [] = refl
-behind-append (x ∷ xs) ys (b ∷ bs) = elim (b == x) as (λ t. cond t (after_front (xs ++ ys) bs) None ≡ option_and_then (after_front ys) (cond t (after_front xs bs) None)) [
-  | true ↦ behind-append xs ys bs
-  | false ↦ refl
-]
-
-pub first_none : (xs ys bs : List ℕ) → after_front xs bs ≡ None → after_front (xs ++ ys) bs ≡ None
-first_none xs ys bs h = behind-append xs ys bs ∙ ap (option_and_then (after_front ys)) h
-
-pub first_some : (xs ys bs cs : List ℕ) → after_front xs bs ≡ Some cs → after_front (xs ++ ys) bs ≡ after_front ys cs
-first_some xs ys bs cs h = behind-append xs ys bs ∙ ap (option_and_then (after_front ys)) h
-
-itself : (b : ℕ) → (b == b) ≡ true
-itself b = (Decides-eqb b b).1 refl
-
-all_behind : (xs : List ℕ) → after_front xs xs ≡ Some []
-all_behind [] = refl
-all_behind (x ∷ xs) = ap (λ t. cond t (after_front xs xs) None) (itself x) ∙ all_behind xs
-
-none_behind : (xs bs : List ℕ) → after_front xs bs ≡ Some [] → xs ≡ bs
-none_behind [] [] h = refl
-none_behind [] (b ∷ bs) h = absurd (let no = h in cc)
-none_behind (x ∷ xs) [] h = absurd (let no = h in cc)
-none_behind (x ∷ xs) (b ∷ bs) h = go (b == x) refl h (none_behind xs bs)
+none_read : (first : Bool) (last : Spot) (bytes : List ℕ) → read_after first last bytes ≡ Some [] → bytes ≡ []
+none_read first last [] h = refl
+none_read first last (b ∷ bytes) h = absurd (go (numbers_in (b ∷ bytes)) refl h)
   where
-    go : (t : Bool) → (b == x) ≡ t → cond t (after_front xs bs) None ≡ Some [] → (after_front xs bs ≡ Some [] → xs ≡ bs) → x ∷ xs ≡ b ∷ bs
-    go true e h more = (let same = (Decides-eqb b x).0 e in let rest = more h in λ i. sym same i ∷ rest i)
-    go false e h more = absurd (let none = h in cc)
+    go : (o : Option (List ℕ)) → numbers_in (b ∷ bytes) ≡ o → option_and_then (checked first last) o ≡ Some [] → ⊥
+    go None e k = cc
+    go (Some []) e k = some_number (b ∷ bytes) (omega arith) e
+    go (Some (c ∷ [])) e k = cc
+    go (Some (c ∷ p ∷ [])) e k = cc
+    go (Some (c ∷ p ∷ l ∷ [])) e k = cc
+    go (Some (c ∷ p ∷ l ∷ z ∷ ns)) e k =
+        let s = spot_from last c p l z in
+        elim (passes first last s) as (λ t. (if t then option_and_then (λ (ss : List Spot). Some (s ∷ ss)) (checked false s ns) else None) ≡ Some [] → ⊥) [
+          | true ↦ λ k. elim (checked false s ns) as (λ o. option_and_then (λ (ss : List Spot). Some (s ∷ ss)) o ≡ Some [] → ⊥) [ None ↦ λ k. cc | Some ss ↦ λ k. cc ] k
+          | false ↦ λ k. cc
+        ] k
 
-pub by_same : (o : Option (Bor (List ℕ))) (bs cs xs ys : List ℕ) → after_front xs bs ≡ after_front ys cs → Follows o bs xs → Follows o cs ys
-by_same None bs cs xs ys e h = sym e ∙ h
-by_same (Some rest) bs cs xs ys e h = sym e ∙ h
+-- Places that aren't none stand for bytes just where they are read from them.
+pub unpacked-reads : (bytes : List ℕ) (ps : List Spot) → ps ≢ [] → (unpacked bytes ≡ Some ps) ↔ (read_after true origin bytes ≡ Some ps)
+unfolding unpacked numbers_in
+unpacked-reads [] ps some = (λ h. absurd (let no = h in cc), λ h. absurd (some (read_none true origin ps h)))
+unpacked-reads (b ∷ bytes) ps some = let same = unpacked-is_read (b ∷ bytes) (never_none (length bytes)) in (λ h. sym same ∙ h, λ h. same ∙ h)
 
--- the low seven bits of a number from 128 on, or a smaller number
-pub low_behind : (n : ℕ) (bs cs : List ℕ) → 128 ≤ n → n < 2 ^ 64 → after_front ((n % 128 + 128) ∷ []) bs ≡ Some cs → after_front (leb128 n) bs ≡ after_front (leb128 (n / 128)) cs
-low_behind n bs cs low small h = ap (λ xs. after_front xs bs) (leb128-low n low small) ∙ first_some ((n % 128 + 128) ∷ []) (leb128 (n / 128)) bs cs h
+abbrev head_of : Spot → List Spot → Spot
+head_of d [] = d
+head_of d (s ∷ ss) = s
 
-pub low_none : (n : ℕ) (bs : List ℕ) → 128 ≤ n → n < 2 ^ 64 → after_front ((n % 128 + 128) ∷ []) bs ≡ None → after_front (leb128 n) bs ≡ None
-low_none n bs low small h = ap (λ xs. after_front xs bs) (leb128-low n low small) ∙ first_none ((n % 128 + 128) ∷ []) (leb128 (n / 128)) bs h
+-- ---- one place after another
 
-pub last_behind : (n : ℕ) (bs : List ℕ) → n < 128 → after_front (n ∷ []) bs ≡ after_front (leb128 n) bs
-last_behind n bs small = ap (λ xs. after_front xs bs) (sym (last_byte n (grind (arith, nat_tests))))
+-- the places of all bytes are these just where those of what is left are the ones to come
+abbrev pub Reads : List ℕ → List Spot → Bool → Spot → List ℕ → List Spot → Type 0
+Reads bytes all first last left ps = (read_after true origin bytes ≡ Some all) ↔ (read_after first last left ≡ Some ps)
 
--- ---- places one after another
+pub begun : (bytes : List ℕ) (all : List Spot) → Reads bytes all true origin bytes all
+begun bytes all = (λ h. h, λ h. h)
 
-abbrev pub bytes_after : Spot → List Spot → List ℕ
-bytes_after last spots = flat_map leb128 (numbers_after last spots)
+module _ (bytes : List ℕ) (all : List Spot) (first : Bool) (last : Spot) (left : List ℕ) (s : Spot) (ss : List Spot) (reads : Reads bytes all first last left (s ∷ ss)) where
+  pub goes_on : (rest : List ℕ) → BeginsWithSpot first last left s rest → Reads bytes all false s rest ss
+  goes_on rest begins = (
+    λ h. joined (read_after false s rest) (sym begins.places ∙ reads.0 h),
+    λ h. reads.1 (begins.places ∙ ap (option_and_then (λ xs. Some (s ∷ xs))) h),
+  )
+    where
+      joined : (o : Option (List Spot)) → option_and_then (λ xs. Some (s ∷ xs)) o ≡ Some (s ∷ ss) → o ≡ Some ss
+      joined None h = absurd (let no = h in cc)
+      joined (Some xs) h = ap (λ (o : Option (List Spot)). Some (drop 1 (unwrap_or o []))) h
 
-one_spot : (last : Spot) (s : Spot) (ss : List Spot) → bytes_after last (s ∷ ss) ≡ bytes_after last (s ∷ []) ++ bytes_after s ss
-one_spot last s ss = flat_map-append leb128 (numbers_after last (s ∷ [])) (numbers_after s ss)
+  pub another : (spot : Spot) (rest : List ℕ) → BeginsWithSpot first last left spot rest → spot ≢ s → read_after true origin bytes ≢ Some all
+  another spot rest begins differs h = go (read_after false spot rest) (sym begins.places ∙ reads.0 h)
+    where
+      go : (o : Option (List Spot)) → option_and_then (λ xs. Some (spot ∷ xs)) o ≡ Some (s ∷ ss) → ⊥
+      go None k = cc
+      go (Some xs) k = differs (ap (λ (o : Option (List Spot)). head_of spot (unwrap_or o [])) k)
 
-pub spot_none : (last : Spot) (s : Spot) (ss : List Spot) (bs : List ℕ) → after_front (bytes_after last (s ∷ [])) bs ≡ None → after_front (bytes_after last (s ∷ ss)) bs ≡ None
-spot_none last s ss bs h = ap (λ xs. after_front xs bs) (one_spot last s ss) ∙ first_none (bytes_after last (s ∷ [])) (bytes_after s ss) bs h
+  pub nothing : (IsTrue (nat_lt 0 (length left)) → read_after first last left ≡ None) → read_after true origin bytes ≢ Some all
+  nothing none h = go left none (reads.0 h)
+    where
+      go : (left : List ℕ) → (IsTrue (nat_lt 0 (length left)) → read_after first last left ≡ None) → read_after first last left ≡ Some (s ∷ ss) → ⊥
+      go [] none k = absurd (let no = read_none first last (s ∷ ss) k in cc)
+      go (b ∷ bs) none k = absurd (let no = sym (none (grind (arith, nat_tests))) ∙ k in cc)
 
-pub spot_some : (last : Spot) (s : Spot) (ss : List Spot) (bs cs : List ℕ) → after_front (bytes_after last (s ∷ [])) bs ≡ Some cs → after_front (bytes_after last (s ∷ ss)) bs ≡ after_front (bytes_after s ss) cs
-spot_some last s ss bs cs h = ap (λ xs. after_front xs bs) (one_spot last s ss) ∙ first_some (bytes_after last (s ∷ [])) (bytes_after s ss) bs cs h
-
-pub begins : (spots : List Spot) (bs : List ℕ) → after_front (packed spots) bs ≡ after_front (bytes_after origin spots) bs
-unfolding packed
-begins spots bs = refl
-
--- ---- the answer
-
-pub not_behind : (bytes : List ℕ) (spots : List Spot) → ((i : ℕ) → slice_index bytes i < 256) → after_front (packed spots) bytes ≡ None → IsTrue false ↔ (unpacked bytes ≡ Some spots)
-not_behind bytes spots small none = (
-  λ h. absurd (true≢false (sym h)),
-  λ h. absurd (let here : after_front (packed spots) bytes ≡ Some [] = ap (after_front (packed spots)) (sym (stand_for bytes spots small h).packed) ∙ all_behind (packed spots) in
-      let no = sym none ∙ here in cc),
-)
-
-pub answer : (bytes left : List ℕ) (spots : List Spot) (b : Bool) → ((i : ℕ) → slice_index bytes i < 256) → after_front (packed spots) bytes ≡ Some left → (IsTrue b → (left ≡ []) × CanPack spots) → (left ≡ [] → CanPack spots → IsTrue b) → IsTrue b ↔ (unpacked bytes ≡ Some spots)
-answer bytes left spots b small is gives back = (
-  λ h. let both = gives h in ap unpacked (sym (none_behind (packed spots) bytes (is ∙ ap Some both.0))) ∙ packed_stands spots both.1,
-  λ h. let stand = stand_for bytes spots small h in back (same_some left [] (sym is ∙ ap (after_front (packed spots)) (sym stand.packed) ∙ all_behind (packed spots))) stand.can,
-)
+-- no place is left
+pub ends : (bytes : List ℕ) (all : List Spot) (first : Bool) (last : Spot) (left : List ℕ) → Reads bytes all first last left [] → (read_after true origin bytes ≡ Some all) ↔ (left ≡ [])
+unfolding numbers_in
+ends bytes all first last left reads = (λ h. none_read first last left (reads.0 h), λ h. reads.1 (ap (read_after first last) h))
 
 -- ---- the places of postings
+
+pub same_spot : (s t : Spot) → ((s.column == t.column) && ((s.pos == t.pos) && ((s.place == t.place) && (s.size == t.size)))) ≡ true → s ≡ t
+same_spot s t h =
+    let a = and_parts (s.column == t.column) ((s.pos == t.pos) && ((s.place == t.place) && (s.size == t.size))) h in
+    let b = and_parts (s.pos == t.pos) ((s.place == t.place) && (s.size == t.size)) a.1 in
+    let c = and_parts (s.place == t.place) (s.size == t.size) b.1 in
+    λ i. record { column = eqb-true s.column t.column a.0 i; pos = eqb-true s.pos t.pos b.0 i; place = eqb-true s.place t.place c.0 i; size = eqb-true s.size t.size c.1 i }
+
+pub other_spot : (s t : Spot) → ((s.column == t.column) && ((s.pos == t.pos) && ((s.place == t.place) && (s.size == t.size)))) ≡ false → s ≢ t
+other_spot s t h is =
+    let one : ((s.column == s.column) && ((s.pos == s.pos) && ((s.place == s.place) && (s.size == s.size)))) ≡ true = λ i. eq-eqb s.column s.column refl i && (eq-eqb s.pos s.pos refl i && (eq-eqb s.place s.place refl i && eq-eqb s.size s.size refl i)) in
+    true≢false (sym one ∙ ap (λ t. (s.column == t.column) && ((s.pos == t.pos) && ((s.place == t.place) && (s.size == t.size)))) is ∙ h)
 
 abbrev pub no_posting : Posting
 no_posting = record { docid = pos 0; spot = origin }
@@ -120,17 +112,20 @@ spot_at ps i = (get_or ps i no_posting).spot
 pub left_are : (ps : List Posting) (i : ℕ) → i < length ps → map spot_of (drop i ps) ≡ spot_at ps i ∷ map spot_of (drop (i + 1) ps)
 left_are ps i within = ap (map spot_of) (drop_more ps i no_posting within)
 
-pub never_first : (n : ℕ) → (n + 1 == 0) ≡ false
-never_first n = go (n + 1 == 0) refl
-  where
-    go : (b : Bool) → (n + 1 == 0) ≡ b → b ≡ false
-    go true h = absurd (let e : n + 1 ≡ 0 = (Decides-eqb (n + 1) 0).0 h in omega (arith, e))
-    go false h = refl
+-- ---- some postings, or none
 
 pub is_nil : {X : Type 0} (xs : List X) → (length xs == 0) ≡ true → xs ≡ []
 is_nil [] h = refl
-is_nil (x ∷ xs) h = absurd (let e : suc (length xs) ≡ 0 = (Decides-eqb (suc (length xs)) 0).0 h in omega (arith, e))
+is_nil (x ∷ xs) h = absurd (true≢false (sym h ∙ never_none (length xs)))
 
-pub not_nil : (ps : List Posting) → (length ps == 0) ≡ false → map spot_of ps ≡ [] → ⊥
-not_nil [] h e = true≢false h
-not_nil (p ∷ ps) h e = let no = e in cc
+pub some_at : (ps : List Posting) (i : ℕ) → i < length ps → map spot_of ps ≢ []
+some_at [] i within e = omega (arith, within)
+some_at (p ∷ ps) i within e = let none = e in cc
+
+pub some_told : (ps : List Posting) (b : Bool) → b ≡ (length ps == 0) → not b ≡ true → map spot_of ps ≢ []
+some_told [] b is h e = true≢false (sym h ∙ ap not is)
+some_told (p ∷ ps) b is h e = let none = e in cc
+
+pub told_some : (ps : List Posting) (b : Bool) → b ≡ (length ps == 0) → map spot_of ps ≢ [] → not b ≡ true
+told_some [] b is some = absurd (some refl)
+told_some (p ∷ ps) b is some = ap not (is ∙ never_none (length ps))

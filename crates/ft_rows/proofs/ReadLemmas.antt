@@ -77,7 +77,7 @@ upper_of bytes bs b n ns first high is = go (numbers_in bs) refl (sym (high_byte
     go (Some (suc h ∷ ms)) e k = (h, ms, e, ap (λ l. get_or l 0 0) (sym (same_some ((b - 128 + 128 * suc h) ∷ ms) (n ∷ ns) k)))
 
 -- bytes have a number
-some_number : (bytes : List ℕ) → 0 < length bytes → numbers_in bytes ≢ Some []
+pub some_number : (bytes : List ℕ) → 0 < length bytes → numbers_in bytes ≢ Some []
 unfolding numbers_in
 some_number [] some is = omega (arith, some)
 some_number (b ∷ bytes) some is =
@@ -262,7 +262,7 @@ nothing_left first last [] xs h = ap Some (append-nil xs)
 nothing_left first last (b ∷ left) xs h = absurd (let none : suc (length left) ≡ 0 = eqb-true (suc (length left)) 0 h in omega (arith, none))
 
 -- no list of places is empty
-no_spots : (bytes : List ℕ) → unpacked bytes ≢ Some []
+pub no_spots : (bytes : List ℕ) → unpacked bytes ≢ Some []
 unfolding unpacked
 no_spots bytes h =
     option_and_then_some (λ (xs : List Spot). if are_spots xs then Some xs else None) (option_and_then (spots_after origin) (numbers_in bytes)) [] h

@@ -1,6 +1,5 @@
 -- Steps. How a packed list is read: its places from the first on, each tested as it comes.
-use Rattle.std.specs.Prelude.{◌≡◌, ℕ, suc, MatchOption, ◌+◌, ◌<◌, ◌≤◌, Bool, false, ◌&&◌, ◌||◌, ◌==◌, List, [], ◌∷◌, length, Option, Some, None, if◌then◌else◌}
-use Rattle.std.specs.Borrow.{Bor}
+use Rattle.std.specs.Prelude.{◌≡◌, ℕ, suc, ◌+◌, ◌<◌, ◌≤◌, Bool, false, ◌&&◌, ◌||◌, ◌==◌, List, [], ◌∷◌, length, Option, Some, None, if◌then◌else◌}
 use Rattle.std.specs.Option.{option_and_then}
 use Rattle.ft_rows.specs.Packed.{Spot, numbers_in, is_spot, is_after}
 
@@ -46,13 +45,3 @@ HasNoUpper bytes = (n : ℕ) (ns : List ℕ) → numbers_in bytes ≡ Some (suc 
 pub record BeginsWithSpot (first : Bool) (last : Spot) (bytes : List ℕ) (spot : Spot) (rest : List ℕ) : Type 0 where
   pub places : read_after first last bytes ≡ option_and_then (λ ss. Some (spot ∷ ss)) (read_after false spot rest)
   pub shorter : length rest < length bytes
-
--- what comes after the first bytes, None where others are first
-abbrev pub after_front : List ℕ → List ℕ → Option (List ℕ)
-after_front [] bs = Some bs
-after_front (x ∷ xs) [] = None
-after_front (x ∷ xs) (b ∷ bs) = if b == x then after_front xs bs else None
-
--- bytes that are found are what comes after the first ones
-abbrev pub Follows : Option (Bor (List ℕ)) → List ℕ → List ℕ → Type 0
-Follows found bytes first = MatchOption found (after_front first bytes ≡ None) (λ rest. after_front first bytes ≡ Some rest.now)

@@ -3,7 +3,7 @@ ghost use Rattle.std.specs.Prelude.{◌≡◌, ◌↔◌, [], ◌∷◌, ◌++�
 ghost use Rattle.std.specs.List.{flat_map};
 ghost use Rattle.ft_rows.specs.Packed.{CanPack, PackedIsRead, PackedIsExact, OnlyPackedIsRead, packed, unpacked, leb128, numbers_after, is_spot, is_after};
 ghost use Rattle.ft_rows.specs.Terms.{spot_of};
-ghost use Rattle.ft_rows.specs.Unpacking.{spot_from, passes, read_after, Follows, BeginsWith, BeginsWithSpot, HasNoNumber, HasNoUpper};
+ghost use Rattle.ft_rows.specs.Unpacking.{spot_from, passes, read_after, BeginsWith, BeginsWithSpot, HasNoNumber, HasNoUpper};
 
 use crate::terms::Posting;
 use ft_values::Spot;
@@ -121,63 +121,6 @@ pub fn can_pack(spots: &[Spot]) -> bool
     !spots.is_empty()
 }
 
-// ---- comparing
-
-// What comes after a byte, where it is the first.
-fn behind_byte(bytes: &[u8], byte: u8) -> Option<&[u8]>
-    ensures { Follows result bytes.now (byte ∷ []) }
-{
-    match bytes.split_first() {
-        Some((first, rest)) if *first == byte => Some(rest),
-        _ => None,
-    }
-}
-
-// What comes after a number, where it is the first.
-fn behind_number(bytes: &[u8], number: u32) -> Option<&[u8]>
-    ensures { Follows result bytes.now (leb128 number) }
-{
-    let mut left = bytes;
-    let mut rest = number;
-    while rest >= 128 {
-        left = behind_byte(left, (rest % 128 + 128) as u8)?;
-        rest /= 128;
-    }
-    behind_byte(left, rest as u8)
-}
-
-// What comes after the four numbers of a place after the last one, where they are the first.
-fn behind_spot<'a>(bytes: &'a [u8], last: &Spot, spot: &Spot) -> Option<&'a [u8]>
-    ensures { Follows result bytes.now (flat_map leb128
-        (numbers_after last.now (spot.now ∷ []))) }
-{
-    let mut left = bytes;
-    for number in numbers(last, spot) {
-        left = behind_number(left, number)?;
-    }
-    Some(left)
-}
-
-/// Whether bytes are the packed list of these postings' places: no other bytes stand for them.
-pub fn is_list_of(bytes: &[u8], postings: &[Posting]) -> bool
-    ensures { IsTrue result ↔ (unpacked bytes.now ≡ Some (map spot_of postings.now)) }
-{
-    let mut left = bytes;
-    let mut last = ORIGIN;
-    for (at, posting) in postings.iter().enumerate() {
-        let spot = &posting.spot;
-        if !passes(at == 0, &last, spot) {
-            return false;
-        }
-        let Some(rest) = behind_spot(left, &last, spot) else {
-            return false;
-        };
-        left = rest;
-        last = posting.spot;
-    }
-    left.is_empty() && !postings.is_empty()
-}
-
 // ---- unpacking
 
 // The first byte, and what comes behind it.
@@ -279,4 +222,20 @@ pub fn unpack(alloc: Global, bytes: &[u8]) -> Result<Option<Vec<Spot>>, AllocErr
         left = rest;
     }
     Ok(Some(spots))
+}
+
+/// Whether bytes are the packed list of these postings' places: no other bytes stand for them.
+pub fn is_list_of(bytes: &[u8], postings: &[Posting]) -> bool
+    ensures { IsTrue result ↔ (unpacked bytes.now ≡ Some (map spot_of postings.now)) }
+{
+    let mut left = bytes;
+    let mut last = ORIGIN;
+    for (at, posting) in postings.iter().enumerate() {
+        match first_spot(left, &last, at == 0) {
+            Some((spot, rest)) if spot == posting.spot => left = rest,
+            _ => return false,
+        }
+        last = posting.spot;
+    }
+    left.is_empty() && !postings.is_empty()
 }

@@ -1,69 +1,70 @@
--- by the tests of the places to come, and by what comes after their bytes
-use Rattle.std.proofs.Common.{◌≡◌, ℕ, ◌+◌, ◌<◌, Bool, not, ◌&&◌, true, false, true≢false, [], refl, sym, ap, ◌∙◌, drop, map, length, rules}
-use Rattle.std.specs.Prelude.{◌==◌, slice_index}
+-- one place after another is that of the posting
+use Rattle.std.proofs.Common.{◌≡◌, ◌+◌, ◌≤◌, true, false, true≢false, [], sym, ap, subst, ◌∙◌, drop, map, length, ◌≢◌, Some, List, ℕ}
+use Rattle.std.specs.Prelude.{◌==◌, IsTrue, ◌↔◌}
 use Rattle.std.proofs.lemmas.List.{drop_all}
+use Rattle.ft_rows.specs.Packed.{Spot, origin, unpacked}
 use Rattle.ft_rows.specs.Terms.{spot_of}
-use Rattle.ft_rows.specs.Unpacking.{after_front}
-use Rattle.ft_rows.proofs.PackTests.{tests, fails_all, all_pass, can_is_some}
-use Rattle.ft_rows.proofs.ExactLemmas.{none_can, begins, bytes_after, spot_none, spot_some, not_behind, answer, spot_at, left_are, never_first, is_nil, not_nil}
+use Rattle.ft_rows.specs.Unpacking.{read_after, BeginsWithSpot}
+use Rattle.ft_rows.proofs.ReadLemmas.{no_spots}
+use Rattle.ft_rows.proofs.ExactLemmas.{Reads, begun, goes_on, another, nothing, ends, unpacked-reads, spot_at, left_are, never_first, same_spot, other_spot, is_nil, some_at, some_told, told_some}
 use Rattle.ft_rows.proofs.packed.is_list_of.Goals as goal
+use Rattle.ft_rows.proofs.packed.is_list_of.Goals.{After-first_spot, At-loop-at}
+
+refused : (bytes : List ℕ) (all : List Spot) → all ≢ [] → read_after true origin bytes ≢ Some all → IsTrue false ↔ (unpacked bytes ≡ Some all)
+refused bytes all some wrong = (λ h. absurd (true≢false (sym h)), λ h. absurd (wrong ((unpacked-reads bytes all some).0 h)))
 
 pub loop-at-init : goal.loop-at-init
-loop-at-init c = (refl, begins (map spot_of c.args.postings.now) c.args.bytes.now)
-
-pub returns-then-not-passes : goal.returns-then-not-passes
-returns-then-not-passes c =
-    let small : (i : ℕ) → slice_index c.args.bytes.now i < 256 = search rules in
-    let postings = c.args.postings.now in
-    none_can c.args.bytes.now (map spot_of postings) false small refl (λ can.
-    fails_all (c.loop-at.at == 0) c.loop-at.last (map spot_of postings) (map spot_of (drop c.loop-at.at postings)) (spot_at postings c.loop-at.at) (map spot_of (drop (c.loop-at.at + 1) postings)) c.loop-at.invariant.0
-    (left_are postings c.loop-at.at c.loop-at-test.true) (sym c.passes.ensures ∙ c.if-not-passes.true) can)
+loop-at-init c = begun c.args.bytes.now (map spot_of c.args.postings.now)
 
 pub returns-in_default : goal.returns-in_default
 returns-in_default c =
-    let small : (i : ℕ) → slice_index c.args.bytes.now i < 256 = search rules in
-    let postings = c.args.postings.now in
-    let last = c.loop-at.last in
-    let left = c.loop-at.left.now in
-    not_behind c.args.bytes.now (map spot_of postings) small
-    (c.loop-at.invariant.1 ∙ ap (λ xs. after_front (bytes_after last xs) left) (left_are postings c.loop-at.at c.loop-at-test.true) ∙ spot_none last (spot_at postings c.loop-at.at) (map spot_of (drop (c.loop-at.at + 1) postings)) left c.in_default.ensures)
+    let ps = c.args.postings.now in
+    let at = c.loop-at.at in
+    let reads = subst (Reads c.args.bytes.now (map spot_of ps) (at == 0) c.loop-at.last c.loop-at.left.now) (left_are ps at c.loop-at-test.true) c.loop-at.invariant in
+    refused c.args.bytes.now (map spot_of ps) (some_at ps at c.loop-at-test.true)
+    (another c.args.bytes.now (map spot_of ps) (at == 0) c.loop-at.last c.loop-at.left.now (spot_at ps at) (map spot_of (drop (at + 1) ps)) reads c.in-Some.spot c.in-Some.rest.now c.in-Some.ensures.found
+    (other_spot c.in-Some.spot (spot_at ps at) (sym c.eq.ensures ∙ c.if-eq.false)))
+
+pub returns-in_default-2 : goal.returns-in_default-2
+returns-in_default-2 c =
+    let ps = c.args.postings.now in
+    let at = c.loop-at.at in
+    let reads = subst (Reads c.args.bytes.now (map spot_of ps) (at == 0) c.loop-at.last c.loop-at.left.now) (left_are ps at c.loop-at-test.true) c.loop-at.invariant in
+    refused c.args.bytes.now (map spot_of ps) (some_at ps at c.loop-at-test.true)
+    (nothing c.args.bytes.now (map spot_of ps) (at == 0) c.loop-at.last c.loop-at.left.now (spot_at ps at) (map spot_of (drop (at + 1) ps)) reads (rw c.in_default.is at c.first_spot.ensures.none))
 
 pub loop-at-preserved : goal.loop-at-preserved
 loop-at-preserved c =
-    let postings = c.args.postings.now in
-    let last = c.loop-at.last in
-    let left = c.loop-at.left.now in
-    let rest = map spot_of (drop (c.loop-at.at + 1) postings) in (
-      c.loop-at.invariant.0 ∙ ap (tests (c.loop-at.at == 0) last) (left_are postings c.loop-at.at c.loop-at-test.true) ∙ ap (λ b. b && tests false (spot_at postings c.loop-at.at) rest) (sym c.if-not-passes.ensures) ∙ ap (λ b. tests b (spot_at postings c.loop-at.at) rest) (sym (never_first c.loop-at.at)),
-      c.loop-at.invariant.1 ∙ ap (λ xs. after_front (bytes_after last xs) left) (left_are postings c.loop-at.at c.loop-at-test.true) ∙ spot_some last (spot_at postings c.loop-at.at) rest left c.in-Some.rest.now c.in-Some.ensures,
-    )
+    let ps = c.args.postings.now in
+    let at = c.loop-at.at in
+    let s = spot_at ps at in
+    let rest = c.in-Some.rest.now in
+    let more = map spot_of (drop (at + 1) ps) in
+    let reads = subst (Reads c.args.bytes.now (map spot_of ps) (at == 0) c.loop-at.last c.loop-at.left.now) (left_are ps at c.loop-at-test.true) c.loop-at.invariant in
+    let begins = subst (λ x. BeginsWithSpot (at == 0) c.loop-at.last c.loop-at.left.now x rest) (same_spot c.in-Some.spot s (sym c.eq.ensures ∙ c.if-eq.true)) c.in-Some.ensures.found in
+    subst (λ b. Reads c.args.bytes.now (map spot_of ps) b s rest more) (sym (never_first at)) (goes_on c.args.bytes.now (map spot_of ps) (at == 0) c.loop-at.last c.loop-at.left.now s more reads rest begins)
+
+-- where all places are read, nothing is left
+at_end : (c : At-loop-at) → length c.args.postings.now ≤ c.loop-at.at → (read_after true origin c.args.bytes.now ≡ Some (map spot_of c.args.postings.now)) ↔ (c.loop-at.left.now ≡ [])
+at_end c past =
+    let ps = c.args.postings.now in
+    ends c.args.bytes.now (map spot_of ps) (c.loop-at.at == 0) c.loop-at.last c.loop-at.left.now
+    (subst (Reads c.args.bytes.now (map spot_of ps) (c.loop-at.at == 0) c.loop-at.last c.loop-at.left.now) (ap (map spot_of) (drop_all c.loop-at.at ps past)) c.loop-at.invariant)
 
 pub returns-then-is_empty : goal.returns-then-is_empty
 returns-then-is_empty c =
-    let small : (i : ℕ) → slice_index c.args.bytes.now i < 256 = search rules in
-    let postings = c.args.postings.now in
-    let last = c.loop-at.last in
-    let none : map spot_of (drop c.loop-at.at postings) ≡ [] = ap (map spot_of) (drop_all c.loop-at.at postings c.loop-at-test.false) in
-    answer c.args.bytes.now c.loop-at.left.now (map spot_of postings) (not c.is_empty-then-is_empty.result) small
-    (c.loop-at.invariant.1 ∙ ap (λ xs. after_front (bytes_after last xs) c.loop-at.left.now) none)
-    (λ some. (is_nil c.loop-at.left.now (sym c.is_empty.ensures ∙ c.if-is_empty.true), all_pass (c.loop-at.at == 0) last (map spot_of postings) (map spot_of (drop c.loop-at.at postings)) c.loop-at.invariant.0 none (not_nil postings (sym c.is_empty-then-is_empty.ensures ∙ flip c.is_empty-then-is_empty.result some))))
-    (λ nil can. filled c.is_empty-then-is_empty.result (λ empty. can_is_some (map spot_of postings) can (ap (map spot_of) (is_nil postings (sym c.is_empty-then-is_empty.ensures ∙ empty)))))
-  where
-    flip : (b : Bool) → not b ≡ true → b ≡ false
-    flip true h = absurd (let no = h in cc)
-    flip false h = refl
-
-    filled : (b : Bool) → (b ≡ true → ⊥) → not b ≡ true
-    filled true h = absurd (h refl)
-    filled false h = refl
+    let ps = c.args.postings.now in
+    let all = map spot_of ps in
+    let done = at_end (goal.at.returns-then-is_empty c).At-loop-at c.loop-at-test.false in
+    let nil = is_nil c.loop-at.left.now (sym c.is_empty.ensures ∙ c.if-is_empty.true) in (
+      λ some. (unpacked-reads c.args.bytes.now all (some_told ps _ c.is_empty-then-is_empty.ensures some)).1 (done.1 nil),
+      λ is. told_some ps _ c.is_empty-then-is_empty.ensures (λ none. no_spots c.args.bytes.now (is ∙ ap Some none)),
+    )
 
 pub returns-else-is_empty : goal.returns-else-is_empty
 returns-else-is_empty c =
-    let small : (i : ℕ) → slice_index c.args.bytes.now i < 256 = search rules in
-    let postings = c.args.postings.now in
-    let last = c.loop-at.last in
-    let none : map spot_of (drop c.loop-at.at postings) ≡ [] = ap (map spot_of) (drop_all c.loop-at.at postings c.loop-at-test.false) in
-    answer c.args.bytes.now c.loop-at.left.now (map spot_of postings) c.is_empty.result small
-    (c.loop-at.invariant.1 ∙ ap (λ xs. after_front (bytes_after last xs) c.loop-at.left.now) none)
-    (λ empty. absurd (true≢false (sym empty ∙ c.if-is_empty.false)))
-    (λ nil can. c.is_empty.ensures ∙ ap (λ l. length l == 0) nil)
+    let all = map spot_of c.args.postings.now in
+    let done = at_end (goal.at.returns-else-is_empty c).At-loop-at c.loop-at-test.false in (
+      λ empty. absurd (true≢false (sym empty ∙ c.if-is_empty.false)),
+      λ is. c.is_empty.ensures ∙ ap (λ l. length l == 0) (done.0 ((unpacked-reads c.args.bytes.now all (λ none. no_spots c.args.bytes.now (is ∙ ap Some none))).0 is)),
+    )
