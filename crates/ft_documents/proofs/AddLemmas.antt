@@ -1,19 +1,10 @@
 -- The rows of a table that is made.
 use Rattle.std.proofs.Common.{◌≡◌, append-nil, ℕ, ◌+◌, Bool, true, false, cond, not, List, [], ◌∷◌, ◌++◌, map, length, Some, None, ℤ, pos, refl, sym, ap, ◌∙◌, arith, filter, IsTrue, Ordering, Equal, int_cmp, int_eq}
-use Rattle.std.specs.List.{AllByRecursion, enumerate_from}
-use Rattle.std.specs.Ordering.{eq_by_cmp}
-use Rattle.std.specs.Cmp.{IsTotalOrder, int_cmp_total}
-use Rattle.std.specs.FinMap.Entries.{put, find, where_key, is_sorted, is_sorted-put, is_sorted-where_key, find-put, find-where_key, same_entries}
-use Rattle.std.proofs.lemmas.Map.Lookups.{CmpEqualImpliesEq}
 use Rattle.sqlite_trees.proofs.ListLemmas.{filter_none}
 use Rattle.sqlite_keyed.proofs.ListLemmas.{all_weaker}
-use Rattle.ft_values.specs.Cells.{Cell}
 use Rattle.ft_rows.proofs.ListLemmas.{filter_passes}
-use Rattle.ft_rows.specs.Store.{StoreValue, AreInOrder, CellKey, ListKey, ColumnKey, column_key_cmp, AddTable, applied, without_rows, with_columns, with_skipped}
-use Rattle.ft_content.specs.Content.{Column, Content, names_of, skipped_from, content_rows}
-use Rattle.ft_content.specs.Index.{Spot, index_rows, entries, sizes, spot_lists}
-use Rattle.ft_documents.specs.Tables.{table_rows, table_index}
-use Rattle.ft_documents.specs.RewriteRows.{all_put}
+use Rattle.ft_content.specs.Index.{index_rows, entries, sizes, spot_lists}
+use Rattle.ft_documents.proofs.Common.{AllByRecursion, enumerate_from, eq_by_cmp, IsTotalOrder, int_cmp_total, put, find, where_key, is_sorted, is_sorted-put, is_sorted-where_key, find-put, find-where_key, same_entries, CmpEqualImpliesEq, Cell, StoreValue, AreInOrder, CellKey, ListKey, ColumnKey, column_key_cmp, AddTable, applied, without_rows, with_columns, with_skipped, Column, Content, names_of, skipped_from, content_rows, Spot, table_rows, table_index, all_put}
 use Rattle.ft_documents.proofs.CellSteps.{numbered_from}
 use Rattle.ft_documents.proofs.RowKinds.{under, sorted_under, passed_from, sorted_passed, sorted_numbered}
 use Rattle.ft_documents.proofs.KeyedRows.{tie, true_of, of_true, itself, put_in_order}

@@ -1,32 +1,18 @@
 -- The rows that are asked for a content's terms are the lists that a walk wants.
-use Rattle.std.proofs.Common.{map-id, ◌≡◌, ℕ, ℤ, ◌+◌, Bool, true, false, cond, Some, None, List, [], ◌∷◌, ◌++◌, map, length, refl, sym, ap, ◌∙◌, suc, arith, take, drop, subst, append_assoc, append-nil, IsPermutation, slice_get, int_eq, ◌≤◌, ◌<◌, ◌&&◌, inl, inr, Option, filter, is_some, AllPairs, ◌<ℤ◌, flat_map, Ordering, Less, Equal, Greater, nat_cmp, is_eq, add-one, zero, get_or, pos, negsuc, is_lt, nat_lt, ◌==◌, ◌||◌, IsSorted, int_lt}
-use Rattle.std.specs.List.{AllByRecursion, AllAdjacentBelow, IsAllAdjacentAnswer}
-use Rattle.std.proofs.lemmas.List.{length-map}
-use Rattle.std.proofs.lemmas.List.Sorted.{IsPermutation-refl, IsPermutation-cons, IsPermutation-trans, IsPermutation-sym, IsPermutation-middle, IsPermutation-map, length_permutation}
+use Rattle.std.proofs.Common.{map-id, ◌≡◌, ℕ, ℤ, ◌+◌, Bool, true, false, cond, Some, None, List, [], ◌∷◌, ◌++◌, map, length, refl, sym, ap, ◌∙◌, suc, arith, subst, IsPermutation, int_eq, ◌≤◌, ◌<◌, ◌&&◌, inl, inr, Option, filter, is_some, AllPairs, ◌<ℤ◌, Ordering, Less, Equal, Greater, nat_cmp, is_eq, add-one, zero, get_or, pos, negsuc, is_lt, nat_lt, ◌==◌, ◌||◌, IsSorted, int_lt}
 use Rattle.std.proofs.lemmas.List.Sums.{sum_by-cons}
-use Rattle.std.specs.Ordering.{ordering_then, ordering_reverse}
-use Rattle.std.specs.Cmp.{IsTotalOrder, nat_cmp_total, int_cmp_total, nat_cmp_is, int_cmp_is, tied_itself, on_total, then_total}
-use Rattle.std.specs.FinMap.Entries.{by_order, put, find, length-put, where_key}
-use Rattle.std.proofs.lemmas.List.Elements.{recursion_from_All}
-use Rattle.std.proofs.lemmas.Bool.Decides.{nat_tests}
-use Rattle.std.proofs.lemmas.Int.{ints}
 use Rattle.sqlite_trees.specs.Tree.{IsAscending}
 use Rattle.sqlite_keyed.proofs.ListLemmas.{all_map, all_weaker, all-map, map-map, all-flat_map, ascending-append, ascending-map, ascending_weaker, ascending-filter, all_from_test}
 use Rattle.sqlite_keyed.proofs.SortLemmas.{sorted_unique}
-use Rattle.ft_query.specs.Documents.{PlaceList, place_count, Posting, Document, IsBefore, AreDocuments, is_filled, has_places, places_with, lists_with}
 use Rattle.ft_query.specs.declared.lists.place.Place.{Place}
 use Rattle.ft_query.proofs.PhrasePasses.{all_filter}
 use Rattle.ft_values.specs.declared.rows.ListRow.{ListRow}
 use Rattle.ft_values.specs.declared.rows.Spot.{Spot}
-use Rattle.ft_rows.specs.Store.{ListKey, list_key_cmp}
-use Rattle.ft_rows.specs.Shown.{shown_list, bare_list, spot_count}
 use Rattle.ft_rows.proofs.ListLemmas.{filter_passes, and_first, and_second}
-use Rattle.ft_content.specs.Index.{Entry, Key}
 use Rattle.ft_content.specs.Meaning.{entries_in, entry_cmp, entry_set, posting_of, with_entry, grouped, documents_in, lists_with_terms, all_places}
 use Rattle.ft_content.proofs.MeaningLemmas.{entry_total, sorted_set}
 use Rattle.ft_rows.specs.declared.terms.Posting.{Posting as Row}
-use Rattle.ft_rows.specs.Terms.{joined_posting, lists_of_postings}
-use Rattle.ft_documents.specs.Placed.{place_of, spot_in, read_list, list_of, placed_in, all_in, posting_cmp, AreListsOf, is_before, rise, is_in_order, are_in_order}
+use Rattle.ft_documents.proofs.Common.{AllByRecursion, AllAdjacentBelow, IsAllAdjacentAnswer, length-map, IsPermutation-refl, IsPermutation-cons, IsPermutation-trans, IsPermutation-sym, IsPermutation-middle, IsPermutation-map, length_permutation, ordering_then, ordering_reverse, IsTotalOrder, nat_cmp_total, int_cmp_total, nat_cmp_is, int_cmp_is, tied_itself, on_total, then_total, by_order, put, find, length-put, where_key, recursion_from_All, nat_tests, ints, PlaceList, place_count, Posting, Document, IsBefore, AreDocuments, is_filled, has_places, places_with, lists_with, ListKey, list_key_cmp, shown_list, bare_list, spot_count, Entry, Key, joined_posting, lists_of_postings, place_of, spot_in, read_list, list_of, placed_in, all_in, posting_cmp, AreListsOf, is_before, rise, is_in_order, are_in_order}
 use Rattle.ft_documents.proofs.KeyedRows.{same_int}
 
 -- ---- postings by document

@@ -1,19 +1,9 @@
 -- The cells of a document under their columns.
 use Rattle.std.proofs.Common.{◌≡◌, ℕ, zero, suc, ◌+◌, ◌^◌, ◌<◌, ◌≤◌, Bool, true, false, cond, not, List, [], ◌∷◌, ◌++◌, map, length, get_or, Some, None, ℤ, pos, refl, sym, ap, ◌∙◌, arith, to_z, w64, Option, Bor, rules, IfSome, MatchOption, filter, slice_get, HoldsAt, Less, Greater, int_cmp, is_eq}
-use Rattle.std.specs.List.{enumerate_from}
-use Rattle.std.specs.Option.{option_eq}
-use Rattle.std.proofs.lemmas.List.{length-map, get_or-map, map-append}
-use Rattle.std.specs.Cmp.{int_cmp_is, int_cmp_total, tied_itself}
-use Rattle.std.specs.FinMap.Entries.{find}
-use Rattle.std.proofs.lemmas.Int.{ints}
-use Rattle.std.proofs.lemmas.Option.{slice_get_past, slice_get_read}
-use Rattle.ft_values.specs.declared.rows.Value.{Value}
+use Rattle.ft_documents.proofs.Common.{enumerate_from, option_eq, length-map, get_or-map, map-append, int_cmp_is, int_cmp_total, tied_itself, find, ints, slice_get_past, slice_get_read, Value, Cell, shown_value, Change, PutCell, same_cell, was_there, numbered_cells, put_cells}
+use Rattle.ft_documents.proofs.Steps.{kept_last}
 use Rattle.ft_values.specs.declared.rows.Value.TheVariants as value
 use Rattle.ft_values.specs.contracts.rows.ValuePartialEq.TheImpl as TheImpl
-use Rattle.ft_values.specs.Cells.{Cell, shown_value}
-use Rattle.ft_rows.specs.Store.{Change, PutCell}
-use Rattle.ft_documents.specs.RewriteRows.{same_cell, was_there, numbered_cells, put_cells}
-use Rattle.ft_documents.proofs.Steps.{kept_last}
 
 -- elements under their numbers, from one on
 abbrev pub numbered_from : {X : Type 0} → ℕ → List X → List (ℤ × X)

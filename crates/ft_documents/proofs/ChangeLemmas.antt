@@ -1,16 +1,8 @@
 -- What row changes do to the rows of one table.
 use Rattle.std.proofs.Common.{◌≡◌, ℕ, Bool, true, false, cond, not, ◌&&◌, List, [], ◌∷◌, map, ℤ, pos, refl, sym, ap, ◌∙◌, filter, Ordering, Less, Equal, Greater, int_eq}
-use Rattle.std.specs.List.{enumerate_from}
-use Rattle.std.specs.Ordering.{eq_by_cmp}
-use Rattle.std.specs.Cmp.{eq_by_cmp_equiv, int_cmp_total}
-use Rattle.std.specs.FinMap.Entries.{by_order, put}
-use Rattle.std.proofs.lemmas.Map.Lookups.{CmpEqualImpliesEq, exact_signed}
-use Rattle.ft_values.specs.Cells.{Cell}
-use Rattle.ft_content.specs.Content.{TableRows}
-use Rattle.ft_content.specs.Index.{Spot, IndexRows}
-use Rattle.ft_rows.specs.Store.{CellKey, ListKey, cell_key_cmp, list_key_cmp, column_key_cmp, with_columns, with_skipped, without_key, without_rows, AddTable, DropTable, PutCell, DropCells, PutEntries, DropEntries, PutSize, DropSize, ClearIndex, Note}
-use Rattle.ft_documents.specs.RowLaws.{SparesOthers}
 use Rattle.ft_content.proofs.IndexLemmas.{filter-within}
+use Rattle.ft_documents.proofs.Common.{enumerate_from, eq_by_cmp, eq_by_cmp_equiv, int_cmp_total, by_order, put, CmpEqualImpliesEq, exact_signed, Cell, TableRows, Spot, IndexRows, CellKey, ListKey, cell_key_cmp, list_key_cmp, column_key_cmp, with_columns, with_skipped, without_key, without_rows, AddTable, DropTable, PutCell, DropCells, PutEntries, DropEntries, PutSize, DropSize, ClearIndex, Note}
+use Rattle.ft_documents.specs.RowLaws.{SparesOthers}
 use Rattle.ft_documents.proofs.KeyedRows.{tie}
 use Rattle.ft_documents.proofs.StoreKeys.{column_exact, cell_exact, list_exact}
 

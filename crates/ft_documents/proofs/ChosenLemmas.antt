@@ -1,19 +1,8 @@
 -- Documents that are chosen, found by their docids.
 use Rattle.std.proofs.Common.{◌≡◌, ℕ, Bool, true, false, cond, List, [], ◌∷◌, map, Option, Some, ℤ, refl, sym, ap, ◌∙◌, filter, unwrap_or, int_cmp, int_eq, is_lt}
-use Rattle.std.specs.List.{AllByRecursion}
-use Rattle.std.specs.Cmp.{int_cmp_total, eq_by_cmp_equiv}
-use Rattle.std.specs.FinMap.Entries.{find, below_all, is_sorted}
-use Rattle.std.proofs.lemmas.Bool.{and_parts}
-use Rattle.std.proofs.lemmas.Map.Lookups.{exact_signed}
-use Rattle.ft_query.specs.Occurs.{PlainHit}
-use Rattle.ft_query.specs.Trees.{Tree}
-use Rattle.ft_values.specs.Cells.{Cell}
-use Rattle.ft_content.specs.Content.{Content, Documents, IsContent}
-use Rattle.ft_content.specs.Command.{Filter, All, Docid}
-use Rattle.ft_content.specs.Answer.{is_chosen, chosen, query_in}
+use Rattle.ft_content.specs.Answer.{chosen}
+use Rattle.ft_documents.proofs.Common.{AllByRecursion, int_cmp_total, eq_by_cmp_equiv, find, below_all, is_sorted, and_parts, exact_signed, PlainHit, Tree, Cell, Content, Documents, IsContent, Filter, All, Docid, is_chosen, query_in, hit_read, chosen_hits, as_wanted, document_if}
 use Rattle.ft_documents.specs.Chosen.{document_at}
-use Rattle.ft_documents.specs.Matched.{hit_read, chosen_hits, as_wanted}
-use Rattle.ft_documents.specs.Rewrite.{document_if}
 use Rattle.ft_documents.proofs.KeyedRows.{tie, below_apart, none_below, each_found}
 
 -- a document is found under its docid

@@ -1,6 +1,6 @@
 -- Want of memory, or another fault.
 use Rattle.std.proofs.Common.{◌≡◌, ◌⊎◌, inl, inr, Result, Ok, Err, refl, ◌≢◌, IfErr}
-use Rattle.ft_values.specs.declared.fault.Fault.{Fault}
+use Rattle.ft_documents.proofs.Common.{Fault}
 use Rattle.ft_values.specs.declared.fault.Fault.TheVariants as faults
 
 pub memory_or : (fault : Fault) → (fault ≡ faults.Memory) ⊎ (fault ≢ faults.Memory)

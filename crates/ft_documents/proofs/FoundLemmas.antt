@@ -1,7 +1,6 @@
 -- A table that is found by its place.
 use Rattle.std.proofs.Common.{◌≡◌, ℕ, suc, ◌+◌, Bool, true, false, cond, List, [], ◌∷◌, map, Option, Some, None, refl, sym, ap, subst, ◌∙◌, arith, position, slice_get, unwrap_or, is_some, find}
-use Rattle.std.specs.List.{position_from}
-use Rattle.std.proofs.lemmas.Iterator.Adapters.{position_from-zero}
+use Rattle.ft_documents.proofs.Common.{position_from, position_from-zero}
 
 -- the first item that passes stands at this place
 pub record Stands {A B : Type 0} (f : A → B) (q : B → Bool) (xs : List A) (i : ℕ) : Type 0 where

@@ -1,22 +1,9 @@
 -- The row changes of documents that are written anew group by group, one group's after the
 -- other's.
 use Rattle.std.proofs.Common.{◌≡◌, ℕ, true, false, cond, List, [], ◌∷◌, ◌++◌, length, Option, Some, None, ℤ, refl, sym, ap, subst, ◌∙◌, All, Contains, IfSome, IsTrue, flat_map, int_cmp, int_eq, is_lt}
-use Rattle.std.specs.List.{list_all, AllByRecursion}
-use Rattle.std.specs.Cmp.{int_cmp_total, eq_by_cmp_equiv}
-use Rattle.std.specs.FinMap.{int_cmp-IsAntisymmetric}
-use Rattle.std.specs.FinMap.Entries.{find, below_all, is_sorted}
-use Rattle.std.proofs.lemmas.Bool.{and_parts, and_from}
-use Rattle.std.proofs.lemmas.List.{map-append}
-use Rattle.std.proofs.lemmas.List.Elements.{All-nil, All-append, All-map, recursion_from_All, All-from_recursion}
 use Rattle.sqlite_trees.proofs.ListLemmas.{all_of}
 use Rattle.sqlite_keyed.proofs.ListLemmas.{all_from_test, test_from_all, all_weaker}
-use Rattle.ft_values.specs.Cells.{Cell}
-use Rattle.ft_rows.specs.Store.{Change, all_applied}
-use Rattle.ft_content.specs.Content.{Column, Documents, Content, is_document, content_rows}
-use Rattle.ft_content.specs.Index.{index_rows}
-use Rattle.ft_documents.specs.Tables.{table_rows, table_index, IsOfDocids}
-use Rattle.ft_documents.specs.Rewrite.{Rewrite, with_cells, rewritten, rewritten_content, rewritten_docids, under_docids, FitIfAny, AreOf, HasContent, AreRight}
-use Rattle.ft_documents.specs.RewriteRows.{rewrite_changes}
+use Rattle.ft_documents.proofs.Common.{list_all, AllByRecursion, int_cmp_total, eq_by_cmp_equiv, int_cmp-IsAntisymmetric, find, below_all, is_sorted, and_parts, and_from, map-append, All-nil, All-append, All-map, recursion_from_All, All-from_recursion, Cell, Change, all_applied, Column, Documents, Content, is_document, content_rows, index_rows, table_rows, table_index, IsOfDocids, Rewrite, with_cells, rewritten, rewritten_content, rewritten_docids, under_docids, FitIfAny, AreOf, HasContent, AreRight, rewrite_changes}
 use Rattle.ft_documents.proofs.KeyedRows.{below_apart, found_holds, each_found}
 use Rattle.ft_documents.proofs.RightLemmas.{applied_append, order_after, are_right}
 use Rattle.ft_documents.proofs.RewriteLemmas.{sorted_rewritten, written, find_rewritten}

@@ -1,27 +1,13 @@
 -- The lists and sizes of documents that join one after another are those made from scratch.
 use Rattle.std.proofs.Common.{◌≡◌, ℕ, zero, suc, ◌+◌, ◌≤◌, true, cond, List, [], ◌∷◌, ◌++◌, map, length, drop, min, ℤ, refl, sym, ap, ◌∙◌, arith, nat_lt, filter, flat_map, false, None, Ordering, subst, All, ◌<◌, ◌^◌, length-append, pos, Less, Equal, Greater}
-use Rattle.std.specs.List.{enumerate_from}
-use Rattle.std.proofs.lemmas.List.{map-append}
 use Rattle.std.proofs.lemmas.Simd.{map-map}
-use Rattle.std.proofs.lemmas.Bool.Decides.{nat_tests}
-use Rattle.std.specs.Ordering.{eq_by_cmp, match_ordering}
-use Rattle.std.specs.FinMap.Entries.{put, by_order}
-use Rattle.std.proofs.lemmas.List.Concat.{flat_map-append}
-use Rattle.std.proofs.lemmas.List.Elements.{All-nil, All-append}
 use Rattle.std.specs.Char.{to_ascii_lowercase}
 use Rattle.std.specs.BTreeMap.{insert_entry}
-use Rattle.ft_query.specs.Tokens.{PlainToken, Scan, is_eligible, token_of, ended, tokens_from, tokens_of}
-use Rattle.ft_query.specs.Documents.{posting}
-use Rattle.ft_values.specs.Cells.{Cell}
-use Rattle.ft_rows.specs.Store.{column_key_cmp}
-use Rattle.ft_content.specs.Content.{Column, Documents, cell_text}
-use Rattle.ft_content.specs.Index.{Entry, entry_at, Key, Spot, Size, size_row, document_tokens, key_cmp, key_of, document_entries, entries, sizes, index_rows}
-use Rattle.ft_content.specs.Laws.{spots_of_key, some_if_any}
+use Rattle.ft_content.specs.Index.{entries, sizes, index_rows}
 use Rattle.ft_content.proofs.IndexLemmas.{lists_are_entries}
 use Rattle.ft_content.proofs.PlanLemmas.{sorted_lists}
-use Rattle.ft_documents.specs.RewriteRows.{with_spots, with_entries, entry_spot, all_put, sized, cell_entries, cell_sizes, AreShortNumbers, lists_joined_by, sizes_with, index_lists_of, sizes_of}
+use Rattle.ft_documents.proofs.Common.{enumerate_from, map-append, nat_tests, eq_by_cmp, match_ordering, put, by_order, flat_map-append, All-nil, All-append, PlainToken, Scan, is_eligible, token_of, ended, tokens_from, tokens_of, posting, Cell, column_key_cmp, Column, Documents, cell_text, Entry, entry_at, Key, Spot, Size, size_row, document_tokens, key_cmp, key_of, document_entries, spots_of_key, some_if_any, with_spots, with_entries, entry_spot, all_put, sized, cell_entries, cell_sizes, AreShortNumbers, lists_joined_by, sizes_with, index_lists_of, sizes_of, lists_in, sizes_in, HaveShortNumbers, AddsDocuments, IsIndexOf, IsTextOf}
 use Rattle.ft_documents.specs.declared.document_index.DocumentIndex.{DocumentIndex}
-use Rattle.ft_documents.specs.MadeIndex.{lists_in, sizes_in, HaveShortNumbers, AddsDocuments, IsIndexOf, IsTextOf}
 use Rattle.ft_documents.proofs.TermOrder.{with_spots-append, spots_under, joined, made_of}
 use Rattle.ft_documents.proofs.KeyedRows.{true_of}
 

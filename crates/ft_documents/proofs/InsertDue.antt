@@ -1,11 +1,9 @@
 -- What an Insert deserves, and what it leaves, by its tests one after another.
 use Rattle.std.proofs.Common.{◌≡◌, ℕ, true, false, List, [], ◌∷◌, map, Option, Some, Ok, ap, zip, unwrap_or}
-use Rattle.ft_values.specs.Cells.{Cell}
-use Rattle.ft_values.specs.declared.fault.Fault.TheVariants as faults
-use Rattle.ft_content.specs.Content.{Content, Documents, repeats_name}
-use Rattle.ft_content.specs.Command.{Insert}
-use Rattle.ft_content.specs.Deserved.{Contents, first_of, or_else, on_sound, listed_columns, inserted_rows, insert_fault, deserved}
+use Rattle.ft_content.specs.Deserved.{or_else, deserved}
 use Rattle.ft_content.specs.Step.{inserted, inserted_into}
+use Rattle.ft_documents.proofs.Common.{Cell, Content, Documents, repeats_name, Insert, Contents, first_of, on_sound, listed_columns, inserted_rows, insert_fault}
+use Rattle.ft_values.specs.declared.fault.Fault.TheVariants as faults
 
 -- ---- the tests, in their order
 

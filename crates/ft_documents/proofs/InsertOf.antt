@@ -1,14 +1,7 @@
 -- The rewrites of an Insert are rewrites of its table's content.
 use Rattle.std.proofs.Common.{◌≡◌, ℕ, true, List, [], ◌∷◌, length, Option, Some, None, ℤ, ap, ◌∙◌, IfSome, IsTrue, int_cmp}
-use Rattle.std.specs.List.{AllByRecursion, list_all}
-use Rattle.std.specs.Cmp.{int_cmp_total}
-use Rattle.std.specs.FinMap.Entries.{find, is_sorted}
-use Rattle.std.proofs.lemmas.List.Elements.{All-from_recursion}
-use Rattle.std.proofs.lemmas.Map.Lookups.{exact_signed}
 use Rattle.sqlite_keyed.proofs.ListLemmas.{all_from_test, all_unmap}
-use Rattle.ft_values.specs.Cells.{Cell}
-use Rattle.ft_content.specs.Content.{Documents, Content, IsContent, is_document}
-use Rattle.ft_documents.specs.Rewrite.{Rewrite, AreOf, FitIfAny, under_docids, rewritten}
+use Rattle.ft_documents.proofs.Common.{AllByRecursion, list_all, int_cmp_total, find, is_sorted, All-from_recursion, exact_signed, Cell, Documents, Content, IsContent, is_document, Rewrite, AreOf, FitIfAny, under_docids, rewritten}
 use Rattle.ft_documents.proofs.RewriteLemmas.{written, find_rewritten}
 use Rattle.ft_documents.proofs.KeyedRows.{found_holds}
 use Rattle.ft_documents.proofs.KeyedRows as keyed

@@ -1,18 +1,6 @@
 -- Rows under keys: what is found in them after they are mapped, filtered and put.
 use Rattle.std.proofs.Common.{◌≡◌, All, Bool, true, false, cond, not, T, ◌&&◌, List, [], ◌∷◌, map, Option, Some, None, refl, sym, ap, subst, ◌∙◌, ℤ, filter, option_map, is_some, Ordering, Less, Equal, Greater, int_eq, is_eq, is_lt, Bor, option_copied}
-use Rattle.std.specs.List.{AllByRecursion}
-use Rattle.std.specs.Ordering.{eq_by_cmp, ordering_then}
-use Rattle.std.specs.Cmp.{IsTotalOrder, eq_by_cmp_equiv, int_cmp_total, tied_itself}
-use Rattle.std.specs.FinMap.{int_cmp-IsAntisymmetric}
-use Rattle.std.specs.FinMap.Entries.{by_order, put, find, below_all, is_sorted, is_sorted-put, is_sorted-where_key, find-put, find-where_key, same_entries}
-use Rattle.std.proofs.lemmas.Bool.{and_parts, and_from}
-use Rattle.std.proofs.lemmas.List.Elements.{All-head, All-tail}
-use Rattle.std.proofs.lemmas.Map.Lookups.{CmpEqualImpliesEq}
-use Rattle.std.proofs.lemmas.Option.{same_Some}
-use Rattle.std.specs.Option.{option_eq}
-use Rattle.std.specs.Map.{lookup}
-use Rattle.ft_rows.specs.Store.{without_key, column_key_cmp}
-use Rattle.ft_documents.specs.RewriteRows.{all_put, was_there, gone, changed}
+use Rattle.ft_documents.proofs.Common.{AllByRecursion, eq_by_cmp, ordering_then, IsTotalOrder, eq_by_cmp_equiv, int_cmp_total, tied_itself, int_cmp-IsAntisymmetric, by_order, put, find, below_all, is_sorted, is_sorted-put, is_sorted-where_key, find-put, find-where_key, same_entries, and_parts, and_from, All-head, All-tail, CmpEqualImpliesEq, same_Some, option_eq, lookup, without_key, column_key_cmp, all_put, was_there, gone, changed}
 
 pub true_of : (b : Bool) → T b → b ≡ true
 true_of true h = refl

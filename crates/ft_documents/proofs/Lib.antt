@@ -3,6 +3,7 @@ pub mod AskedLemmas
 pub mod CellSteps
 pub mod ChangeLemmas
 pub mod ChosenLemmas
+pub mod Common
 pub mod FaultLemmas
 pub mod FoundLemmas
 pub mod GroupsRight

@@ -1,11 +1,6 @@
 -- What a search by halves finds among rows in order.
 use Rattle.std.proofs.Common.{◌≡◌, ℕ, zero, suc, ◌+◌, ◌<◌, ◌≤◌, true, false, cond, List, [], ◌∷◌, map, length, get_or, Some, None, refl, sym, ap, subst, nat_lt, ltb-true, ltb-false, ◌∙◌, arith, Ordering, Less, Equal, Greater, is_eq, is_lt}
-use Rattle.std.specs.Cmp.{IsTotalOrder}
-use Rattle.std.specs.FinMap.Entries.{find, below_all, is_sorted}
-use Rattle.std.specs.List.Sorted.{IsNonDecreasingBy, IsPartitionPoint}
-use Rattle.std.specs.Ordering.{ordering_index, ordering_reverse}
-use Rattle.std.proofs.lemmas.Bool.{and_parts}
-use Rattle.std.proofs.lemmas.List.Sorted.{searchable_from_sorted}
+use Rattle.ft_documents.proofs.Common.{IsTotalOrder, find, below_all, is_sorted, IsNonDecreasingBy, IsPartitionPoint, ordering_index, ordering_reverse, and_parts, searchable_from_sorted}
 use Rattle.ft_documents.proofs.KeyedRows.{less}
 
 module _ {X K V : Type 0} (R : K → K → Ordering) (o : IsTotalOrder R) (f : X → K × V) (q : K) where

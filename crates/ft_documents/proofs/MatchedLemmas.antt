@@ -1,24 +1,15 @@
 -- The hits of a query are the documents that its text chooses, and the first hits of a walk.
 use Rattle.std.proofs.Common.{◌≡◌, ℕ, zero, suc, ℤ, false, List, [], ◌∷◌, Option, Some, None, Ok, map, refl, sym, ap, ◌∙◌, filter, ◌≤◌, ◌<◌, Bool, true, ◌++◌, length, take, unwrap_or, ◌^◌, arith, take_all}
-use Rattle.std.specs.Option.{option_map_or}
-use Rattle.std.proofs.lemmas.List.{map-append}
 use Rattle.std.proofs.Math.Seq.{take-append_seam}
-use Rattle.ft_query.specs.Trees.{Tree, tree_of}
-use Rattle.ft_query.specs.Occurs.{PlainHit, accepts, hits_of}
 use Rattle.ft_query.proofs.Bridge.{postings_rise}
 use Rattle.ft_query.proofs.BridgeDocuments.{accepts_nothing}
 use Rattle.ft_query.specs.declared.walk.Hit.{Hit}
 use Rattle.ft_query.specs.declared.walk.Offset.{Offset}
-use Rattle.ft_query.specs.Documents.{Document}
 use Rattle.ft_query.specs.Walk.{Walk, Walked, WalkedTo, hit_list, hit_at}
-use Rattle.ft_values.specs.Cells.{Cell}
-use Rattle.ft_content.specs.Content.{Content, Documents, IsContent}
-use Rattle.ft_content.specs.Index.{document_postings}
-use Rattle.ft_content.specs.Command.{Match}
-use Rattle.ft_content.specs.Answer.{reading, query_read, chosen, cut}
+use Rattle.ft_content.specs.Answer.{chosen}
 use Rattle.ft_content.specs.Meaning.{content_documents}
 use Rattle.ft_content.proofs.MeaningLemmas.{lists_mean_documents, hits_are_chosen}
-use Rattle.ft_documents.specs.Matched.{hit_read, chosen_hits, as_wanted, TellsHit}
+use Rattle.ft_documents.proofs.Common.{option_map_or, map-append, Tree, tree_of, PlainHit, accepts, hits_of, Document, Cell, Content, Documents, IsContent, document_postings, Match, reading, query_read, cut, hit_read, chosen_hits, as_wanted, TellsHit}
 
 -- of a query
 pub hits_chosen : (table : List ℕ) (content : Content) (name text : List ℕ) (tree : Tree) → IsContent table content → reading content name text ≡ Ok (Some tree) → hits_of tree (content_documents content) ≡ chosen_hits content (Match name text)

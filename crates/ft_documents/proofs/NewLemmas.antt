@@ -1,21 +1,10 @@
 -- The row changes of rewrites name their documents alone, and what is new.
 use Rattle.std.proofs.Common.{ℕ, List, [], ◌∷◌, ◌++◌, map, Option, Some, None, ℤ, refl, sym, filter, length, All, Contains, unwrap_or, nat_lt, flat_map, Ordering, int_cmp, int_eq, ◌≡◌, Bool, true, false, not, ap, subst, ◌∙◌, ◌≢◌, IsSome, is_some, is_eq}
-use Rattle.std.specs.List.{AllByRecursion, enumerate_from}
-use Rattle.std.specs.FinMap.Entries.{put, find, is_sorted}
-use Rattle.std.proofs.lemmas.List.Elements.{recursion_from_All, All-from_recursion, All-nil, All-cons, All-head, All-tail, All-append, All-map, All-filter, All-weaker, All-same, All-contains_itself}
-use Rattle.std.specs.Cmp.{IsTotalOrder, int_cmp_total, tied_itself}
-use Rattle.std.proofs.lemmas.Map.Lookups.{CmpEqualImpliesEq}
-use Rattle.std.proofs.lemmas.Slice.Eq.{bytes_eq-Decides}
-use Rattle.ft_query.specs.Tokens.{PlainToken}
-use Rattle.ft_values.specs.Cells.{Cell, Null, Int, Text}
-use Rattle.ft_rows.specs.Store.{column_key_cmp, Change, PutCell, DropCells, PutEntries, DropEntries, PutSize, DropSize, StoreValue, cell_key_cmp, list_key_cmp}
 use Rattle.ft_rows.proofs.ListLemmas.{filter_passes}
-use Rattle.ft_content.specs.Content.{Column, Documents, Content}
-use Rattle.ft_content.specs.Index.{Entry, Key, key_cmp, key_of, Spot, Size, SizeRow, size_row, document_tokens, document_postings, entry_at, document_entries, document_sizes, sizes, index_rows}
+use Rattle.ft_content.specs.Index.{sizes, index_rows}
 use Rattle.ft_content.proofs.IndexLemmas.{key_cmp_total, key_cmp_exact}
-use Rattle.ft_documents.specs.Tables.{IsOfDocids}
-use Rattle.ft_documents.specs.Rewrite.{Rewrite, befores, afters, document_if, rewritten_docids, under_docids, AreOf, HasContent, IsNew, AreNew}
-use Rattle.ft_documents.specs.RewriteRows.{with_entries, all_put, sized, same_cell, same_spots, gone, changed, numbered_cells, goes, dropped_documents, put_cells, put_documents, dropped_lists, dropped_sizes, lists_joined_by, index_lists_of, sizes_of, list_changes, rewrite_changes, was_there}
+use Rattle.ft_documents.proofs.Common.{AllByRecursion, enumerate_from, put, find, is_sorted, recursion_from_All, All-from_recursion, All-nil, All-cons, All-head, All-tail, All-append, All-map, All-filter, All-weaker, All-same, All-contains_itself, IsTotalOrder, int_cmp_total, tied_itself, CmpEqualImpliesEq, bytes_eq-Decides, PlainToken, Cell, Null, Int, Text, column_key_cmp, Change, PutCell, DropCells, PutEntries, DropEntries, PutSize, DropSize, StoreValue, cell_key_cmp, list_key_cmp, Column, Documents, Content, Entry, Key, key_cmp, key_of, Spot, Size, SizeRow, size_row, document_tokens, document_postings, entry_at, document_entries, document_sizes, IsOfDocids, Rewrite, befores, afters, document_if, rewritten_docids, under_docids, AreOf, HasContent, IsNew, AreNew, with_entries, all_put, sized, same_cell, same_spots, gone, changed, numbered_cells, goes, dropped_documents, put_cells, put_documents, dropped_lists, dropped_sizes, lists_joined_by, index_lists_of, sizes_of, list_changes, was_there}
+use Rattle.ft_documents.specs.RewriteRows.{rewrite_changes}
 use Rattle.ft_documents.proofs.IndexOf.{lists_made}
 use Rattle.ft_documents.proofs.KeyedRows.{keys_put, each_found}
 use Rattle.ft_documents.proofs.StoreKeys.{column_exact, column_total, list_keys, cell_keys, find_joined}

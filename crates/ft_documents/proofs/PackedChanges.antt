@@ -1,37 +1,21 @@
 -- The row changes of documents put lists that can be packed.
 use Rattle.std.proofs.Common.{◌≡◌, ℕ, ◌+◌, ◌<◌, ◌≤◌, Bool, true, false, cond, not, List, [], ◌∷◌, map, length, Option, Some, None, ℤ, refl, sym, ap, subst, ◌∙◌, arith, inl, inr, nat_lt, ◌==◌, filter, All, AllPairs, unwrap_or, IfSome, get_or, int_cmp, int_eq}
-use Rattle.std.specs.List.{list_all, range_with_len, AllByRecursion}
-use Rattle.std.specs.Ordering.{eq_by_cmp}
-use Rattle.std.proofs.lemmas.Bool.{and_parts, and_from}
-use Rattle.std.proofs.lemmas.Bool.Decides.{nat_tests}
-use Rattle.std.proofs.lemmas.List.Elements.{All-nil, All-cons, All-head, All-tail, All-append, All-filter, recursion_from_All, All-from_recursion, All-map, All-weaker}
 use Rattle.std.proofs.lemmas.List.Kept.{AllPairs-filter}
-use Rattle.std.specs.FinMap.Entries.{find, is_sorted}
 use Rattle.sqlite_trees.proofs.ListLemmas.{all_of}
-use Rattle.ft_query.specs.Tokens.{PlainToken, tokens_of}
-use Rattle.ft_query.specs.Documents.{Posting, posting, IsBefore, postings_of}
 use Rattle.ft_query.proofs.TokenLaw.{computed_tokens}
 use Rattle.ft_query.proofs.TokenOnce.{pairs_head, pairs_tail}
 use Rattle.ft_query.proofs.Bridge.{from_column, postings_rise}
-use Rattle.ft_values.specs.Cells.{Cell, Null, Int, Text}
 use Rattle.ft_values.specs.declared.rows.RowChange.{RowChange}
-use Rattle.ft_values.specs.declared.rows.RowChange.TheVariants as row
-use Rattle.ft_rows.specs.Packed as packing
-use Rattle.ft_rows.specs.Changes.{shown_change, CanApply}
 use Rattle.ft_rows.specs.Packed.{CanPack}
-use Rattle.ft_rows.specs.Store.{PutCell}
-use Rattle.ft_content.specs.Content.{Column, cell_text, is_cell, has_nul, Documents, is_document}
-use Rattle.ft_content.specs.Index.{Spot, Entry, entry_at, Key, key_cmp, key_of, indexed_text, cell_tokens, document_tokens, document_postings, document_entries}
-use Rattle.ft_content.specs.Laws.{spots_of_key, some_if_any}
 use Rattle.ft_content.proofs.IndexLemmas.{lists_are_entries, key_cmp_total, key_cmp_exact}
 use Rattle.ft_content.proofs.MeaningLemmas.{document_texts, tokens_are}
-use Rattle.ft_documents.specs.RewriteRows.{IsShortNumber, AreShortNumbers, same_cell, changed, numbered_cells, put_cells, index_lists_of, rewrite_changes}
-use Rattle.ft_documents.specs.Rewrite.{Rewrite, afters, document_if, under_docids, FitIfAny, IsPackable}
-use Rattle.ft_documents.specs.MadeIndex.{HaveShortNumbers}
+use Rattle.ft_documents.proofs.Common.{list_all, range_with_len, AllByRecursion, eq_by_cmp, and_parts, and_from, nat_tests, All-nil, All-cons, All-head, All-tail, All-append, All-filter, recursion_from_All, All-from_recursion, All-map, All-weaker, find, is_sorted, PlainToken, tokens_of, Posting, posting, IsBefore, postings_of, Cell, Null, Int, Text, shown_change, CanApply, PutCell, Column, cell_text, is_cell, has_nul, Documents, is_document, Spot, Entry, entry_at, Key, key_cmp, key_of, indexed_text, cell_tokens, document_tokens, document_postings, document_entries, spots_of_key, some_if_any, IsShortNumber, AreShortNumbers, same_cell, changed, numbered_cells, put_cells, index_lists_of, rewrite_changes, Rewrite, afters, document_if, under_docids, FitIfAny, IsPackable, HaveShortNumbers}
 use Rattle.ft_documents.proofs.RowKinds.{one_list, lists_are}
 use Rattle.ft_documents.proofs.NewLemmas.{all_changes, All-flat_map}
 use Rattle.ft_documents.proofs.KeyedRows.{each_found}
 use Rattle.ft_documents.proofs.RewriteLemmas.{sorted_held}
+use Rattle.ft_values.specs.declared.rows.RowChange.TheVariants as row
+use Rattle.ft_rows.specs.Packed as packing
 
 -- ---- the lists of documents can be packed
 

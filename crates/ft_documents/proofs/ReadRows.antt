@@ -1,25 +1,12 @@
 -- Documents out of the rows of their cells.
 use Rattle.std.proofs.Common.{◌≡◌, ℕ, suc, ◌+◌, Bool, true, false, cond, ◌&&◌, ◌==◌, List, [], ◌∷◌, ◌++◌, map, length, Option, Some, None, ℤ, pos, refl, sym, ap, ◌∙◌, arith, eqb-true, append-nil, filter, reverse, slice_get, option_map, unwrap_or, nat_lt, nat_le, not, flat_map, int_cmp, int_eq, append_assoc, is_eq}
-use Rattle.std.specs.List.{list_all, enumerate_from}
-use Rattle.std.specs.Cmp.{int_cmp_total, tied_itself}
-use Rattle.std.specs.FinMap.Entries.{find, where_key, below_all, is_sorted}
-use Rattle.std.proofs.lemmas.Bool.{and_parts}
-use Rattle.std.proofs.lemmas.List.{reverse-append, map-append}
-use Rattle.std.proofs.lemmas.List.Elements.{filter-append}
-use Rattle.std.proofs.lemmas.Map.Lookups.{exact_signed}
-use Rattle.std.proofs.lemmas.Bool.Decides.{Decides-int_eq}
 use Rattle.sqlite_keyed.proofs.ListLemmas.{map-map}
-use Rattle.ft_values.specs.declared.rows.CellRow as row
-use Rattle.ft_values.specs.Cells.{Cell, shown_value}
-use Rattle.ft_rows.specs.Store.{CellKey, StoreValue, cell_key_cmp}
-use Rattle.ft_rows.specs.Shown.{shown_cell, last_docid_of}
-use Rattle.ft_content.specs.Content.{CellRow, TableRows, Documents, Content, IsContent, gathered, is_document, is_cell, document_rows, content_rows, names_of, names_clash, is_name, with_cell}
-use Rattle.ft_content.specs.Views.{last_docid}
+use Rattle.ft_content.specs.Content.{gathered}
 use Rattle.ft_content.proofs.RowLemmas.{rows_are_read}
-use Rattle.ft_documents.specs.Tables.{table_rows}
-use Rattle.ft_documents.specs.Gathered.{gathered_row, shown_document, with_last}
+use Rattle.ft_documents.proofs.Common.{list_all, enumerate_from, int_cmp_total, tied_itself, find, where_key, below_all, is_sorted, and_parts, reverse-append, map-append, filter-append, exact_signed, Decides-int_eq, Cell, shown_value, CellKey, StoreValue, cell_key_cmp, shown_cell, last_docid_of, CellRow, TableRows, Documents, Content, IsContent, is_document, is_cell, document_rows, content_rows, names_of, names_clash, is_name, with_cell, last_docid, table_rows, gathered_row, shown_document, with_last}
 use Rattle.ft_documents.specs.declared.documents.Document.{Document}
 use Rattle.ft_documents.proofs.KeyedRows.{none_below}
+use Rattle.ft_values.specs.declared.rows.CellRow as row
 
 -- ---- the last item
 

@@ -1,15 +1,6 @@
 -- Documents after rewrites, found by their docids.
 use Rattle.std.proofs.Common.{◌≡◌, Bool, true, false, cond, not, List, [], ◌∷◌, ◌++◌, Option, Some, None, ℤ, refl, sym, ap, ◌∙◌, All, flat_map, option_and_then, Ordering, int_cmp, int_eq, is_lt}
-use Rattle.std.specs.Cmp.{IsTotalOrder, int_cmp_total}
-use Rattle.std.specs.FinMap.{int_cmp-IsAntisymmetric}
-use Rattle.std.specs.FinMap.Entries.{find, below_all, is_sorted, is_sorted-put, is_sorted-where_key, find-put, find-where_key, same_entries}
-use Rattle.std.proofs.lemmas.Bool.{and_parts, and_from}
-use Rattle.std.proofs.lemmas.List.Elements.{All-map}
-use Rattle.std.proofs.lemmas.Map.Lookups.{CmpEqualImpliesEq}
-use Rattle.ft_values.specs.Cells.{Cell}
-use Rattle.ft_content.specs.Content.{Documents}
-use Rattle.ft_documents.specs.Rewrite.{Rewrite, with_cells, rewritten, document_if, befores, afters, under_docids}
-use Rattle.ft_documents.specs.RewriteRows.{all_put, changed}
+use Rattle.ft_documents.proofs.Common.{IsTotalOrder, int_cmp_total, int_cmp-IsAntisymmetric, find, below_all, is_sorted, is_sorted-put, is_sorted-where_key, find-put, find-where_key, same_entries, and_parts, and_from, All-map, CmpEqualImpliesEq, Cell, Documents, Rewrite, with_cells, rewritten, document_if, befores, afters, under_docids, all_put, changed}
 use Rattle.ft_documents.proofs.KeyedRows.{true_of, of_true, none_below, sorted_put, sorted_dropped, all_dropped, replaced, find_renewed, found_holds, turned_round}
 
 abbrev pub Cells : Type 0

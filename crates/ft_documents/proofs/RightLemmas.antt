@@ -1,24 +1,10 @@
 -- The row changes of rewrites lead to the rows and the index rows of the documents as they are to
 -- be.
 use Rattle.std.proofs.Common.{eqb-true, get_or, ◌≡◌, true, false, cond, not, ◌&&◌, List, [], ◌∷◌, ◌++◌, map, ℤ, refl, sym, ap, ◌∙◌, filter, unwrap_or, int_cmp, int_eq, ℕ, ◌+◌, ◌≤◌, Bool, ◌||◌, length, Option, Some, None, pos, subst, arith, is_some, All, ◌==◌, flat_map, Decides}
-use Rattle.std.specs.FinMap.Entries.{put, where_key, is_sorted, is_sorted-where_key, find, below_all, find-where_key, same_entries}
-use Rattle.std.proofs.lemmas.List.{map-append}
-use Rattle.std.specs.List.{list_any, list_all}
-use Rattle.std.specs.Cmp.{int_cmp_total}
-use Rattle.std.proofs.lemmas.Bool.{and_parts}
-use Rattle.std.proofs.lemmas.List.Elements.{All-map, All-from_recursion}
-use Rattle.std.proofs.lemmas.Map.Lookups.{exact_signed}
-use Rattle.std.proofs.lemmas.Slice.Eq.{bytes_eq-Decides, slice_eq-Decides}
-use Rattle.std.proofs.lemmas.Bool.Decides.{Decides-eqb}
 use Rattle.sqlite_keyed.proofs.ListLemmas.{map-map, all_from_test}
-use Rattle.ft_values.specs.Cells.{Cell, Null, Int, Text}
-use Rattle.ft_rows.specs.Store.{StoreValue, CellKey, cell_key_cmp, list_key_cmp, column_key_cmp, without_key, Change, PutCell, DropCells, all_applied, AreInOrder, ListKey}
-use Rattle.ft_content.specs.Index.{Key, Spot, key_cmp, index_rows}
-use Rattle.ft_content.specs.Content.{Documents, Column, Content, is_cell, is_document, content_rows, document_rows}
 use Rattle.ft_content.proofs.IndexLemmas.{key_cmp_total, key_cmp_exact}
-use Rattle.ft_documents.specs.Rewrite.{Rewrite, under_docids, rewritten, befores, afters, rewritten_content, FitIfAny, AreOf, HasContent, AreRight}
-use Rattle.ft_documents.specs.RewriteRows.{all_put, same_cell, changed, numbered_cells, goes, dropped_documents, put_documents, dropped_lists, put_lists, dropped_sizes, put_sizes, was_there, same_spot, same_spots, gone, sized, index_lists_of, sizes_of, rewrite_changes}
-use Rattle.ft_documents.specs.Tables.{table_rows, table_index}
+use Rattle.ft_documents.proofs.Common.{put, where_key, is_sorted, is_sorted-where_key, find, below_all, find-where_key, same_entries, map-append, list_any, list_all, int_cmp_total, and_parts, All-map, All-from_recursion, exact_signed, bytes_eq-Decides, slice_eq-Decides, Decides-eqb, Cell, Null, Int, Text, StoreValue, CellKey, cell_key_cmp, list_key_cmp, column_key_cmp, without_key, Change, PutCell, DropCells, all_applied, AreInOrder, ListKey, Key, Spot, key_cmp, index_rows, Documents, Column, Content, is_cell, is_document, content_rows, document_rows, Rewrite, under_docids, rewritten, befores, afters, rewritten_content, FitIfAny, AreOf, HasContent, AreRight, all_put, same_cell, changed, numbered_cells, goes, dropped_documents, put_documents, dropped_lists, put_lists, dropped_sizes, put_sizes, was_there, same_spot, same_spots, gone, sized, index_lists_of, sizes_of, table_rows, table_index}
+use Rattle.ft_documents.specs.RewriteRows.{rewrite_changes}
 use Rattle.ft_documents.proofs.StoreKeys.{list_exact, list_total, cell_exact, cell_total, list_keys, cell_keys, column_total, column_exact, own, joined, own_all_put, own_all_dropped}
 use Rattle.ft_documents.proofs.KeyedRows.{same_int, true_of, of_true, all_dropped, found_holds, tie, none_below, sorted_put, find_all_put, or_else, fresh, changed_found, sorted-filter, turned_round, gone_is, sorted_dropped}
 use Rattle.ft_documents.proofs.RowKinds.{rows_by, one_by, sorted_by, find_by, sorted_numbered, cells_are, cell_row, keyed_cell, content_cells, keyed_again, one_list, lists_are, size_of, sized_again, sizes_again, counts, stored_sizes, sizes_are}

@@ -1,22 +1,9 @@
 -- The cells, lists and sizes of documents as rows under keys.
 use Rattle.std.proofs.Common.{◌≡◌, ℕ, ◌+◌, ◌<◌, Bool, true, false, cond, List, [], ◌∷◌, ◌++◌, map, Option, Some, None, ℤ, pos, refl, ap, ◌∙◌, arith, filter, flat_map, option_and_then, Ordering, Less, Equal, Greater, int_cmp, int_eq, is_eq, is_lt, map-id, length, sym, nat_lt}
-use Rattle.std.specs.List.{enumerate_from}
-use Rattle.std.specs.Ordering.{ordering_then}
-use Rattle.std.specs.Cmp.{IsTotalOrder, int_cmp_total, tied_itself}
-use Rattle.std.specs.Option.{option_or}
-use Rattle.std.specs.FinMap.{int_cmp-IsAntisymmetric}
-use Rattle.std.specs.FinMap.Entries.{find, below_all, is_sorted}
-use Rattle.std.proofs.lemmas.Bool.{and_parts, and_from}
-use Rattle.std.proofs.lemmas.List.{map-append}
 use Rattle.std.proofs.lemmas.Simd.{map-map}
-use Rattle.ft_query.specs.Tokens.{PlainToken}
-use Rattle.ft_values.specs.Cells.{Cell}
-use Rattle.ft_rows.specs.Store.{column_key_cmp}
-use Rattle.ft_content.specs.Content.{Column, Documents, CellRow, document_rows}
-use Rattle.ft_content.specs.Index.{Key, key_cmp, Spot, Size, SizeRow, size_row, document_tokens, document_sizes, entries, sizes, index_rows}
-use Rattle.ft_content.specs.Laws.{content_with, document_lists}
+use Rattle.ft_content.specs.Index.{sizes, index_rows}
 use Rattle.ft_content.proofs.PlanLemmas.{sorted_lists, old_found}
-use Rattle.ft_documents.specs.RewriteRows.{sized, numbered_cells, all_put, index_lists_of, sizes_of}
+use Rattle.ft_documents.proofs.Common.{enumerate_from, ordering_then, IsTotalOrder, int_cmp_total, tied_itself, option_or, int_cmp-IsAntisymmetric, find, below_all, is_sorted, and_parts, and_from, map-append, PlainToken, Cell, column_key_cmp, Column, Documents, CellRow, document_rows, Key, key_cmp, Spot, Size, SizeRow, size_row, document_tokens, document_sizes, entries, content_with, document_lists, sized, numbered_cells, all_put, index_lists_of, sizes_of}
 use Rattle.ft_documents.proofs.KeyedRows.{none_below, true_of, of_true, put_in_order}
 use Rattle.ft_documents.proofs.CellSteps.{numbered_from, pos_less}
 use Rattle.ft_documents.proofs.StoreKeys.{column_total, column_exact}

@@ -1,10 +1,7 @@
 -- Loops whose pieces so far, and those of what is left, are all pieces.
 use Rattle.std.proofs.Common.{◌≡◌, ℕ, ◌+◌, ◌<◌, Bool, true, false, cond, List, [], ◌∷◌, ◌++◌, map, length, drop, get_or, sym, ap, ◌∙◌, append_assoc, append-nil, filter, flat_map}
-use Rattle.std.proofs.lemmas.List.{at_drop_more, map-append, length-map, get_or-map}
-use Rattle.std.proofs.lemmas.List.Elements.{filter-append}
-use Rattle.std.proofs.lemmas.List.Concat.{flat_map-append}
 use Rattle.ft_values.specs.declared.rows.RowChange.{RowChange}
-use Rattle.ft_rows.specs.Changes.{shown_change}
+use Rattle.ft_documents.proofs.Common.{at_drop_more, map-append, length-map, get_or-map, filter-append, flat_map-append, shown_change}
 
 -- a piece more
 pub piece_more : {X : Type 0} (old new piece rest all : List X) → new ≡ old ++ piece → old ++ (piece ++ rest) ≡ all → new ++ rest ≡ all

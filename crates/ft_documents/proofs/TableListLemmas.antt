@@ -1,11 +1,8 @@
 -- A table in its place in a list of tables.
 use Rattle.std.proofs.Common.{◌≡◌, ◌≤◌, ◌+◌, ℕ, zero, suc, List, [], ◌∷◌, map, length, cond, true, false, not, ltb, unwrap_or, Some, None, ℤ, refl, ap, ◌∙◌, arith, int_lt, int_cmp, is_lt, Less, Equal, Greater, insert, remove}
-use Rattle.std.specs.List.{position_or_len}
-use Rattle.std.proofs.lemmas.Bool.Decides.{nat_tests}
-use Rattle.std.proofs.lemmas.List.{map-append, take-map, drop-map}
 use Rattle.ft_values.specs.declared.table.TableInfo.{TableInfo as RustTableInfo}
-use Rattle.ft_content.specs.Views.{TableInfo, shown_info}
-use Rattle.ft_documents.specs.Found.{with_info}
+use Rattle.ft_content.specs.Views.{TableInfo}
+use Rattle.ft_documents.proofs.Common.{position_or_len, nat_tests, map-append, take-map, drop-map, shown_info, with_info}
 
 pub less_is : (a b : ℤ) → is_lt (int_cmp a b) ≡ int_lt a b
 less_is a b = elim (int_lt a b) as (λ l. is_lt (cond l Less (cond (int_lt b a) Greater Equal)) ≡ l) [ true ↦ refl | false ↦ elim (int_lt b a) as (λ g. is_lt (cond g Greater Equal) ≡ false) [ true ↦ refl | false ↦ refl ] ]

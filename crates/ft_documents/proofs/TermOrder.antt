@@ -1,38 +1,21 @@
 -- Terms that are sorted at once, each with its postings by rising docid, have the lists of a map.
 use Rattle.std.proofs.Common.{◌≡◌, true, false, cond, List, [], ◌∷◌, ◌++◌, map, Option, Some, None, refl, sym, ap, ◌∙◌, append_assoc, filter, unwrap_or, Bool, ℤ, ℕ, subst, append-nil, String, Vec, string_bytes, option_map, flat_map, Global, Less, Equal, Greater, int_cmp, int_eq, is_eq, nat_cmp, string_eq, ◌+◌, ◌<◌, ◌&&◌, length, get_or, arith, Bor, IsPermutation, IsTrue, All, Ordering, IsSortedBy, is_le, is_lt, true≢false}
-use Rattle.std.specs.Ordering.{eq_by_cmp, ordering_then, ordering_reverse}
-use Rattle.std.specs.FinMap.Entries.{put, find, is_sorted, is_sorted-put, find-put, same_entries, below_all}
-use Rattle.std.proofs.lemmas.List.{map-append, get_or-map}
-use Rattle.std.proofs.lemmas.List.Elements.{filter-append, All-head, All-tail}
-use Rattle.std.specs.List.{IsDistinct, AllByRecursion}
-use Rattle.std.specs.Map.{lookup, keys_of}
-use Rattle.std.specs.Cmp.Lexicographic.{slice_cmp, nat_list_cmp_total}
+use Rattle.std.specs.Cmp.Lexicographic.{nat_list_cmp_total}
 use Rattle.std.specs.String.{string_eq_equiv}
 use Rattle.std.proofs.lemmas.Map.{lookup-none}
 use Rattle.std.proofs.lemmas.Map.Entries.{none_past_head, place_from_lookup, lookup_from_place}
 use Rattle.std.proofs.lemmas.Map.Keys.{IsDistinct-tail, IsDistinct-IsPermutation, apart_from_distinct, sorted_from_all_adjacent}
-use Rattle.std.proofs.lemmas.Map.Lookups.{exact_bytes}
 use Rattle.std.proofs.lemmas.Map.Made.{lookup-map_values, keys_of-map_values}
 use Rattle.std.proofs.lemmas.Map.Text.{is_eq-slice_cmp}
-use Rattle.std.specs.Option.{option_or}
-use Rattle.std.specs.Cmp.{IsStrictWeakOrder, IsTotalOrder, int_cmp_total, on_total}
 use Rattle.std.specs.Fn.{Called, ComparesAs}
 use Rattle.std.specs.List.Sorted.{IsStrictlySortedBy}
-use Rattle.std.proofs.lemmas.Bool.{and_parts, and_from}
-use Rattle.std.proofs.lemmas.Fn.{always_returns_same}
-use Rattle.std.proofs.lemmas.List.Sorted.{IsPermutation-sym, IsPermutation-map, All-permutation, Contains-permutation, ranks_by}
 use Rattle.std.proofs.lemmas.Simd.{map-map}
-use Rattle.std.proofs.lemmas.Option.{slice_get-get_or, slice_get_within, get_or_from_slice_get}
 use denote.Param.Members.{Mut}
 use lib.ListN.{length-map}
 use Rattle.ft_rows.specs.declared.terms.Posting.{Posting}
-use Rattle.ft_rows.specs.Terms.{spot_of, joined_posting as before_lists, lists_of_postings}
-use Rattle.ft_rows.specs.declared.terms.TermLists.{TermLists}
-use Rattle.ft_content.specs.Index.{Key, key_cmp, Spot}
+use Rattle.ft_rows.specs.Terms.{joined_posting as before_lists}
 use Rattle.ft_content.proofs.IndexLemmas.{key_cmp_total, key_cmp_exact}
-use Rattle.ft_documents.specs.RewriteRows.{with_spots}
-use Rattle.ft_documents.specs.Terms.{Group, group_spots, lists_in_groups, spots_of_docid, by_docids, lists_of_terms}
-use Rattle.ft_documents.specs.Placed.{rise}
+use Rattle.ft_documents.proofs.Common.{eq_by_cmp, ordering_then, ordering_reverse, put, find, is_sorted, is_sorted-put, find-put, same_entries, below_all, map-append, get_or-map, filter-append, All-head, All-tail, IsDistinct, AllByRecursion, lookup, keys_of, slice_cmp, exact_bytes, option_or, IsStrictWeakOrder, IsTotalOrder, int_cmp_total, on_total, and_parts, and_from, always_returns_same, IsPermutation-sym, IsPermutation-map, All-permutation, Contains-permutation, ranks_by, slice_get-get_or, slice_get_within, get_or_from_slice_get, spot_of, lists_of_postings, TermLists, Key, key_cmp, Spot, with_spots, Group, group_spots, lists_in_groups, spots_of_docid, by_docids, lists_of_terms, rise}
 use Rattle.ft_documents.proofs.KeyedRows.{true_of, of_true, tie, none_found, below_lower, same_int}
 use Rattle.ft_documents.proofs.RowKinds.{find_under, below_under, sorted_under, or_none}
 

@@ -1,13 +1,7 @@
 -- They stand in order, or a sort that keeps ties puts them so.
 use Rattle.std.proofs.Common.{◌≡◌, ◌+◌, Bool, true, false, not, ◌&&◌, List, map, get_or, ℤ, refl, sym, ap, ◌∙◌, arith, rules, filter, Ordering, Less, Equal, Greater, int_cmp, int_eq, is_eq, is_le, is_lt}
-use Rattle.std.specs.Cmp.{int_cmp_total}
-use Rattle.std.specs.List.Sorted.{ties}
-use Rattle.std.specs.Ordering.{ordering_reverse}
-use Rattle.std.proofs.lemmas.List.Sorted.{answers_always}
 use Rattle.ft_rows.specs.declared.terms.Posting.{Posting}
-use Rattle.ft_rows.specs.Terms.{spot_of}
-use Rattle.ft_documents.specs.Placed.{rise}
-use Rattle.ft_documents.specs.Terms.{by_docids}
+use Rattle.ft_documents.proofs.Common.{int_cmp_total, ties, ordering_reverse, answers_always, spot_of, rise, by_docids}
 use Rattle.ft_documents.proofs.AskedLemmas.{neighbours_tell}
 use Rattle.ft_documents.proofs.document_index.put_in_order.Goals as goal
 

@@ -1,9 +1,6 @@
 -- one term more, and the sort of all
 use Rattle.std.proofs.Common.{◌≡◌, ◌∷◌, [], ◌++◌, List, map, rules, sym, ap, ◌∙◌, append_assoc, append-nil, subst, All}
-use Rattle.std.proofs.lemmas.List.{map-append}
-use Rattle.std.proofs.lemmas.List.Elements.{All-nil, All-cons, All-append}
-use Rattle.ft_rows.specs.declared.terms.TermLists.{TermLists}
-use Rattle.ft_documents.specs.Terms.{Group}
+use Rattle.ft_documents.proofs.Common.{map-append, All-nil, All-cons, All-append, TermLists, Group}
 use Rattle.ft_documents.proofs.TermOrder.{Has, has_in, term_has, HasRisen, rising_from_sort, sorted_terms}
 use Rattle.ft_documents.proofs.document_index.term_lists.Goals as goal
 

@@ -1,14 +1,10 @@
 -- one row more: the last document with its cell, or a document more
 use Rattle.std.proofs.Common.{◌≡◌, ◌++◌, [], ◌∷◌, List, map, sym, ap, ◌∙◌, rules, FitsSigned, w64, to_z, of_z, to_z-of_z, arith}
-use Rattle.std.proofs.lemmas.List.{map-append}
-use Rattle.ft_values.specs.declared.rows.Value.{Value}
-use Rattle.ft_values.specs.Cells.{shown_value}
-use Rattle.ft_content.specs.Content.{gathered}
+use Rattle.ft_documents.proofs.Common.{map-append, Value, shown_value, gathered, shown_document, gathered_row, with_last}
 use Rattle.ft_documents.specs.declared.documents.Document.{Document}
-use Rattle.ft_documents.specs.Gathered.{shown_document, gathered_row, with_last}
 use Rattle.ft_documents.proofs.ReadRows.{joined, behind, first_of_all, gathered_more, gathered_none}
-use Rattle.ft_documents.proofs.documents.gathered.Goals as goal
 use Rattle.ft_documents.proofs.documents.gathered.Goals.{in-Some-pop+then-last-docid, in-Some-pop+else-last-docid+in_ok-push, in_default}
+use Rattle.ft_documents.proofs.documents.gathered.Goals as goal
 
 pub loop-row-init : goal.loop-row-init
 loop-row-init c = ap (map shown_document) c.new-documents.ensures.items ∙ gathered_none

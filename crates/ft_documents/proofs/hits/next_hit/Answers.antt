@@ -1,7 +1,6 @@
 -- by whether offsets are wanted
 use Rattle.std.proofs.Common.{sym, subst, rules}
-use Rattle.std.proofs.lemmas.Result.{IfOk-weaker}
-use Rattle.ft_documents.specs.Matched.{TellsHit}
+use Rattle.ft_documents.proofs.Common.{IfOk-weaker, TellsHit}
 use Rattle.ft_documents.proofs.MatchedLemmas.{told_whole, told_bare}
 use Rattle.ft_documents.proofs.hits.next_hit.Goals as goal
 

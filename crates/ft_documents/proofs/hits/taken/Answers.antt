@@ -1,14 +1,9 @@
 -- the walk stops where enough hits are taken, or none is left
 use Rattle.std.proofs.Common.{◌≡◌, ◌≤◌, ◌++◌, List, None, map, length, sym, ap, subst, ◌∙◌, append-nil, rules, vec_len}
-use Rattle.std.proofs.lemmas.List.{length-map}
-use Rattle.std.proofs.lemmas.Result.{IfOk-at_ok}
-use Rattle.ft_query.specs.Trees.{tree_of}
-use Rattle.ft_query.specs.Occurs.{PlainHit, plain_hit, hits_of}
-use Rattle.ft_content.specs.Answer.{cut}
-use Rattle.ft_documents.specs.Matched.{as_wanted}
+use Rattle.ft_documents.proofs.Common.{length-map, IfOk-at_ok, tree_of, PlainHit, plain_hit, hits_of, cut, as_wanted}
 use Rattle.ft_documents.proofs.MatchedLemmas.{full, whole, ended}
-use Rattle.ft_documents.proofs.hits.taken.Goals as goal
 use Rattle.ft_documents.proofs.hits.taken.Goals.{else-loop-alloc-test, then-loop-alloc-test+in_ok-hit+in_default}
+use Rattle.ft_documents.proofs.hits.taken.Goals as goal
 
 pub returns : goal.returns
 returns c documents stands =

@@ -1,9 +1,6 @@
 use Rattle.std.proofs.Common.{◌≡◌, ◌≤◌, ◌++◌, List, map, vec_len}
-use Rattle.ft_query.specs.Documents.{Document}
-use Rattle.ft_query.specs.Trees.{tree_of}
-use Rattle.ft_query.specs.Occurs.{plain_hit, hits_of}
 use Rattle.ft_query.specs.Walk.{StandsBefore, lists_to_come}
-use Rattle.ft_documents.specs.Matched.{as_wanted}
+use Rattle.ft_documents.proofs.Common.{Document, tree_of, plain_hit, hits_of, as_wanted}
 use Rattle.ft_documents.proofs.hits.taken.Given as goal
 
 -- the hits so far are the first ones, and the walk stands before the rest

@@ -1,8 +1,6 @@
 -- one list more
 use Rattle.std.proofs.Common.{◌++◌, ◌∷◌, [], map, string_bytes, sym, ap, ◌∙◌, append_assoc, ◌≡◌, rules, to_z, of_z, w64}
-use Rattle.std.proofs.lemmas.List.{map-append}
-use Rattle.ft_rows.specs.Shown.{shown_list}
-use Rattle.ft_documents.specs.Terms.{under_term, kept_list}
+use Rattle.ft_documents.proofs.Common.{map-append, shown_list, under_term, kept_list}
 use Rattle.ft_documents.proofs.index_changes.add_lists.Goals as goal
 
 pub loop-list-preserved : goal.loop-list-preserved

@@ -1,7 +1,6 @@
 -- the lists so far
 use Rattle.std.proofs.Common.{◌≡◌, ◌++◌, map, string_bytes}
-use Rattle.ft_rows.specs.Shown.{shown_list}
-use Rattle.ft_documents.specs.Terms.{under_term, kept_list}
+use Rattle.ft_documents.proofs.Common.{shown_list, under_term, kept_list}
 use Rattle.ft_documents.proofs.index_changes.add_lists.Given as goal
 
 abbrev pub invariant-loop-list : goal.invariant-loop-list

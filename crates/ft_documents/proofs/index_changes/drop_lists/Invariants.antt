@@ -1,8 +1,6 @@
 -- the changes of the lists so far
 use Rattle.std.proofs.Common.{◌≡◌, ◌++◌, map, take}
-use Rattle.ft_content.specs.Index.{key_cmp}
-use Rattle.ft_rows.specs.Changes.{shown_change}
-use Rattle.ft_documents.specs.Terms.{kept_list}
+use Rattle.ft_documents.proofs.Common.{key_cmp, shown_change, kept_list}
 use Rattle.ft_documents.specs.RewriteRows as rows
 use Rattle.ft_documents.proofs.index_changes.drop_lists.Given as goal
 

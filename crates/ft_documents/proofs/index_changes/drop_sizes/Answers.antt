@@ -1,8 +1,5 @@
 use Rattle.std.proofs.Common.{◌≡◌, ◌++◌, ◌∷◌, [], cond, not, map, ℤ, sym, ap, ◌∙◌, to_z-of_z, to_z, of_z, w64, rules, is_some}
-use Rattle.std.specs.FinMap.Entries.{find}
-use Rattle.ft_rows.specs.Store.{column_key_cmp, DropSize}
-use Rattle.ft_rows.specs.Changes.{shown_change}
-use Rattle.ft_documents.specs.RewriteRows.{gone, dropped_sizes}
+use Rattle.ft_documents.proofs.Common.{find, column_key_cmp, DropSize, shown_change, gone, dropped_sizes}
 use Rattle.ft_documents.proofs.Steps.{kept_more, change_more}
 use Rattle.ft_documents.proofs.KeyedRows.{find_looked_up}
 use Rattle.ft_documents.proofs.index_changes.drop_sizes.Goals as goal

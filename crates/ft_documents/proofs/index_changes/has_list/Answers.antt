@@ -1,12 +1,7 @@
 -- by a search among lists in order
 use Rattle.std.proofs.Common.{◌≡◌, Some, map, sym, ap, subst, ◌∙◌, rules}
-use Rattle.std.specs.FinMap.Entries.{find}
-use Rattle.std.specs.List.Sorted.{IsBinarySearchResult}
-use Rattle.std.proofs.lemmas.Fn.{always_returns_same}
-use Rattle.ft_content.specs.Index.{key_cmp}
 use Rattle.ft_content.proofs.IndexLemmas.{key_cmp_total}
-use Rattle.ft_documents.specs.Terms.{kept_list}
-use Rattle.ft_documents.specs.RewriteRows.{same_spots, was_there}
+use Rattle.ft_documents.proofs.Common.{find, IsBinarySearchResult, always_returns_same, key_cmp, kept_list, same_spots, was_there}
 use Rattle.ft_documents.proofs.ListSearch.{row_is, no_row}
 use Rattle.ft_documents.proofs.index_changes.has_list.Goals as goal
 

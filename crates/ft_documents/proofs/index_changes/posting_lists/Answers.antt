@@ -1,10 +1,6 @@
 -- one term more
 use Rattle.std.proofs.Common.{◌++◌, ◌∷◌, [], string_bytes, sym, ap, ◌∙◌, append-nil, rules, map-id}
-use Rattle.std.proofs.lemmas.Iterator.Adapters.{YieldsList-from_vec}
-use Rattle.std.proofs.lemmas.Iterator.Consumers.{YieldsList-end}
-use Rattle.std.proofs.lemmas.List.Concat.{flat_map-append}
-use Rattle.ft_rows.specs.declared.terms.TermLists.{TermLists}
-use Rattle.ft_documents.specs.Terms.{lists_of_term, lists_of_terms}
+use Rattle.ft_documents.proofs.Common.{YieldsList-from_vec, YieldsList-end, flat_map-append, TermLists, lists_of_term, lists_of_terms}
 use Rattle.ft_documents.proofs.index_changes.posting_lists.Goals as goal
 
 pub loop-term-preserved : goal.loop-term-preserved

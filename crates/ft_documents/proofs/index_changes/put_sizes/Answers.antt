@@ -1,8 +1,5 @@
 use Rattle.std.proofs.Common.{◌≡◌, ◌++◌, ◌∷◌, [], cond, not, map, ℤ, sym, ap, ◌∙◌, to_z-of_z, to_z, of_z, w64, rules, int_eq}
-use Rattle.std.specs.FinMap.Entries.{find}
-use Rattle.ft_rows.specs.Store.{column_key_cmp, PutSize}
-use Rattle.ft_rows.specs.Changes.{shown_change}
-use Rattle.ft_documents.specs.RewriteRows.{was_there, changed, put_sizes}
+use Rattle.ft_documents.proofs.Common.{find, column_key_cmp, PutSize, shown_change, was_there, changed, put_sizes}
 use Rattle.ft_documents.proofs.Steps.{kept_more, change_more}
 use Rattle.ft_documents.proofs.KeyedRows.{held_size}
 use Rattle.ft_documents.proofs.index_changes.put_sizes.Goals as goal

@@ -1,7 +1,6 @@
 -- the changes so far, and those of the sizes that are left
 use Rattle.std.proofs.Common.{◌≡◌, ◌++◌, map, int_eq}
-use Rattle.ft_rows.specs.Store.{column_key_cmp}
-use Rattle.ft_rows.specs.Changes.{shown_change}
+use Rattle.ft_documents.proofs.Common.{column_key_cmp, shown_change}
 use Rattle.ft_documents.specs.RewriteRows as rows
 use Rattle.ft_documents.proofs.index_changes.put_sizes.Given as goal
 

@@ -1,13 +1,10 @@
 -- each row before the next, and each in order
 use Rattle.std.proofs.Common.{◌≡◌, ◌&&◌, sym, ap, ◌∙◌, rules, int_lt, tests}
-use Rattle.std.specs.List.{list_all}
-use Rattle.std.proofs.lemmas.Iterator.{YieldsList-from_slice}
 use Rattle.std.proofs.lemmas.Iterator.Search.{all_from_yields_List}
-use Rattle.std.proofs.lemmas.List.Sorted.{answers_always}
-use Rattle.ft_documents.specs.Placed.{is_in_order, docids_rise}
+use Rattle.ft_documents.proofs.Common.{list_all, YieldsList-from_slice, answers_always, is_in_order, docids_rise}
 use Rattle.ft_documents.proofs.AskedLemmas.{neighbours_tell}
-use Rattle.ft_documents.proofs.lists.are_in_order.Goals as goal
 use Rattle.ft_documents.proofs.lists.are_in_order.Goals.{After-is_sorted_by}
+use Rattle.ft_documents.proofs.lists.are_in_order.Goals as goal
 
 rise : (c : After-is_sorted_by) → c.is_sorted_by.result ≡ docids_rise c.args.rows.now
 rise c = neighbours_tell (λ a b. int_lt a.docid b.docid) c.args.rows.now c.is_sorted_by.result (c.is_sorted_by.ensures.cases (λ a b. int_lt a.docid b.docid) (answers_always _ _ _ (λ f a r g called. search rules)))

@@ -1,10 +1,7 @@
 -- rows in order are lists
 use Rattle.std.proofs.Common.{◌≡◌, map, sym, subst, ap, ◌∙◌, IsPermutation}
-use Rattle.std.proofs.lemmas.Result.{IfOk-weaker}
 use Rattle.sqlite_keyed.proofs.ListLemmas.{map-map}
-use Rattle.ft_rows.specs.Shown.{shown_list}
-use Rattle.ft_rows.specs.Terms.{lists_of_postings}
-use Rattle.ft_documents.specs.Placed.{read_list, list_of, all_in, are_in_order, AreListsOf}
+use Rattle.ft_documents.proofs.Common.{IfOk-weaker, shown_list, lists_of_postings, read_list, list_of, all_in, are_in_order, AreListsOf}
 use Rattle.ft_documents.proofs.AskedLemmas.{rows_in_order}
 use Rattle.ft_documents.proofs.lists.doc_lists.Goals as goal
 

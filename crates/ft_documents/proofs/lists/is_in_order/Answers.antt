@@ -1,8 +1,6 @@
 -- each place before the next
 use Rattle.std.proofs.Common.{◌≡◌, ◌&&◌, true, sym, ap, ◌∙◌, rules}
-use Rattle.std.proofs.lemmas.List.Sorted.{answers_always}
-use Rattle.ft_query.specs.Documents.{is_filled}
-use Rattle.ft_documents.specs.Placed.{is_before, rise}
+use Rattle.ft_documents.proofs.Common.{answers_always, is_filled, is_before, rise}
 use Rattle.ft_documents.proofs.AskedLemmas.{neighbours_tell}
 use Rattle.ft_documents.proofs.lists.is_in_order.Goals as goal
 

@@ -1,5 +1,5 @@
 use Rattle.std.proofs.Common.{◌≡◌, map, take}
-use Rattle.ft_documents.specs.Placed.{list_of, all_in}
+use Rattle.ft_documents.proofs.Common.{list_of, all_in}
 use Rattle.ft_documents.proofs.lists.postings_of.Given as goal
 
 abbrev pub invariant-loop-row : goal.invariant-loop-row

@@ -1,12 +1,6 @@
 -- one row more
 use Rattle.std.proofs.Common.{◌≡◌, ◌++◌, ◌∷◌, [], map, sym, ap, ◌∙◌, rules}
-use Rattle.std.proofs.lemmas.Iterator.{YieldsList-from_slice, YieldsList-from_map}
-use Rattle.std.proofs.lemmas.Iterator.Adapters.{items_from_extend}
-use Rattle.std.proofs.lemmas.Iterator.Consumers.{YieldsList-at}
-use Rattle.std.proofs.lemmas.List.{map-append}
-use Rattle.std.proofs.lemmas.Result.{IfOk-at_ok}
-use Rattle.ft_query.specs.Documents.{plain_list}
-use Rattle.ft_documents.specs.Placed.{place_of, list_of}
+use Rattle.ft_documents.proofs.Common.{YieldsList-from_slice, YieldsList-from_map, items_from_extend, YieldsList-at, map-append, IfOk-at_ok, plain_list, place_of, list_of}
 use Rattle.ft_documents.proofs.lists.row_lists.Goals as goal
 
 pub loop-row-preserved : goal.loop-row-preserved

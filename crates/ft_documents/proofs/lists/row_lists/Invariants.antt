@@ -1,7 +1,6 @@
 -- the lists so far
 use Rattle.std.proofs.Common.{◌≡◌, map}
-use Rattle.ft_query.specs.Documents.{plain_list}
-use Rattle.ft_documents.specs.Placed.{list_of}
+use Rattle.ft_documents.proofs.Common.{plain_list, list_of}
 use Rattle.ft_documents.proofs.lists.row_lists.Given as goal
 
 abbrev pub invariant-loop-row : goal.invariant-loop-row

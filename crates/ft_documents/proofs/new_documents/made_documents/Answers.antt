@@ -1,22 +1,10 @@
 -- a row more
 use Rattle.std.proofs.Common.{◌≡◌, ◌+◌, inl, inr, Err, Result, map, zip, drop, refl, sym, ap, subst, ◌∙◌, rules, true, false, None, ℤ, unwrap_or, get_or, ℕ, zero, suc, Bool, List, [], ◌∷◌, slice_get, int_cmp, IsTrue}
-use Rattle.std.proofs.lemmas.List.{drop_all}
-use Rattle.std.proofs.lemmas.Option.{slice_get_read}
-use Rattle.ft_values.specs.declared.fault.Fault.{Fault}
-use Rattle.ft_content.specs.Deserved.{inserted_rows, insert_row, docids_named, new_cells}
-use Rattle.ft_content.specs.Views.{cells_of, column_of, last_docid}
-use Rattle.ft_documents.specs.declared.new_documents.NewDocuments.{NewDocuments}
-use Rattle.std.specs.List.{AllByRecursion}
-use Rattle.std.specs.FinMap.Entries.{find, is_sorted}
-use Rattle.ft_values.specs.Cells.{Cell}
-use Rattle.ft_content.specs.Content.{Documents}
-use Rattle.ft_documents.specs.NewDocuments.{shown_new, shown_documents, with_new, AreBeside, Places}
-use Rattle.ft_documents.specs.Inserted.{AreKnown, MakesDocuments}
-use Rattle.ft_documents.specs.RewriteRows.{all_put}
+use Rattle.ft_documents.proofs.Common.{drop_all, slice_get_read, Fault, inserted_rows, insert_row, docids_named, new_cells, cells_of, column_of, last_docid, NewDocuments, AllByRecursion, find, is_sorted, Cell, Documents, shown_new, shown_documents, with_new, AreBeside, Places, AreKnown, MakesDocuments, all_put}
 use Rattle.ft_documents.proofs.Steps.{taken_more}
 use Rattle.ft_documents.proofs.InsertRows.{rows_step, rows_fail, rows_none, row_at}
-use Rattle.ft_documents.proofs.new_documents.made_documents.Goals as goal
 use Rattle.ft_documents.proofs.new_documents.made_documents.Goals.{After-add}
+use Rattle.ft_documents.proofs.new_documents.made_documents.Goals as goal
 
 got_or : (xs : List Bool) (k : ℕ) (d : Bool) → unwrap_or (slice_get xs k) d ≡ get_or xs k d
 got_or [] k d = refl

@@ -1,11 +1,6 @@
 -- What comes of the rows that are left, with the documents of those so far, is what comes of all.
 use Rattle.std.proofs.Common.{◌≡◌, map, zip, drop, IsTrue, int_cmp}
-use Rattle.std.specs.FinMap.Entries.{is_sorted}
-use Rattle.ft_content.specs.Content.{Documents}
-use Rattle.ft_content.specs.Deserved.{inserted_rows}
-use Rattle.ft_content.specs.Views.{last_docid, cells_of, column_of}
-use Rattle.ft_documents.specs.NewDocuments.{with_new, AreBeside}
-use Rattle.ft_documents.specs.Inserted.{AreKnown}
+use Rattle.ft_documents.proofs.Common.{is_sorted, Documents, inserted_rows, last_docid, cells_of, column_of, with_new, AreBeside, AreKnown}
 use Rattle.ft_documents.proofs.new_documents.made_documents.Given as goal
 
 abbrev pub invariant-loop-place : goal.invariant-loop-place

@@ -1,6 +1,6 @@
 -- whole groups, each small, and one that isn't full
 use Rattle.std.proofs.Common.{◌≡◌, ◌++◌, ◌<◌, All, map, sum_by, vec_items, flat_map}
-use Rattle.ft_documents.specs.Rewrite.{shown_rewrite, rewrite_bytes, IsSmall}
+use Rattle.ft_documents.proofs.Common.{shown_rewrite, rewrite_bytes, IsSmall}
 use Rattle.ft_documents.proofs.rewrite.in_groups.Given as goal
 
 abbrev pub invariant-loop-rewrite : goal.invariant-loop-rewrite

@@ -1,9 +1,6 @@
 -- one value more, and all of them
 use Rattle.std.proofs.Common.{◌<◌, ◌^◌, ◌++◌, length, map, refl, ap, sym, ◌∙◌, rules, to_z-of_z, filter, map-id}
-use Rattle.std.proofs.lemmas.Iterator.Adapters.{YieldsList-from_vec}
-use Rattle.std.proofs.lemmas.Iterator.Consumers.{YieldsList-from_enumerate, YieldsList-end}
-use Rattle.ft_values.specs.Cells.{shown_value}
-use Rattle.ft_rows.specs.Changes.{shown_change}
+use Rattle.ft_documents.proofs.Common.{YieldsList-from_vec, YieldsList-from_enumerate, YieldsList-end, shown_value, shown_change}
 use Rattle.ft_documents.proofs.Steps.{change_more}
 use Rattle.ft_documents.proofs.CellSteps.{placed_cell, is_put, put_at, tells_put, one_more_put, all_puts}
 use Rattle.ft_documents.proofs.rewrite.put_cells.Goals as goal

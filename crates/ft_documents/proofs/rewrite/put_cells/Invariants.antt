@@ -1,7 +1,6 @@
 -- the changes of the cells so far
 use Rattle.std.proofs.Common.{◌≡◌, ◌++◌, map, filter}
-use Rattle.ft_values.specs.Cells.{shown_value}
-use Rattle.ft_rows.specs.Changes.{shown_change}
+use Rattle.ft_documents.proofs.Common.{shown_value, shown_change}
 use Rattle.ft_documents.proofs.CellSteps.{placed_cell, is_put, put_at}
 use Rattle.ft_documents.proofs.rewrite.put_cells.Given as goal
 

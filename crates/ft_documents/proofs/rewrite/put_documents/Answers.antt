@@ -1,12 +1,6 @@
 -- one rewrite more
 use Rattle.std.proofs.Common.{◌≡◌, ℤ, ◌++◌, ◌∷◌, [], map, Option, Some, None, option_map, unwrap_or, Vec, Global, sym, ap, ◌∙◌, to_z, of_z, w64, rules}
-use Rattle.std.proofs.lemmas.List.{map-append}
-use Rattle.ft_values.specs.declared.rows.Value.{Value}
-use Rattle.ft_values.specs.Cells.{shown_value}
-use Rattle.ft_rows.specs.Changes.{shown_change}
-use Rattle.ft_content.specs.Views.{cells_of}
-use Rattle.ft_documents.specs.Rewrite.{Rewrite, shown_rewrite}
-use Rattle.ft_documents.specs.RewriteRows.{put_cells, put_documents}
+use Rattle.ft_documents.proofs.Common.{map-append, Value, shown_value, shown_change, cells_of, Rewrite, shown_rewrite, put_cells, put_documents}
 use Rattle.ft_documents.proofs.Steps.{piece_last}
 use Rattle.ft_documents.proofs.rewrite.put_documents.Goals as goal
 

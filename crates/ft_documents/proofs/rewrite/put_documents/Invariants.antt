@@ -1,8 +1,6 @@
 -- the changes of the rewrites so far
 use Rattle.std.proofs.Common.{◌≡◌, ◌++◌, map}
-use Rattle.ft_rows.specs.Changes.{shown_change}
-use Rattle.ft_documents.specs.Rewrite.{shown_rewrite}
-use Rattle.ft_documents.specs.RewriteRows.{put_documents}
+use Rattle.ft_documents.proofs.Common.{shown_change, shown_rewrite, put_documents}
 use Rattle.ft_documents.proofs.rewrite.put_documents.Given as goal
 
 abbrev pub invariant-loop-rewrite : goal.invariant-loop-rewrite

@@ -1,26 +1,16 @@
 use Rattle.std.proofs.Common.{◌≡◌, ◌≤◌, ◌+◌, ◌++◌, ◌∷◌, ◌&&◌, [], List, Bool, cond, not, true, false, map, drop, length, refl, sym, subst, ap, ◌∙◌, to_z-of_z, to_z, of_z, w64, rules, is_some, IsTrue, flat_map, int_eq}
-use Rattle.std.specs.FinMap.Entries.{is_sorted}
-use Rattle.std.proofs.lemmas.List.{length-map, drop_all}
-use Rattle.std.proofs.lemmas.List.Elements.{All-same}
-use Rattle.ft_rows.specs.Store.{DropCells, column_key_cmp}
-use Rattle.ft_rows.specs.Changes.{shown_change}
-use Rattle.ft_content.specs.Index.{Key, key_cmp, Spot}
-use Rattle.ft_content.specs.Views.{cells_of, column_of}
-use Rattle.ft_documents.specs.declared.rewrite.Rewrite as source
 use Rattle.sqlite_keyed.proofs.SliceLemmas.{is_some-map}
-use Rattle.ft_documents.specs.Tables.{IsOfDocids}
-use Rattle.ft_documents.specs.MadeIndex.{AddsDocuments, IsIndexOf}
-use Rattle.ft_documents.specs.Rewrite.{Rewrite, shown_rewrite, befores, afters, document_if, rewritten_docids, AreRight, AreNew}
-use Rattle.ft_documents.specs.Terms.{Group, group_spots, lists_in_groups, kept_list}
-use Rattle.ft_documents.specs.RewriteRows.{index_lists_of, rewrite_changes, goes, dropped_documents, put_documents, dropped_lists, put_lists, dropped_sizes, put_sizes, gone, changed, same_spots}
+use Rattle.ft_documents.proofs.Common.{is_sorted, length-map, drop_all, All-same, DropCells, column_key_cmp, shown_change, Key, key_cmp, Spot, cells_of, column_of, IsOfDocids, AddsDocuments, IsIndexOf, Rewrite, shown_rewrite, befores, afters, document_if, rewritten_docids, AreRight, AreNew, Group, group_spots, lists_in_groups, kept_list, index_lists_of, goes, dropped_documents, put_documents, dropped_lists, put_lists, dropped_sizes, put_sizes, gone, changed, same_spots}
+use Rattle.ft_documents.specs.RewriteRows.{rewrite_changes}
 use Rattle.ft_documents.proofs.Steps.{kept_more, all_taken, taken_more, change_more, six_pieces}
 use Rattle.ft_documents.proofs.TermOrder.{sorted_joined}
 use Rattle.ft_documents.proofs.IndexOf.{more_joined, all_joined}
 use Rattle.ft_documents.proofs.NewLemmas.{near, are_new}
 use Rattle.ft_documents.proofs.RightLemmas.{are_right}
 use Rattle.ft_documents.proofs.PackedChanges.{are_packable}
-use Rattle.ft_documents.proofs.rewrite.row_changes.Goals as goal
 use Rattle.ft_documents.proofs.rewrite.row_changes.Goals.{then-is_some+then-is_none+in_ok-push, else-is_some, else-is_some-via-then-is_some+else-is_none, else-is_some-via-else-is_some}
+use Rattle.ft_documents.specs.declared.rewrite.Rewrite as source
+use Rattle.ft_documents.proofs.rewrite.row_changes.Goals as goal
 
 goes_as : (r : source.Rewrite) (b a : Bool) → is_some r.before ≡ b → is_some r.after ≡ a → goes (shown_rewrite r) ≡ (b && not a)
 goes_as r b a before after = λ i. (is_some-map cells_of r.before ∙ before) i && not ((is_some-map cells_of r.after ∙ after) i)

@@ -1,8 +1,5 @@
 use Rattle.std.proofs.Common.{◌≡◌, ◌++◌, map, drop}
-use Rattle.ft_rows.specs.Changes.{shown_change}
-use Rattle.ft_content.specs.Views.{column_of}
-use Rattle.ft_documents.specs.Rewrite.{shown_rewrite, befores, afters}
-use Rattle.ft_documents.specs.RewriteRows.{dropped_documents}
+use Rattle.ft_documents.proofs.Common.{shown_change, column_of, shown_rewrite, befores, afters, dropped_documents}
 use Rattle.ft_documents.proofs.IndexOf.{ToJoin}
 use Rattle.ft_documents.proofs.rewrite.row_changes.Given as goal
 

@@ -1,7 +1,6 @@
 -- the bytes so far
 use Rattle.std.proofs.Common.{◌≡◌, ◌-◌, ◌^◌, min, map, take, sum_by}
-use Rattle.ft_values.specs.Cells.{shown_value}
-use Rattle.ft_documents.specs.Rewrite.{cell_bytes}
+use Rattle.ft_documents.proofs.Common.{shown_value, cell_bytes}
 use Rattle.ft_documents.proofs.rewrite.text_bytes.Given as goal
 
 abbrev pub invariant-loop-cell : goal.invariant-loop-cell

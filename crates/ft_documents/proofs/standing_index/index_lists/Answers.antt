@@ -1,17 +1,7 @@
 -- one document more, and the index of all
 use Rattle.std.proofs.Common.{◌≡◌, [], ◌∷◌, List, ℤ, map, sym, ap, subst, ◌∙◌, rules, to_z, of_z, w64, map-id}
-use Rattle.std.proofs.lemmas.Iterator.Adapters.{YieldsList-from_vec}
-use Rattle.std.proofs.lemmas.Iterator.Consumers.{YieldsList-end}
-use Rattle.std.proofs.lemmas.List.{map-append}
-use Rattle.ft_content.specs.Content.{Content, CellRow, Column, Documents, gathered}
-use Rattle.ft_content.specs.Index.{index_rows}
-use Rattle.ft_content.specs.Laws.{content_with}
-use Rattle.ft_content.specs.Views.{column_of}
 use Rattle.ft_content.proofs.RowLemmas.{rows_are_read}
-use Rattle.ft_documents.specs.Gathered.{shown_document}
-use Rattle.ft_documents.specs.MadeIndex.{AddsDocuments}
-use Rattle.ft_documents.specs.RewriteRows.{lists_joined_by, sizes_with, index_lists_of, sized}
-use Rattle.ft_documents.specs.Standing.{HaveContent, shown_row}
+use Rattle.ft_documents.proofs.Common.{YieldsList-from_vec, YieldsList-end, map-append, Content, CellRow, Column, Documents, gathered, index_rows, content_with, column_of, shown_document, AddsDocuments, lists_joined_by, sizes_with, index_lists_of, sized, HaveContent, shown_row}
 use Rattle.ft_documents.proofs.IndexOf.{lists_with-append, sizes_with-append, lists_made, sizes_made}
 use Rattle.ft_documents.proofs.RowKinds.{stored_sizes}
 use Rattle.ft_documents.proofs.standing_index.index_lists.Goals as goal

@@ -1,9 +1,6 @@
 -- the index is that of the documents so far
 use Rattle.std.proofs.Common.{◌≡◌, [], map}
-use Rattle.ft_content.specs.Views.{column_of}
-use Rattle.ft_documents.specs.Gathered.{shown_document}
-use Rattle.ft_documents.specs.MadeIndex.{lists_in, sizes_in}
-use Rattle.ft_documents.specs.RewriteRows.{lists_joined_by, sizes_with}
+use Rattle.ft_documents.proofs.Common.{column_of, shown_document, lists_in, sizes_in, lists_joined_by, sizes_with}
 use Rattle.ft_documents.proofs.standing_index.index_lists.Given as goal
 
 abbrev pub invariant-loop-document : goal.invariant-loop-document

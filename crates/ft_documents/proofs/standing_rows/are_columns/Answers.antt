@@ -1,12 +1,9 @@
 use Rattle.std.proofs.Common.{◌≡◌, ◌<◌, ◌≤◌, ◌&&◌, Bool, not, map, length, string_bytes, refl, sym, ap, ◌∙◌, arith}
-use Rattle.std.proofs.lemmas.List.{length-map}
-use Rattle.std.specs.List.{list_all}
-use Rattle.ft_content.specs.Content.{is_name, are_columns, names_clash}
-use Rattle.ft_content.specs.Views.{column_of}
 use Rattle.ft_content.proofs.Lists.{all_of_map}
+use Rattle.ft_documents.proofs.Common.{length-map, list_all, is_name, are_columns, names_clash, column_of}
 use Rattle.ft_documents.proofs.StandingContent.{tested}
-use Rattle.ft_documents.proofs.standing_rows.are_columns.Goals as goal
 use Rattle.ft_documents.proofs.standing_rows.are_columns.Goals.{then-are_names, else-are_names}
+use Rattle.ft_documents.proofs.standing_rows.are_columns.Goals as goal
 
 pub returns : goal.returns
 returns c =

@@ -1,10 +1,9 @@
 use Rattle.std.proofs.Common.{◌≡◌, ◌<◌, ◌+◌, ◌==◌, cond, map, drop, false, Some, None, sym, ap, subst, ◌∙◌, arith, rules, eq-eqb, FitsSigned, w64, to_z-of_z}
-use Rattle.std.proofs.lemmas.List.{drop_all}
-use Rattle.ft_documents.specs.Standing.{shown_row}
+use Rattle.ft_documents.proofs.Common.{drop_all, shown_row}
 use Rattle.ft_documents.proofs.Steps.{taken_more}
 use Rattle.ft_documents.proofs.StandingContent.{follow, next_place, apart, a_step, no_step, told}
-use Rattle.ft_documents.proofs.standing_rows.are_documents.Goals as goal
 use Rattle.ft_documents.proofs.standing_rows.are_documents.Goals.{then-place-width, else-place-width}
+use Rattle.ft_documents.proofs.standing_rows.are_documents.Goals as goal
 
 pub returns-then-not-follows : goal.returns-then-not-follows
 returns-then-not-follows c =

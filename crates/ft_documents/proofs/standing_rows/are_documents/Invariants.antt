@@ -1,6 +1,6 @@
 -- the cells that are left follow as all do
 use Rattle.std.proofs.Common.{◌≡◌, ◌<◌, map, drop, None}
-use Rattle.ft_documents.specs.Standing.{shown_row}
+use Rattle.ft_documents.proofs.Common.{shown_row}
 use Rattle.ft_documents.proofs.StandingContent.{follow}
 use Rattle.ft_documents.proofs.standing_rows.are_documents.Given as goal
 

@@ -1,6 +1,7 @@
 -- the columns that are left are numbered as all are
 use Rattle.std.proofs.Common.{◌≡◌, map, drop}
-use Rattle.ft_documents.specs.Standing.{numbered_column, numbered_from}
+use Rattle.ft_documents.proofs.Common.{numbered_column}
+use Rattle.ft_documents.specs.Standing.{numbered_from}
 use Rattle.ft_documents.proofs.standing_rows.are_numbered.Given as goal
 
 abbrev pub invariant-loop-place : goal.invariant-loop-place

@@ -1,12 +1,9 @@
 use Rattle.std.proofs.Common.{◌≡◌, ℕ, false, true, map, string_bytes, sym, ap, subst, ◌∙◌, int_eq}
-use Rattle.std.specs.Cmp.Lexicographic.{pointwise}
-use Rattle.std.proofs.lemmas.List.{length-map}
-use Rattle.ft_content.specs.Content.{are_columns}
-use Rattle.ft_content.specs.Views.{column_of}
-use Rattle.ft_documents.specs.Standing.{AreDocumentCells, listed_rows, shown_row, numbered_column, numbered_from}
+use Rattle.ft_documents.proofs.Common.{pointwise, length-map, are_columns, column_of, AreDocumentCells, listed_rows, shown_row, numbered_column}
+use Rattle.ft_documents.specs.Standing.{numbered_from}
 use Rattle.ft_documents.proofs.StandingContent.{content_of, parts_of, compared}
-use Rattle.ft_documents.proofs.standing_rows.is_content.Goals as goal
 use Rattle.ft_documents.proofs.standing_rows.is_content.Goals.{then-eq, else-eq}
+use Rattle.ft_documents.proofs.standing_rows.is_content.Goals as goal
 
 pub returns-then-not-are_numbered : goal.returns-then-not-are_numbered
 returns-then-not-are_numbered c = λ are.

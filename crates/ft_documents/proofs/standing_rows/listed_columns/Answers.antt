@@ -1,9 +1,6 @@
 -- one column more
 use Rattle.std.proofs.Common.{◌≡◌, ◌+◌, ◌++◌, ◌∷◌, [], not, map, take, sym, ap, ◌∙◌, int_eq}
-use Rattle.std.specs.List.{list_any}
-use Rattle.std.proofs.lemmas.List.{map-append, take_more}
-use Rattle.ft_content.specs.Views.{column_of}
-use Rattle.ft_documents.specs.Standing.{numbered_column}
+use Rattle.ft_documents.proofs.Common.{list_any, map-append, take_more, column_of, numbered_column}
 use Rattle.ft_documents.proofs.StandingContent.{column_in, turned_any}
 use Rattle.ft_documents.proofs.standing_rows.listed_columns.Goals as goal
 

@@ -1,7 +1,6 @@
 -- the columns so far
 use Rattle.std.proofs.Common.{◌≡◌, map, take}
-use Rattle.ft_content.specs.Views.{column_of}
-use Rattle.ft_documents.specs.Standing.{numbered_column}
+use Rattle.ft_documents.proofs.Common.{column_of, numbered_column}
 use Rattle.ft_documents.proofs.StandingContent.{column_in}
 use Rattle.ft_documents.proofs.standing_rows.listed_columns.Given as goal
 

@@ -1,11 +1,8 @@
 -- in the place that was found
 use Rattle.std.proofs.Common.{◌≡◌, ◌≤◌, Bool, not, map, length, unwrap_or, sym, ap, ◌∙◌, rules, int_lt, insert, remove, tests}
-use Rattle.std.specs.List.{position_or_len}
 use Rattle.std.proofs.lemmas.List.Sums.{prefix_len-le-length}
-use Rattle.std.proofs.lemmas.Iterator.{YieldsList-from_slice}
 use Rattle.std.proofs.lemmas.Iterator.Search.{position_from_yields_List}
-use Rattle.ft_values.specs.declared.table.TableInfo.{TableInfo}
-use Rattle.ft_content.specs.Views.{shown_info}
+use Rattle.ft_documents.proofs.Common.{position_or_len, YieldsList-from_slice, TableInfo, shown_info}
 use Rattle.ft_documents.proofs.TableListLemmas.{told_there, place_or_end, info_insert, taken_out}
 use Rattle.ft_documents.proofs.tables.insert_table.Goals as goal
 

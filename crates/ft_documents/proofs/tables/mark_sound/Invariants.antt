@@ -1,8 +1,7 @@
 -- the tables so far have their marks
 use Rattle.std.proofs.Common.{◌≡◌, map}
 use Rattle.ft_query.proofs.Sweeps.{swept}
-use Rattle.ft_content.specs.Views.{shown_info}
-use Rattle.ft_documents.specs.Found.{sound_if}
+use Rattle.ft_documents.proofs.Common.{shown_info, sound_if}
 use Rattle.ft_documents.proofs.tables.mark_sound.Given as goal
 
 abbrev pub invariant-loop-table : goal.invariant-loop-table

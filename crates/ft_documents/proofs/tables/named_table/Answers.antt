@@ -1,9 +1,8 @@
 -- by the place
 use Rattle.std.proofs.Common.{◌≡◌, None, Some, refl, sym, ap, ◌∙◌, rules}
-use Rattle.std.proofs.lemmas.Option.{slice_get_read, slice_get_within, same_Some}
 use Rattle.ft_values.specs.declared.table.TableInfo.{TableInfo as RustTableInfo}
-use Rattle.ft_content.specs.Content.{same_name}
-use Rattle.ft_content.specs.Views.{TableInfo, shown_info}
+use Rattle.ft_content.specs.Views.{TableInfo}
+use Rattle.ft_documents.proofs.Common.{slice_get_read, slice_get_within, same_Some, same_name, shown_info}
 use Rattle.ft_documents.proofs.FoundLemmas.{placed, unplaced}
 use Rattle.ft_documents.proofs.tables.named_table.Goals as goal
 

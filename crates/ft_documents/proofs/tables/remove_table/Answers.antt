@@ -1,9 +1,6 @@
 -- the tables that pass
 use Rattle.std.proofs.Common.{◌≡◌, not, List, [], ◌∷◌, map, cond, true, false, ℤ, refl, ap, ◌∙◌, rules, filter, int_eq}
-use Rattle.std.proofs.lemmas.Fn.{filter_same}
-use Rattle.ft_values.specs.declared.table.TableInfo.{TableInfo}
-use Rattle.ft_content.specs.Views.{shown_info}
-use Rattle.ft_documents.specs.Found.{without_info}
+use Rattle.ft_documents.proofs.Common.{filter_same, TableInfo, shown_info, without_info}
 use Rattle.ft_documents.proofs.tables.remove_table.Goals as goal
 
 info_without : (id : ℤ) (tables : List TableInfo) → map shown_info (filter (λ (t : TableInfo). not (int_eq id t.id)) tables) ≡ without_info id (map shown_info tables)

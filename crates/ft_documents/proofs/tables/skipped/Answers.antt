@@ -1,12 +1,10 @@
 -- one column more
 use Rattle.std.proofs.Common.{◌≡◌, append-nil, ℤ, ◌+◌, ◌<◌, ◌++◌, List, [], ◌∷◌, map, length, take, cond, pos, sym, ap, ◌∙◌, arith, rules, to_z, w64, Vec, Global, length-take-le}
-use Rattle.std.proofs.lemmas.List.{map-append, take_more, length-map}
 use Rattle.ft_values.specs.declared.table.Column.{Column}
-use Rattle.ft_content.specs.Content.{skipped_from}
-use Rattle.ft_content.specs.Views.{column_of}
+use Rattle.ft_documents.proofs.Common.{map-append, take_more, length-map, skipped_from, column_of}
 use Rattle.ft_documents.proofs.AddLemmas.{one_more_skipped}
-use Rattle.ft_documents.proofs.tables.skipped.Goals as goal
 use Rattle.ft_documents.proofs.tables.skipped.Goals.{then-not-column+in_ok-push, else-not-column}
+use Rattle.ft_documents.proofs.tables.skipped.Goals as goal
 
 pub loop-number-preserved : goal.loop-number-preserved
 loop-number-preserved c =

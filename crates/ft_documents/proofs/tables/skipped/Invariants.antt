@@ -1,7 +1,6 @@
 -- the numbers so far
 use Rattle.std.proofs.Common.{◌≡◌, map, take}
-use Rattle.ft_content.specs.Content.{skipped_from}
-use Rattle.ft_content.specs.Views.{column_of}
+use Rattle.ft_documents.proofs.Common.{skipped_from, column_of}
 use Rattle.ft_documents.proofs.tables.skipped.Given as goal
 
 abbrev pub invariant-loop-number : goal.invariant-loop-number

@@ -1,12 +1,7 @@
 -- each document's rewrite
 use Rattle.std.proofs.Common.{◌∙◌, rules}
-use Rattle.std.proofs.lemmas.Iterator.{YieldsList-from_map_by}
-use Rattle.std.proofs.lemmas.Iterator.Adapters.{YieldsList-from_vec}
-use Rattle.std.proofs.lemmas.Iterator.Consumers.{map_from_collect, YieldsList-at}
 use Rattle.sqlite_keyed.proofs.ListLemmas.{map-map}
-use Rattle.ft_documents.specs.Gathered.{shown_document}
-use Rattle.ft_documents.specs.Rewrite.{shown_rewrite}
-use Rattle.ft_documents.specs.NewDocuments.{new_rewrite}
+use Rattle.ft_documents.proofs.Common.{YieldsList-from_map_by, YieldsList-from_vec, map_from_collect, YieldsList-at, shown_document, shown_rewrite, new_rewrite}
 use Rattle.ft_documents.proofs.writes.additions.Goals as goal
 
 pub returns : goal.returns

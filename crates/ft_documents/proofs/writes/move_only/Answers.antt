@@ -1,11 +1,9 @@
 -- what leaves a docid stands by what comes under another, by rising docid
 use Rattle.std.proofs.Common.{◌≡◌, ℤ, ℕ, Bool, true, false, cond, List, [], ◌∷◌, ◌++◌, map, option_map, None, refl, sym, ap, subst, ◌∙◌, rules, to_z, of_z, w64, to_z-of_z, int_lt, insert, int_cmp, int_eq, is_lt}
 use mir.Val.{bool_byte}
-use Rattle.ft_content.specs.Views.{cells_of}
-use Rattle.ft_documents.specs.declared.rewrite.Rewrite as source
-use Rattle.ft_documents.specs.Rewrite.{shown_rewrite}
-use Rattle.ft_documents.specs.Updated.{leaving, coming, moved_from, MovesOnly}
+use Rattle.ft_documents.proofs.Common.{cells_of, shown_rewrite, leaving, coming, moved_from, MovesOnly}
 use Rattle.ft_documents.proofs.TableListLemmas.{less_is}
+use Rattle.ft_documents.specs.declared.rewrite.Rewrite as source
 use Rattle.ft_documents.proofs.writes.move_only.Goals as goal
 
 as_byte : (b : Bool) → bool_byte b ≡ cond b 1 0

@@ -1,19 +1,9 @@
 use Rattle.std.proofs.Common.{◌≡◌, ◌<◌, ◌≤◌, ◌+◌, ◌∷◌, [], true, false, cond, subst, map, option_map, drop, length, min, sym, ap, ◌∙◌, to_z-of_z, arith}
-use Rattle.std.proofs.lemmas.List.{length-map}
-use Rattle.std.proofs.lemmas.List.Elements.{All-nil, All-cons}
-use Rattle.ft_query.specs.Tokens.{tokens_of}
-use Rattle.ft_values.specs.Cells.{shown_value}
-use Rattle.ft_rows.specs.Store.{column_key_cmp}
-use Rattle.ft_content.specs.Content.{cell_text}
-use Rattle.ft_content.specs.Index.{cell_tokens, document_tokens}
-use Rattle.ft_content.specs.Views.{cells_of, column_of}
-use Rattle.ft_documents.specs.Rewrite.{document_if}
-use Rattle.ft_documents.specs.MadeIndex.{AddsDocuments, lists_in, sizes_in}
-use Rattle.ft_documents.specs.RewriteRows.{with_entries, cell_entries, cell_sizes, sized, all_put, IsShortNumber, AreShortNumbers}
+use Rattle.ft_documents.proofs.Common.{length-map, All-nil, All-cons, tokens_of, shown_value, column_key_cmp, cell_text, cell_tokens, document_tokens, cells_of, column_of, document_if, AddsDocuments, lists_in, sizes_in, with_entries, cell_entries, cell_sizes, sized, all_put, IsShortNumber, AreShortNumbers}
 use Rattle.ft_documents.proofs.Steps.{mapped_more}
 use Rattle.ft_documents.proofs.IndexOf.{entries_from, sizes_from, lists_more, sizes_more, none_left}
-use Rattle.ft_documents.proofs.document_index.DocumentIndex.add.Goals as goal
 use Rattle.ft_documents.proofs.document_index.DocumentIndex.add.Goals.{then-columns-place+in_ok-add_cell, else-columns-place}
+use Rattle.ft_documents.proofs.document_index.DocumentIndex.add.Goals as goal
 
 pub loop-place-preserved : goal.loop-place-preserved
 loop-place-preserved c =

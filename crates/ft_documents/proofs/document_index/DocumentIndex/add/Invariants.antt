@@ -1,10 +1,5 @@
 use Rattle.std.proofs.Common.{◌≡◌, [], ◌∷◌, map, drop}
-use Rattle.ft_values.specs.Cells.{shown_value}
-use Rattle.ft_rows.specs.Store.{column_key_cmp}
-use Rattle.ft_content.specs.Index.{document_tokens}
-use Rattle.ft_content.specs.Views.{column_of}
-use Rattle.ft_documents.specs.MadeIndex.{lists_in, sizes_in}
-use Rattle.ft_documents.specs.RewriteRows.{with_entries, all_put, lists_joined_by, sizes_with, AreShortNumbers}
+use Rattle.ft_documents.proofs.Common.{shown_value, column_key_cmp, document_tokens, column_of, lists_in, sizes_in, with_entries, all_put, lists_joined_by, sizes_with, AreShortNumbers}
 use Rattle.ft_documents.proofs.IndexOf.{entries_from, sizes_from}
 use Rattle.ft_documents.proofs.document_index.DocumentIndex.add.Given as goal
 

@@ -1,9 +1,5 @@
 use Rattle.std.proofs.Common.{◌≡◌, ◌<◌, ◌^◌, pos, rules, length, refl, ap, ◌∙◌, to_z, of_z, to_z-of_z, w64, arith}
-use Rattle.ft_query.specs.Tokens.{tokens_of}
-use Rattle.ft_documents.specs.MadeIndex.{lists_in}
-use Rattle.ft_documents.specs.RewriteRows.{with_entries, cell_entries}
-use Rattle.std.specs.FinMap.Entries.{put}
-use Rattle.ft_rows.specs.Store.{column_key_cmp}
+use Rattle.ft_documents.proofs.Common.{tokens_of, lists_in, with_entries, cell_entries, put, column_key_cmp}
 use Rattle.ft_documents.proofs.IndexOf.{few_tokens, insert_put, size_some}
 use Rattle.ft_documents.proofs.document_index.DocumentIndex.add_cell.Goals as goal
 

@@ -1,9 +1,5 @@
 use Rattle.std.proofs.Common.{◌≡◌, ◌+◌, length}
-use Rattle.ft_query.specs.Tokens.{tokens_of}
-use Rattle.ft_values.specs.Cells.{shown_value}
-use Rattle.ft_content.specs.Content.{cell_text}
-use Rattle.ft_documents.specs.RewriteRows.{with_entries, cell_entries}
-use Rattle.ft_documents.specs.MadeIndex.{lists_in, sizes_in}
+use Rattle.ft_documents.proofs.Common.{tokens_of, shown_value, cell_text, with_entries, cell_entries, lists_in, sizes_in}
 use Rattle.ft_documents.proofs.document_index.DocumentIndex.add_cell.Given as goal
 
 -- the tokens so far are in the lists, and the others join them

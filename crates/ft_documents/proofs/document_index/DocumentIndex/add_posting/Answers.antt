@@ -1,5 +1,5 @@
 use Rattle.std.proofs.Common.{◌++◌, ◌∷◌, [], refl, ap, subst, ◌∙◌, cond, Some, String, rules, IsSome, Global, string_eq}
-use Rattle.std.specs.Map.{lookup}
+use Rattle.ft_documents.proofs.Common.{lookup}
 use Rattle.ft_documents.proofs.TermOrder.{held, posting_joins}
 use Rattle.ft_documents.proofs.document_index.DocumentIndex.add_posting.Goals as goal
 

@@ -1,24 +1,13 @@
 -- the docid of the row is new, or refused
 use Rattle.std.proofs.Common.{◌≡◌, inl, inr, ℤ, Bool, List, Vec, Global, None, Some, Ok, Err, map, zip, Option, Result, FitsSigned, w64, to_z, of_z, to_z-of_z, sym, ap, subst, ◌∙◌, rules, slice_get, is_some, IfSome, MatchOption, int_cmp, is_eq}
-use Rattle.std.specs.List.{AllByRecursion}
-use Rattle.std.specs.Map.{lookup}
-use Rattle.std.specs.Cmp.{int_cmp_total}
-use Rattle.std.specs.FinMap.Entries.{find, put, is_sorted, is_sorted-put}
-use Rattle.std.proofs.lemmas.Map.Lookups.{exact_signed}
-use Rattle.ft_values.specs.declared.rows.Value.{Value}
-use Rattle.ft_values.specs.Cells.{Cell, shown_value}
-use Rattle.ft_values.specs.declared.fault.Fault.{Fault}
-use Rattle.ft_content.specs.Content.{Documents}
-use Rattle.ft_content.specs.Deserved as deserved
-use Rattle.ft_content.specs.Views.{cells_of, column_of, placed, last_docid}
-use Rattle.ft_documents.specs.NewDocuments.{shown_new, shown_documents, with_new, AreBeside, Places}
-use Rattle.ft_documents.specs.RewriteRows.{all_put}
 use Rattle.sqlite_keyed.proofs.SliceLemmas.{is_some-map}
+use Rattle.ft_documents.proofs.Common.{AllByRecursion, lookup, int_cmp_total, find, put, is_sorted, is_sorted-put, exact_signed, Value, Cell, shown_value, Fault, Documents, cells_of, column_of, placed, last_docid, shown_new, shown_documents, with_new, AreBeside, Places, all_put}
 use Rattle.ft_documents.proofs.KeyedRows.{find_looked_up, keys_put, true_of, of_true, find-values, sorted_put}
 use Rattle.ft_documents.proofs.IndexOf.{insert_put}
 use Rattle.ft_documents.proofs.InsertRows.{taken_is, row_is_new, put_shown, all_put_more, not_stored}
-use Rattle.ft_documents.proofs.new_documents.NewDocuments.add.Goals as goal
 use Rattle.ft_documents.proofs.new_documents.NewDocuments.add.Goals.{then-is_stored, else-is_stored, After-docid_for_row}
+use Rattle.ft_content.specs.Deserved as deserved
+use Rattle.ft_documents.proofs.new_documents.NewDocuments.add.Goals as goal
 
 is_there : (entries : List (ℤ × Vec Value Global)) (docid : ℤ) (b : Bool) → FitsSigned w64 docid → b ≡ is_some (lookup (λ k. is_eq (int_cmp (to_z w64 (of_z w64 docid)) k)) entries) → b ≡ is_some (find int_cmp docid (map shown_new entries))
 is_there entries docid b fits is =

@@ -1,10 +1,7 @@
 -- each document's rewrite
 use Rattle.std.proofs.Common.{rules}
-use Rattle.std.proofs.lemmas.Iterator.{YieldsList-from_map_by}
-use Rattle.std.proofs.lemmas.Iterator.Consumers.{map_from_collect, YieldsList-at, YieldsList-from_rest}
 use Rattle.sqlite_keyed.proofs.ListLemmas.{map-map}
-use Rattle.ft_documents.specs.Rewrite.{shown_rewrite}
-use Rattle.ft_documents.specs.NewDocuments.{shown_new, new_rewrite}
+use Rattle.ft_documents.proofs.Common.{YieldsList-from_map_by, map_from_collect, YieldsList-at, YieldsList-from_rest, shown_rewrite, shown_new, new_rewrite}
 use Rattle.ft_documents.proofs.new_documents.NewDocuments.into_rewrites.Goals as goal
 
 pub returns : goal.returns
