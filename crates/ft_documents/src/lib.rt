@@ -5,7 +5,6 @@
 mod document_index;
 mod documents;
 mod hits;
-mod index_changes;
 mod lists;
 mod new_documents;
 mod rewrite;

@@ -1,19 +1,12 @@
 //! Index rows, as lists of places by document.
 ghost use Rattle.std.specs.Prelude.{◌≡◌, map, IfOk, OnOk, IsPermutation, IsSorted};
 ghost use Rattle.ft_query.specs.Documents.{plain_list};
-ghost use Rattle.ft_documents.specs.Placed.{place_of, list_of, all_in, posting_cmp, is_before, is_in_order, are_in_order, AreListsOf};
+ghost use Rattle.ft_documents.specs.Placed.{list_of, all_in, posting_cmp, is_before, is_in_order, are_in_order, AreListsOf};
 
 use ft_query::{DocList, Place};
 use ft_rows::{Posting, lists_of};
 use ft_values::{ListRow, Spot};
 use std::alloc::{AllocError, Global};
-
-// The place of a spot.
-fn place_of(spot: &Spot) -> Place
-    ensures { result ≡ place_of spot.now }
-{
-    Place::new(spot.column, spot.pos, spot.place, spot.size)
-}
 
 // ---- rows in order, each a list
 
@@ -28,8 +21,7 @@ fn is_before(one: &Spot, other: &Spot) -> bool
 fn is_in_order(row: &ListRow) -> bool
     ensures { result ≡ is_in_order row.now }
 {
-    let spots = row.spots.as_slice();
-    !spots.is_empty() && spots.is_sorted_by(|one, other| is_before(one, other))
+    !row.spots.is_empty() && row.spots.is_sorted_by(|one, other| is_before(one, other))
 }
 
 // Whether rows stand by rising docid, each with places in order.
@@ -47,7 +39,9 @@ fn row_lists(alloc: Global, rows: Vec<ListRow>) -> Result<Vec<DocList>, AllocErr
     let mut lists = Vec::with_capacity(alloc, rows.len())?;
     for row in rows {
         let mut places = Vec::with_capacity(alloc, row.spots.len())?;
-        places.extend(row.spots.iter().map(|spot| place_of(spot)))?;
+        places.extend(
+            row.spots.iter().map(|spot| Place::new(spot.column, spot.pos, spot.place, spot.size)),
+        )?;
         lists.push(DocList::new(row.docid, places))?;
     }
     Ok(lists)

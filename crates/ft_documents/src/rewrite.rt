@@ -1,21 +1,24 @@
 //! Documents that are written anew, as row changes, and in groups.
-ghost use Rattle.std.specs.Prelude.{◌≡◌, ◌++◌, ◌≤◌, ◌-◌, ◌^◌, min, map, option_map, length, All, IsTrue, IfOk, OnOk};
-ghost use Rattle.std.specs.Ordering.{int_cmp};
-ghost use Rattle.std.specs.FinMap.Entries.{is_sorted};
+ghost use Rattle.std.specs.Prelude.{◌≡◌, ◌++◌, ◌≤◌, ◌-◌, ◌^◌, min, map, option_map, length, string_bytes, All, IsTrue, IfOk, OnOk};
+ghost use Rattle.std.specs.Ordering.{int_cmp, int_eq};
+ghost use Rattle.std.specs.FinMap.Entries.{find, is_sorted};
 ghost use Rattle.ft_values.specs.Cells.{shown_value};
 ghost use Rattle.ft_rows.specs.Changes.{shown_change, CanApply};
+ghost use Rattle.ft_rows.specs.Store.{column_key_cmp};
+ghost use Rattle.ft_content.specs.Index.{key_cmp};
 ghost use Rattle.ft_content.specs.Views.{cells_of, column_of};
 ghost use Rattle.ft_documents.specs.Tables.{IsOfDocids};
 ghost use Rattle.ft_documents.specs.Rewrite.{shown_rewrite, rewritten_docids, under_docids, AreRight, AreNew, FitIfAny, IsSmall};
 ghost use Rattle.ft_documents.specs.Rewrite as texts;
+ghost use Rattle.ft_documents.specs.Terms.{kept_list, lists_of_term, lists_in_groups};
 ghost use Rattle.std.specs.Vec.{vec_items};
 ghost use Rattle.std.specs.List.{flat_map};
 ghost use Rattle.ft_documents.specs.RewriteRows as rows;
 
-use crate::document_index::DocumentIndex;
-use crate::index_changes::{drop_lists, drop_sizes, posting_lists, put_lists, put_sizes};
+use crate::document_index::{DocumentIndex, Sizes, Terms, term_lists};
 use ft_content::{Column, Value};
-use ft_values::RowChange;
+use ft_rows::{TermLists, lists_of};
+use ft_values::{RowChange, Spot};
 use std::alloc::{AllocError, Global};
 
 /// A document that is written anew: the cells that it had, if it was there, and those that it gets,
@@ -73,15 +76,10 @@ pub fn row_changes(
         }
     }
     put_documents(alloc, &mut changes, tab, rewrites)?;
-    let old_lists = posting_lists(alloc, old.terms)?;
-    let new_lists = posting_lists(alloc, new.terms)?;
-    drop_lists(
-        &mut changes,
-        tab,
-        old_lists.as_slice(),
-        new_lists.as_slice(),
-    )?;
-    put_lists(&mut changes, tab, old_lists.as_slice(), new_lists)?;
+    let before = posting_lists(alloc, old.terms)?;
+    let after = posting_lists(alloc, new.terms)?;
+    drop_lists(&mut changes, tab, before.as_slice(), after.as_slice())?;
+    put_lists(&mut changes, tab, before.as_slice(), after)?;
     drop_sizes(&mut changes, tab, &old.sizes, &new.sizes)?;
     put_sizes(&mut changes, tab, &old.sizes, &new.sizes)?;
     Ok(changes)
@@ -125,6 +123,116 @@ fn put_cells(
     }
     Ok(())
 }
+
+// ---- from one index of documents to another
+
+// A posting list under its term and docid.
+type List = ((String, i64), Vec<Spot>);
+
+// Row changes that are made.
+type Changes = Vec<RowChange>;
+
+// The posting lists of terms, by rising terms and then docids.
+fn posting_lists(alloc: Global, terms: Terms) -> Result<Vec<List>, AllocError>
+    ensures { IfOk result (λ lists. map kept_list lists.items ≡ lists_in_groups terms.entries) }
+{
+    let mut lists = Vec::new(alloc);
+    for term in term_lists(alloc, terms)? {
+        add_lists(alloc, &mut lists, &term)?;
+    }
+    Ok(lists)
+}
+
+// Adds the posting lists of a term.
+fn add_lists(alloc: Global, lists: &mut Vec<List>, term: &TermLists) -> Result<(), AllocError>
+    ensures { OnOk result (map kept_list lists.new.items ≡ map kept_list lists.old.items
+        ++ lists_of_term (string_bytes term.now.term) term.now.postings.items) }
+{
+    for list in lists_of(alloc, term.postings.as_slice())? {
+        lists.push(((term.term.clone()?, list.docid), list.spots))?;
+    }
+    Ok(())
+}
+
+// Whether exactly this list is among those of an index.
+fn has_list(lists: &[List], list: &List) -> bool
+    requires { IsTrue (is_sorted key_cmp (map kept_list lists.now)) }
+    ensures { result ≡ rows.was_there rows.same_spots (find key_cmp (kept_list list.now).0
+        (map kept_list lists.now)) (kept_list list.now).1 }
+{
+    match lists.binary_search_by(|other| other.0.cmp(&list.0)) {
+        Ok(place) => lists[place].1 == list.1,
+        Err(_) => false,
+    }
+}
+
+// Drops the lists that the new ones have not, or have otherwise.
+fn drop_lists(changes: &mut Changes, tab: i64, old: &[List], new: &[List]) -> Result<(), AllocError>
+    requires { IsTrue (is_sorted key_cmp (map kept_list new.now)) }
+    ensures { OnOk result (map shown_change changes.new.items
+        ≡ map shown_change changes.old.items ++ rows.dropped_lists tab
+        (rows.changed key_cmp rows.same_spots (map kept_list new.now)
+        (map kept_list old.now))) }
+{
+    for list in old {
+        if !has_list(new, list) {
+            changes.push(RowChange::DropEntries(tab, list.0.0.clone()?, list.0.1))?;
+        }
+    }
+    Ok(())
+}
+
+// Puts the lists that are new or differ. They are moved into the changes.
+fn put_lists(
+    changes: &mut Changes,
+    tab: i64,
+    old: &[List],
+    new: Vec<List>,
+) -> Result<(), AllocError>
+    requires { IsTrue (is_sorted key_cmp (map kept_list old.now)) }
+    ensures { OnOk result (map shown_change changes.new.items
+        ≡ map shown_change changes.old.items ++ rows.put_lists tab
+        (rows.changed key_cmp rows.same_spots (map kept_list old.now)
+        (map kept_list new.items))) }
+{
+    for list in new {
+        if !has_list(old, &list) {
+            let ((term, docid), spots) = list;
+            changes.push(RowChange::PutEntries(tab, term, docid, spots))?;
+        }
+    }
+    Ok(())
+}
+
+// Drops the sizes that the new ones have not.
+fn drop_sizes(changes: &mut Changes, tab: i64, old: &Sizes, new: &Sizes) -> Result<(), AllocError>
+    ensures { OnOk result (map shown_change changes.new.items
+        ≡ map shown_change changes.old.items ++ rows.dropped_sizes tab
+        (rows.gone column_key_cmp old.now.entries new.now.entries)) }
+{
+    for (key, _n) in old.iter() {
+        if !new.contains_key(key) {
+            changes.push(RowChange::DropSize(tab, key.0, key.1))?;
+        }
+    }
+    Ok(())
+}
+
+// Puts the sizes that are new or differ.
+fn put_sizes(changes: &mut Changes, tab: i64, old: &Sizes, new: &Sizes) -> Result<(), AllocError>
+    ensures { OnOk result (map shown_change changes.new.items
+        ≡ map shown_change changes.old.items ++ rows.put_sizes tab
+        (rows.changed column_key_cmp int_eq old.now.entries new.now.entries)) }
+{
+    for (key, n) in new.iter() {
+        if old.get(key) != Some(n) {
+            changes.push(RowChange::PutSize(tab, key.0, key.1, *n))?;
+        }
+    }
+    Ok(())
+}
+
+// ---- in groups
 
 /// With so many bytes of text a group is full.
 const GROUP_BYTES: usize = 524_288;

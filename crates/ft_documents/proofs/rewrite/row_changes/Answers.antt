@@ -48,10 +48,10 @@ in_order : (lists : List (Key × List Spot)) (gs : List Group) → lists ≡ lis
 in_order lists gs is = subst (λ ls. IsTrue (is_sorted key_cmp ls)) (sym is) (sorted_joined (flat_map group_spots gs) [] refl)
 
 pub drop_lists-requires : goal.drop_lists-requires
-drop_lists-requires c = in_order (map kept_list c.as_slice-2.result.now) c.loop-rewrite.new.terms.entries (ap (map kept_list) c.as_slice-2.ensures.value ∙ c.in_ok-new_lists.ensures)
+drop_lists-requires c = in_order (map kept_list c.as_slice-2.result.now) c.loop-rewrite.new.terms.entries (ap (map kept_list) c.as_slice-2.ensures.value ∙ c.in_ok-after.ensures)
 
 pub put_lists-requires : goal.put_lists-requires
-put_lists-requires c = in_order (map kept_list c.as_slice-3.result.now) c.loop-rewrite.old.terms.entries (ap (map kept_list) c.as_slice-3.ensures.value ∙ c.in_ok-old_lists.ensures)
+put_lists-requires c = in_order (map kept_list c.as_slice-3.result.now) c.loop-rewrite.old.terms.entries (ap (map kept_list) c.as_slice-3.ensures.value ∙ c.in_ok-before.ensures)
 
 pub returns : goal.returns
 unfolding rewrite_changes
@@ -66,8 +66,8 @@ returns c =
     let none : map shown_rewrite (drop c.loop-rewrite.rewrite-index c.args.rewrites.items) ≡ [] = ap (map shown_rewrite) (drop_all c.loop-rewrite.rewrite-index c.args.rewrites.items past) in
     let first : IsIndexOf columns (befores rewrites) old = all_joined columns _ (befores rewrites) old (ap befores none) so_far.0 in
     let last : IsIndexOf columns (afters rewrites) new = all_joined columns _ (afters rewrites) new (ap afters none) so_far.1 in
-    let olds : map kept_list c.in_ok-old_lists.old_lists.items ≡ index_lists_of columns (befores rewrites) = c.in_ok-old_lists.ensures ∙ first.lists in
-    let news : map kept_list c.in_ok-new_lists.new_lists.items ≡ index_lists_of columns (afters rewrites) = c.in_ok-new_lists.ensures ∙ last.lists in
+    let olds : map kept_list c.in_ok-before.before.items ≡ index_lists_of columns (befores rewrites) = c.in_ok-before.ensures ∙ first.lists in
+    let news : map kept_list c.in_ok-after.after.items ≡ index_lists_of columns (afters rewrites) = c.in_ok-after.ensures ∙ last.lists in
     let gone_now = map shown_change c.loop-rewrite.changes.items in
     let made = map shown_change c.put_sizes.new.changes.items in
     let plan : made ≡ rewrite_changes c.args.tab columns rewrites = six_pieces [] gone_now _ _ _ _ _ _ _ _ _ _ _ refl

@@ -2,7 +2,7 @@ use Rattle.std.proofs.Common.{◌≡◌, ◌++◌, ◌∷◌, [], cond, not, map
 use Rattle.ft_documents.proofs.Common.{find, column_key_cmp, PutSize, shown_change, was_there, changed, put_sizes}
 use Rattle.ft_documents.proofs.Steps.{kept_more, change_more}
 use Rattle.ft_documents.proofs.KeyedRows.{held_size}
-use Rattle.ft_documents.proofs.index_changes.put_sizes.Goals as goal
+use Rattle.ft_documents.proofs.rewrite.put_sizes.Goals as goal
 
 pub loop-key-preserved-in-Continue-1 : goal.loop-key-preserved-in-Continue-1
 loop-key-preserved-in-Continue-1 c =

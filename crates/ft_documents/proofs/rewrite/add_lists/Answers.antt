@@ -1,7 +1,7 @@
 -- one list more
 use Rattle.std.proofs.Common.{◌++◌, ◌∷◌, [], map, string_bytes, sym, ap, ◌∙◌, append_assoc, ◌≡◌, rules, to_z, of_z, w64}
 use Rattle.ft_documents.proofs.Common.{map-append, shown_list, under_term, kept_list}
-use Rattle.ft_documents.proofs.index_changes.add_lists.Goals as goal
+use Rattle.ft_documents.proofs.rewrite.add_lists.Goals as goal
 
 pub loop-list-preserved : goal.loop-list-preserved
 loop-list-preserved c =

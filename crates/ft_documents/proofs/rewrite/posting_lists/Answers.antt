@@ -1,7 +1,7 @@
 -- one term more
 use Rattle.std.proofs.Common.{◌++◌, ◌∷◌, [], string_bytes, sym, ap, ◌∙◌, append-nil, rules, map-id}
 use Rattle.ft_documents.proofs.Common.{YieldsList-from_vec, YieldsList-end, flat_map-append, TermLists, lists_of_term, lists_of_terms}
-use Rattle.ft_documents.proofs.index_changes.posting_lists.Goals as goal
+use Rattle.ft_documents.proofs.rewrite.posting_lists.Goals as goal
 
 pub loop-term-preserved : goal.loop-term-preserved
 loop-term-preserved c =

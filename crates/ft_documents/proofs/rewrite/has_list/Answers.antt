@@ -3,7 +3,7 @@ use Rattle.std.proofs.Common.{◌≡◌, Some, map, sym, ap, subst, ◌∙◌, r
 use Rattle.ft_content.proofs.IndexLemmas.{key_cmp_total}
 use Rattle.ft_documents.proofs.Common.{find, IsBinarySearchResult, always_returns_same, key_cmp, kept_list, same_spots, was_there}
 use Rattle.ft_documents.proofs.ListSearch.{row_is, no_row}
-use Rattle.ft_documents.proofs.index_changes.has_list.Goals as goal
+use Rattle.ft_documents.proofs.rewrite.has_list.Goals as goal
 
 pub returns-in-Ok : goal.returns-in-Ok
 returns-in-Ok c =
