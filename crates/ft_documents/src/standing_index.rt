@@ -5,7 +5,7 @@ ghost use Rattle.ft_content.specs.Views.{column_of};
 ghost use Rattle.ft_documents.specs.Standing as standing;
 
 use crate::document_index::{DocumentIndex, Sizes, term_lists};
-use crate::documents::{Document, gathered};
+use crate::documents::gathered;
 use ft_content::Column;
 use ft_rows::TermLists;
 use ft_values::{CellRow, SizeRow};
@@ -43,8 +43,7 @@ pub fn index_lists(
 {
     let mut index = DocumentIndex::new(alloc);
     for document in gathered(alloc, cells)? {
-        let Document { docid, cells } = document;
-        index.add(columns, docid, &Some(cells))?;
+        index.add(columns, document.docid, &Some(document.cells))?;
     }
     if !are_sizes(&index.sizes, sizes) {
         return Ok(None);

@@ -47,9 +47,8 @@ pub fn update_rewrites(
 {
     let mut rewrites = Vec::new(alloc);
     for document in documents {
-        let Document { docid, cells } = document;
-        let after = with_values(alloc, columns, sets, cells.as_slice())?;
-        rewrites.push(Rewrite::new(docid, Some(cells), Some(after)))?;
+        let after = with_values(alloc, columns, sets, document.cells.as_slice())?;
+        rewrites.push(Rewrite::new(document.docid, Some(document.cells), Some(after)))?;
     }
     if let Some(docid) = given {
         move_only(&mut rewrites, docid)?;

@@ -1,7 +1,5 @@
 //! Postings by their terms.
 ghost use Rattle.std.specs.Prelude.{◌≡◌, map, IfOk};
-ghost use Rattle.std.specs.List.{prefix_len};
-ghost use Rattle.std.specs.Ordering.{int_eq};
 ghost use Rattle.ft_rows.specs.Shown.{shown_list};
 ghost use Rattle.ft_rows.specs.Terms.{AreFirstList, lists_of_postings};
 
@@ -27,16 +25,9 @@ pub struct TermLists {
 pub fn first_list(postings: &[Posting]) -> usize
     ensures { AreFirstList postings.now result }
 {
-    match postings.first() {
-        Some(first) => count_with(first, postings),
-        None => 0,
-    }
-}
-
-// How many of the first postings are in the document of this one.
-fn count_with(first: &Posting, postings: &[Posting]) -> usize
-    ensures { result ≡ prefix_len (λ p. int_eq p.docid first.now.docid) postings.now }
-{
+    let Some(first) = postings.first() else {
+        return 0;
+    };
     let docid = first.docid;
     postings.iter().take_while(|p| p.docid == docid).count()
 }
