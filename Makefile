@@ -24,7 +24,7 @@ all: demo
 # Proves the program and the crates below it, and builds it.
 build:
 	$(side_by_side) $(addprefix prove-,$(call below,ft_main))
-	cd crates/ft_main && $(RT) run < stdin > /dev/null
+	cd crates/ft_main && $(RT) run --jobs $(RT_JOBS) < stdin > /dev/null
 	mkdir -p bin
 	cp crates/ft_main/out/ft_main bin/ft4sh
 
