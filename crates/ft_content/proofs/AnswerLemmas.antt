@@ -1,13 +1,6 @@
 -- Rows of an answer.
 use Rattle.std.proofs.Common.{◌≡◌, ℕ, zero, suc, false, List, [], ◌∷◌, ◌++◌, map, take, drop, Option, Some, None, ℤ, refl, ap, ◌∙◌}
-use Rattle.std.specs.List.{list_any, flat_map}
-use Rattle.ft_query.specs.Trees.{Tree}
-use Rattle.ft_values.specs.Cells.{Cell}
-use Rattle.ft_content.specs.Content.{Content}
-use Rattle.ft_content.specs.Command.{Item, AllColumns, Named, OffsetsOf}
-use Rattle.ft_content.specs.Answer.{cells_with, item_cells, offsets_cell, cut}
-use Rattle.ft_content.specs.Deserved.{is_offsets}
-use Rattle.ft_content.specs.Laws.{RowsAreCutFirst}
+use Rattle.ft_content.proofs.Common.{list_any, flat_map, Tree, Cell, Content, Item, AllColumns, Named, OffsetsOf, cells_with, item_cells, offsets_cell, cut, is_offsets, RowsAreCutFirst}
 
 -- the cells of items are those with the offsets of the query
 pub item_cells_are : (query : Option Tree) (content : Content) (document : ℤ × List Cell) (items : List Item) →

@@ -1,9 +1,6 @@
 -- Columns by their names.
-use Rattle.std.proofs.Common.{◌≡◌, ℕ, Bool, List, map, string_bytes, ◌∙◌}
-use Rattle.std.specs.Prelude.{position}
-use Rattle.ft_content.specs.Content.{names_of}
-use Rattle.ft_values.specs.declared.table.Column.{Column}
-use Rattle.ft_content.specs.Views.{column_of}
+use Rattle.std.proofs.Common.{◌≡◌, ℕ, Bool, List, map, string_bytes, ◌∙◌, position}
+use Rattle.ft_content.proofs.Common.{names_of, Column, column_of}
 use Rattle.ft_content.proofs.Lists.{position_of_map, map_of_map}
 
 pub position_of_names : (p : List ℕ → Bool) (columns : List Column) → position p (names_of (map column_of columns)) ≡ position (λ (c : Column). p (string_bytes c.name)) columns

@@ -1,16 +1,13 @@
 -- Commands with their answers and what they leave, computed from the definitions.
-use Rattle.std.specs.Prelude.{◌≡◌, ℕ, true, false, List, [], ◌∷◌, ◌++◌, Option, Some, None, Result, Ok, Err, ℤ, pos, negsuc, codes, refl}
+use Rattle.std.proofs.Common.{◌≡◌, ℕ, true, false, List, [], ◌∷◌, ◌++◌, Option, Some, None, Result, Ok, Err, ℤ, pos, negsuc, codes, refl}
 use Rattle.std.specs.Fmt.{digits}
-use Rattle.ft_values.specs.declared.fault.Fault.{Fault}
-use Rattle.ft_values.specs.declared.fault.Fault.TheVariants as faults
 use Rattle.ft_query.specs.Reads.{query_of}
-use Rattle.ft_values.specs.Cells.{Cell, Null, Int, Text}
-use Rattle.ft_content.specs.Content.{Content}
-use Rattle.ft_content.specs.Index.{EntryRow, SizeRow, size_row, entries, spot_lists, sizes, index_rows, entry_rows}
-use Rattle.ft_content.specs.Command.{Filter, All, Docid, Match, Item, AllColumns, Named, OffsetsOf, Counted, Listed, Command, Create, Drop, Insert, Update, Delete, Select, Rebuild, Check, Optimize, Reply, Done, Rows}
+use Rattle.ft_content.proofs.Common.{Fault, Cell, Null, Int, Text, Content, EntryRow, SizeRow, size_row, entry_rows, Filter, All, Docid, Match, Item, AllColumns, Named, OffsetsOf, Counted, Listed, Command, Create, Drop, Insert, Update, Delete, Select, Rebuild, Check, Optimize, Reply, Done, Rows, TableState, Sound, Stale, Loose, Contents}
+use Rattle.ft_content.specs.Index.{entries, spot_lists, sizes, index_rows}
 use Rattle.ft_content.specs.Answer.{reading, chosen, answer}
-use Rattle.ft_content.specs.Deserved.{TableState, Sound, Stale, Loose, Contents, inserted_rows, deserved}
+use Rattle.ft_content.specs.Deserved.{inserted_rows, deserved}
 use Rattle.ft_content.specs.Step.{after, reply_to, step}
+use Rattle.ft_values.specs.declared.fault.Fault.TheVariants as faults
 
 -- the contents after commands, and what they are answered
 abbrev pub after_all : Contents → List Command → Contents

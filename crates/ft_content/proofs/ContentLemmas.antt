@@ -1,21 +1,11 @@
 -- What a command makes of a content is a content.
-use Rattle.std.proofs.Common.{◌≡◌, ℕ, suc, pred, Bool, true, false, cond, not, T, ◌&&◌, ◌||◌, List, [], ◌∷◌, map, length, ◌==◌, Option, Some, None, Result, Ok, Err, ℤ, refl, sym, ap, subst, ◌∙◌, eqb-true, eq-eqb, le-leb, nat_lt, nat_le}
-use Rattle.std.specs.Prelude.{filter, zip, unwrap_or, option_map}
-use Rattle.std.specs.List.{list_any, list_all, find}
-use Rattle.std.specs.declared.cmp.Ordering.TheVariants.{Less, Equal, Greater}
-use Rattle.std.specs.Ordering.{int_cmp, int_eq, is_lt}
-use Rattle.std.specs.Cmp.{int_cmp_total}
-use Rattle.std.specs.FinMap.{int_cmp-IsAntisymmetric}
-use Rattle.std.specs.FinMap.Entries.{by_order, put, below_all, is_sorted, is_sorted-put, is_sorted-where_key}
-use Rattle.std.proofs.lemmas.Bool.{and_parts, and_from, ltb-false}
-use Rattle.ft_values.specs.declared.fault.Fault.{Fault}
+use Rattle.std.proofs.Common.{◌≡◌, ℕ, suc, pred, Bool, true, false, cond, not, T, ◌&&◌, ◌||◌, List, [], ◌∷◌, map, length, ◌==◌, Option, Some, None, Result, Ok, Err, ℤ, refl, sym, ap, subst, ◌∙◌, eqb-true, eq-eqb, le-leb, nat_lt, nat_le, filter, zip, unwrap_or, option_map}
+use Rattle.std.specs.List.{find}
+use Rattle.ft_content.proofs.Common.{list_any, list_all, Less, Equal, Greater, int_cmp, int_eq, is_lt, int_cmp_total, int_cmp-IsAntisymmetric, by_order, put, below_all, is_sorted, is_sorted-put, is_sorted-where_key, and_parts, and_from, ltb-false, Fault, Cell, Null, Documents, same_name, is_name, names_of, names_clash, is_too_long, has_nul, is_cell, is_document, is_chosen, or_else, listed_columns, docids_named, value_under, with_values, new_cells, next_docid, append_document, insert_row, then_rows, has_docid, without_docid, made_column, moved, inserted_into, InsertKeepsContent, UpdateKeepsContent, DeleteKeepsContent, CreateMakesContent}
+use Rattle.ft_content.specs.Content.{Column}
+use Rattle.ft_content.specs.Answer.{chosen}
+use Rattle.ft_content.specs.Deserved.{inserted_rows}
 use Rattle.ft_values.specs.declared.fault.Fault.TheVariants as faults
-use Rattle.ft_values.specs.Cells.{Cell, Null}
-use Rattle.ft_content.specs.Content.{Column, Documents, same_name, is_name, names_of, names_clash, is_too_long, has_nul, is_cell, is_document}
-use Rattle.ft_content.specs.Answer.{is_chosen, chosen}
-use Rattle.ft_content.specs.Deserved.{or_else, listed_columns, docids_named, value_under, with_values, new_cells, next_docid, append_document, insert_row, inserted_rows, then_rows, has_docid}
-use Rattle.ft_content.specs.Step.{without_docid, made_column, moved, inserted_into}
-use Rattle.ft_content.specs.Laws.{InsertKeepsContent, UpdateKeepsContent, DeleteKeepsContent, CreateMakesContent}
 
 true_of : (b : Bool) → T b → b ≡ true
 true_of true h = refl

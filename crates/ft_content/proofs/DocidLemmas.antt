@@ -1,14 +1,7 @@
 -- The docid of a document that is given none.
-use Rattle.std.proofs.Common.{◌≡◌, ◌^◌, ◌-◌, Bool, true, false, cond, [], ◌∷◌, Option, Some, None, ℤ, pos, refl, ap, arith}
-use Rattle.std.specs.Prelude.{◌+ℤ◌, FitsSigned}
-use Rattle.std.specs.Int.{w64}
-use Rattle.std.specs.Option.{SomeIff}
-use Rattle.std.specs.Ordering.{int_eq}
-use Rattle.std.proofs.lemmas.Bool.Decides.{Decides-int_eq}
+use Rattle.std.proofs.Common.{◌≡◌, ◌^◌, ◌-◌, Bool, true, false, cond, [], ◌∷◌, Option, Some, None, ℤ, pos, refl, ap, arith, ◌+ℤ◌, FitsSigned}
 use Rattle.std.proofs.lemmas.Int.{ints}
-use Rattle.ft_content.specs.Content.{Documents}
-use Rattle.ft_content.specs.Deserved.{next_docid}
-use Rattle.ft_content.specs.Views.{last_docid}
+use Rattle.ft_content.proofs.Common.{w64, SomeIff, int_eq, Decides-int_eq, Documents, next_docid, last_docid}
 
 -- the docid after the last one, if there is one
 abbrev pub next_after : Option ℤ → Option ℤ

@@ -1,16 +1,7 @@
 -- Values under names.
-use Rattle.std.proofs.Common.{◌≡◌, ℕ, Bool, true, false, cond, List, [], ◌∷◌, ◌++◌, map, ◌≤◌, Option, Some, None, ℤ, option_map, refl, arith, sym, ap, ◌∙◌}
-use Rattle.std.specs.Prelude.{zip, slice_get, find}
-use denote.Ref.{Bor}
-use Rattle.std.specs.List.{filter_map, cons_option}
-use Rattle.std.specs.Option.{MatchOption}
-use Rattle.std.proofs.lemmas.Iterator.{YieldsList}
+use Rattle.std.proofs.Common.{◌≡◌, ℕ, Bool, true, false, cond, List, [], ◌∷◌, ◌++◌, map, ◌≤◌, Option, Some, None, ℤ, option_map, refl, arith, sym, ap, ◌∙◌, zip, slice_get, find, Bor}
 use Rattle.std.proofs.lemmas.Iterator.Adapters.{option_map_id}
-use Rattle.std.proofs.lemmas.Iterator.Consumers.{nth_from_yields_List}
-use Rattle.ft_values.specs.Cells.{Cell, Null, Int, Text, shown_value}
-use Rattle.ft_values.specs.declared.rows.Value.{Value}
-use Rattle.ft_content.specs.Content.{is_docid}
-use Rattle.ft_content.specs.Deserved.{docid_of_value, docids_named}
+use Rattle.ft_content.proofs.Common.{filter_map, cons_option, MatchOption, YieldsList, nth_from_yields_List, Cell, Null, Int, Text, shown_value, Value, is_docid, docid_of_value, docids_named}
 
 pub zip_of_maps : {A B C D : Type 0} (f : A → C) (g : B → D) (xs : List A) (ys : List B) → zip (map f xs) (map g ys) ≡ map (λ (p : A × B). (f p.0, g p.1)) (zip xs ys)
 zip_of_maps f g [] ys = refl

@@ -1,21 +1,12 @@
 -- The index of a content, document by document.
-use Rattle.std.proofs.Common.{◌≡◌, ℕ, Bool, true, false, cond, T, List, [], ◌∷◌, ◌++◌, map, Some, ℤ, refl, sym, ap, subst, ◌∙◌}
-use Rattle.std.specs.Prelude.{IsTrue, filter, unwrap_or}
-use Rattle.std.specs.List.{flat_map}
-use Rattle.std.specs.declared.cmp.Ordering.{Ordering}
-use Rattle.std.specs.declared.cmp.Ordering.TheVariants.{Less, Equal, Greater}
-use Rattle.std.specs.Ordering.{int_cmp, int_eq, eq_by_cmp, is_eq, nat_cmp, ordering_then}
-use Rattle.std.specs.Cmp.{IsTotalOrder, eq_by_cmp_equiv, int_cmp_total}
+use Rattle.std.proofs.Common.{◌≡◌, ℕ, Bool, true, false, cond, T, List, [], ◌∷◌, ◌++◌, map, Some, ℤ, refl, sym, ap, subst, ◌∙◌, IsTrue, filter, unwrap_or}
 use Rattle.std.specs.Cmp.Lexicographic.{slice_cmp, nat_list_cmp_total}
-use Rattle.std.specs.FinMap.{int_cmp-IsAntisymmetric}
-use Rattle.std.specs.FinMap.Entries.{find, where_key, find-put}
 use Rattle.std.proofs.lemmas.List.Elements.{filter-append}
 use Rattle.std.proofs.lemmas.Cmp.{on_total, then_total}
 use Rattle.std.proofs.lemmas.Map.Lookups.{CmpEqualImpliesEq, exact_pairs, exact_bytes, exact_signed}
-use Rattle.ft_values.specs.Cells.{Cell}
-use Rattle.ft_content.specs.Content.{Column, Documents}
-use Rattle.ft_content.specs.Index.{Spot, Entry, Key, key_cmp, key_of, spots_at, spot_lists, document_postings, entry_at, document_entries}
-use Rattle.ft_content.specs.Laws.{entries_of_docid, spots_of_key, some_if_any, ListsAreEntries}
+use Rattle.ft_content.proofs.Common.{flat_map, Ordering, Less, Equal, Greater, int_cmp, int_eq, eq_by_cmp, is_eq, nat_cmp, ordering_then, IsTotalOrder, eq_by_cmp_equiv, int_cmp_total, int_cmp-IsAntisymmetric, find, where_key, find-put, Cell, Documents, Spot, Entry, Key, key_cmp, key_of, spots_at, document_postings, entry_at, document_entries, entries_of_docid, spots_of_key, some_if_any, ListsAreEntries}
+use Rattle.ft_content.specs.Content.{Column}
+use Rattle.ft_content.specs.Index.{spot_lists}
 
 -- ---- a filter that answers alike at each element
 

@@ -1,20 +1,6 @@
 -- The last docid of documents, and those that are taken, after a document is put among them.
-use Rattle.std.proofs.Common.{◌≡◌, Bool, true, false, cond, ◌||◌, List, [], ◌∷◌, Option, Some, None, ℤ, is_some, refl, sym, ap, subst, ◌∙◌}
-use Rattle.std.specs.declared.cmp.Ordering.{Ordering}
-use Rattle.std.specs.declared.cmp.Ordering.TheVariants.{Less, Equal, Greater}
-use Rattle.std.specs.Ordering.{MatchOrdering, int_cmp, int_eq, is_eq, is_lt}
-use Rattle.std.specs.Cmp.{int_cmp_total, int_ranks}
-use Rattle.std.specs.FinMap.Entries.{by_order, put, find, below_all, is_sorted}
-use Rattle.std.proofs.lemmas.Bool.{and_parts}
-use Rattle.std.proofs.lemmas.Bool.Decides.{Decides-int_eq}
-use Rattle.ft_content.specs.Deserved.{has_docid, move_fault, moves_fault}
-use Rattle.std.specs.Int.{int_max}
-use Rattle.std.specs.Option.{MatchOption}
-use Rattle.std.specs.Prelude.{◌<ℤ◌, int_lt, slice_get, unwrap_or}
-use Rattle.ft_values.specs.Cells.{Cell}
-use Rattle.ft_content.specs.Content.{Documents}
-use Rattle.ft_content.specs.Laws.{DocidIsTaken}
-use Rattle.ft_content.specs.Views.{last_docid}
+use Rattle.std.proofs.Common.{◌≡◌, Bool, true, false, cond, ◌||◌, List, [], ◌∷◌, Option, Some, None, ℤ, is_some, refl, sym, ap, subst, ◌∙◌, ◌<ℤ◌, int_lt, slice_get, unwrap_or}
+use Rattle.ft_content.proofs.Common.{Ordering, Less, Equal, Greater, MatchOrdering, int_cmp, int_eq, is_eq, is_lt, int_cmp_total, int_ranks, by_order, put, find, below_all, is_sorted, and_parts, Decides-int_eq, has_docid, move_fault, moves_fault, int_max, MatchOption, Cell, Documents, DocidIsTaken, last_docid}
 use Rattle.ft_content.proofs.TableLemmas.{less_is}
 
 -- the last docid of some documents

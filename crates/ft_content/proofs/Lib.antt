@@ -1,4 +1,5 @@
 pub mod CommandRows
+pub mod Common
 pub mod MatchRows
 pub mod RowLemmas
 pub mod ContentLemmas

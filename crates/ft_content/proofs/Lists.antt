@@ -1,14 +1,9 @@
 -- Tests of mapped lists.
-use Rattle.std.proofs.Common.{◌≡◌, ◌+◌, Bool, true, false, cond, not, nat_lt, ◌&&◌, ◌||◌, List, [], ◌∷◌, map, length, Option, None, Some, refl, sym, ap, ◌∙◌}
-use Rattle.std.specs.Prelude.{position}
-use Rattle.std.specs.List.{AllZip, FoldsTo, list_any, list_all, position_or_len}
+use Rattle.std.proofs.Common.{◌≡◌, ◌+◌, Bool, true, false, cond, not, nat_lt, ◌&&◌, ◌||◌, List, [], ◌∷◌, map, length, Option, None, Some, refl, sym, ap, ◌∙◌, position}
 use denote.Param.Members.{Mut}
 use Rattle.std.specs.Fn.{Called}
 use Rattle.std.specs.Iterator.{YieldsThen}
-use Rattle.std.specs.Option.{MatchOption}
-use Rattle.std.proofs.lemmas.Iterator.{YieldsList}
-use Rattle.std.proofs.lemmas.Iterator.Search.{all_from_yields_List, any_from_yields_List}
-use Rattle.std.proofs.lemmas.List.{length-map}
+use Rattle.ft_content.proofs.Common.{AllZip, FoldsTo, list_any, list_all, position_or_len, MatchOption, YieldsList, all_from_yields_List, any_from_yields_List, length-map}
 
 pub any_of_map : {X Y : Type 0} (p : Y → Bool) (h : X → Y) (xs : List X) → list_any p (map h xs) ≡ list_any (λ x. p (h x)) xs
 any_of_map p h [] = refl

@@ -1,17 +1,15 @@
 -- MATCH by commands, with what it answers. The texts and answers of the table mail are those of the
 -- SQLite document "SQLite FTS3 and FTS4 Extensions", "The Offsets Function", those of the table
 -- docs of "Full-text Index Queries"; the others are own examples.
-use Rattle.std.specs.Prelude.{◌≡◌, ℕ, false, List, [], ◌∷◌, ◌++◌, Some, None, Result, Ok, Err, ℤ, pos, negsuc, codes, refl}
+use Rattle.std.proofs.Common.{◌≡◌, ℕ, false, List, [], ◌∷◌, ◌++◌, Some, None, Result, Ok, Err, ℤ, pos, negsuc, codes, refl}
 use Rattle.std.specs.Fmt.{digits}
 use Rattle.ft_query.specs.Reads.{query_of}
-use Rattle.ft_values.specs.declared.fault.Fault.{Fault}
-use Rattle.ft_values.specs.declared.fault.Fault.TheVariants as faults
-use Rattle.ft_values.specs.Cells.{Cell, Int, Text}
-use Rattle.ft_content.specs.Command.{All, Match, Named, OffsetsOf, Listed, Command, Create, Insert, Select, Check, Reply, Done}
+use Rattle.ft_content.proofs.Common.{Fault, Cell, Int, Text, All, Match, Named, OffsetsOf, Listed, Command, Create, Insert, Select, Check, Reply, Done}
 use Rattle.ft_content.specs.Answer.{reading, chosen, answer}
 use Rattle.ft_content.specs.Deserved.{inserted_rows, deserved}
 use Rattle.ft_content.specs.Step.{after, reply_to, step}
 use Rattle.ft_content.proofs.CommandRows.{answers_to, after_all, create_d, texts_into_d, rows_under, docids, not_indexed}
+use Rattle.ft_values.specs.declared.fault.Fault.TheVariants as faults
 
 -- SELECT offsets(t) FROM t WHERE t MATCH ..
 abbrev pub offsets_matching : List ℕ → List ℕ → Command

@@ -1,29 +1,18 @@
 -- The posting lists of a content mean its documents.
-use Rattle.std.proofs.Common.{◌≡◌, ℕ, ◌+◌, ◌<◌, Bool, true, false, cond, T, ◌&&◌, ◌||◌, inl, inr, List, [], ◌∷◌, ◌++◌, map, Some, None, Option, ℤ, suc, length, refl, sym, ap, subst, ◌∙◌, arith}
-use Rattle.std.specs.Prelude.{filter, unwrap_or, AllPairs, slice_index_or, ◌<ℤ◌}
-use Rattle.std.specs.Option.{option_map_or}
-use Rattle.std.specs.List.{list_any, list_all, flat_map, AllByRecursion}
-use Rattle.std.specs.declared.cmp.Ordering.{Ordering}
-use Rattle.std.specs.declared.cmp.Ordering.TheVariants.{Less, Equal, Greater}
-use Rattle.std.specs.Ordering.{MatchOrdering, nat_cmp, int_cmp, int_eq, eq_by_cmp, is_eq, is_lt, ordering_then}
-use Rattle.std.specs.Cmp.{IsTotalOrder, ranks, int_ranks, nat_cmp_total, int_cmp_total, tied_itself}
+use Rattle.std.proofs.Common.{◌≡◌, ℕ, ◌+◌, ◌<◌, Bool, true, false, cond, T, ◌&&◌, ◌||◌, inl, inr, List, [], ◌∷◌, ◌++◌, map, Some, None, Option, ℤ, suc, length, refl, sym, ap, subst, ◌∙◌, arith, filter, unwrap_or, AllPairs, slice_index_or, ◌<ℤ◌}
 use Rattle.std.specs.Cmp.Lexicographic.{slice_cmp, nat_list_cmp_total}
-use Rattle.std.specs.FinMap.Entries.{by_order, put, find, below_all, is_sorted, is_sorted-put, find-put, same_entries}
-use Rattle.std.proofs.lemmas.Bool.{and_parts, and_from}
-use Rattle.std.proofs.lemmas.List.Folds.{list_any-append}
 use Rattle.std.proofs.lemmas.List.Elements.{All-map, All-from_recursion}
 use Rattle.std.proofs.lemmas.List.Sums.{sum_by-cons}
 use Rattle.std.proofs.lemmas.List.Kept.{AllPairs-cons, AllPairs-filter}
 use Rattle.std.proofs.lemmas.Cmp.{on_total, then_total}
 use Rattle.std.proofs.lemmas.Map.Lookups.{exact_unsigned, exact_signed, exact_bytes}
 use Rattle.ft_query.specs.Tokens.{PlainToken, tokens_of}
-use Rattle.ft_query.specs.Trees.{Tree}
 use Rattle.ft_query.specs.Documents.{Posting, Document, IsBefore, AreDocuments, PlaceList, is_filled, postings_of, documents_of, lists_with, place_count}
 use Rattle.ft_query.specs.Occurs.{PlainHit, accepts, offsets_of, hits_of}
-use Rattle.ft_values.specs.Cells.{Cell}
-use Rattle.ft_content.specs.Content.{Column, Documents, Content}
-use Rattle.ft_content.specs.Index.{indexed_text, document_tokens, document_postings, Spot, Entry, entry_at, document_entries, entries, Key, key_cmp, key_of, SpotLists, spots_at, spot_lists, index_rows}
-use Rattle.ft_content.specs.Answer.{query_read, chosen}
+use Rattle.ft_content.proofs.Common.{option_map_or, list_any, list_all, flat_map, AllByRecursion, Ordering, Less, Equal, Greater, MatchOrdering, nat_cmp, int_cmp, int_eq, eq_by_cmp, is_eq, is_lt, ordering_then, IsTotalOrder, ranks, int_ranks, nat_cmp_total, int_cmp_total, tied_itself, by_order, put, find, below_all, is_sorted, is_sorted-put, find-put, same_entries, and_parts, and_from, list_any-append, Tree, Cell, Documents, Content, indexed_text, document_tokens, document_postings, Spot, Entry, entry_at, document_entries, Key, key_cmp, key_of, SpotLists, spots_at, query_read}
+use Rattle.ft_content.specs.Content.{Column}
+use Rattle.ft_content.specs.Index.{entries, spot_lists, index_rows}
+use Rattle.ft_content.specs.Answer.{chosen}
 use Rattle.ft_content.specs.Meaning.{content_documents, list_entries, entries_in, entry_cmp, entry_set, with_entry, grouped, documents_in, ListsMeanDocuments, hit_in, HitsAreChosen, lists_with_terms, all_places, TermsAreTheirLists, TermsAreCounted, DocumentsAreInOrder}
 use Rattle.ft_content.proofs.IndexLemmas.{key_cmp_total, key_cmp_exact}
 use Rattle.ft_content.proofs.PlanLemmas.{sorted_lists}

@@ -1,7 +1,6 @@
 -- Names, one after the other.
 use Rattle.std.proofs.Common.{◌≡◌, ℕ, suc, ◌+◌, ◌<◌, ◌||◌, Bool, true, false, List, ◌∷◌, map, length, drop, get_or, refl, sym, ap, ◌∙◌, drop-cons, add-one}
-use Rattle.std.specs.List.{list_any}
-use Rattle.ft_content.specs.Content.{same_name, repeats_name}
+use Rattle.ft_content.proofs.Common.{list_any, same_name, repeats_name}
 use Rattle.ft_content.proofs.Lists.{any_of_map}
 
 -- things that have names

@@ -1,14 +1,8 @@
 -- What a plan does to one document's lists makes the lists right.
 use Rattle.std.proofs.Common.{◌≡◌, ℕ, true, false, cond, T, List, [], ◌∷◌, Option, Some, None, ℤ, refl, sym, ap, subst, ◌∙◌, append-nil}
-use Rattle.std.specs.List.{flat_map}
-use Rattle.std.specs.Ordering.{int_cmp, int_eq, is_eq}
-use Rattle.std.specs.Cmp.{eq_by_cmp_equiv, int_cmp_total, tied_itself}
-use Rattle.std.specs.FinMap.{int_cmp-IsAntisymmetric}
-use Rattle.std.specs.FinMap.Entries.{find, where_key, is_sorted, is_sorted-put, is_sorted-where_key, find-where_key, same_entries}
-use Rattle.ft_values.specs.Cells.{Cell}
-use Rattle.ft_content.specs.Content.{Column, Documents}
-use Rattle.ft_content.specs.Index.{Entry, key_cmp, key_of, spots_at, spot_lists, document_entries, entries}
-use Rattle.ft_content.specs.Laws.{content_with, spots_of_key, some_if_any, document_lists}
+use Rattle.ft_content.proofs.Common.{flat_map, int_cmp, int_eq, is_eq, eq_by_cmp_equiv, int_cmp_total, tied_itself, int_cmp-IsAntisymmetric, find, where_key, is_sorted, is_sorted-put, is_sorted-where_key, find-where_key, same_entries, Cell, Documents, Entry, key_cmp, key_of, spots_at, document_entries, content_with, spots_of_key, some_if_any, document_lists}
+use Rattle.ft_content.specs.Content.{Column}
+use Rattle.ft_content.specs.Index.{spot_lists, entries}
 use Rattle.ft_content.proofs.IndexLemmas.{key_cmp_total, lists_are_entries, spots_in-own, own_entries, where_docid, same_docid}
 
 -- lists made from entries are in order

@@ -1,15 +1,7 @@
 -- A content is read back from its rows.
 use Rattle.std.proofs.Common.{◌≡◌, ℕ, ◌+◌, true, false, cond, not, ◌&&◌, ◌||◌, ◌≤◌, nat_abs, List, [], ◌∷◌, ◌++◌, map, length, ◌==◌, ◌<◌, ℤ, pos, refl, sym, ap, subst, ◌∙◌, arith, eqb-true, ltb-true, nat_lt, nat_le}
-use Rattle.std.specs.List.{list_any, list_all, flat_map, enumerate_from}
-use Rattle.std.specs.declared.cmp.Ordering.{Ordering}
-use Rattle.std.specs.declared.cmp.Ordering.TheVariants.{Less, Equal, Greater}
-use Rattle.std.specs.Ordering.{int_cmp, int_eq, is_eq, is_lt}
-use Rattle.std.specs.Cmp.{int_cmp_total, tied_itself, Equal-is, eq_by_cmp_equiv}
-use Rattle.std.specs.FinMap.{int_cmp-IsAntisymmetric}
-use Rattle.std.specs.FinMap.Entries.{below_all, is_sorted}
-use Rattle.std.proofs.lemmas.Bool.{and_parts, false_from_ne_true}
-use Rattle.ft_values.specs.Cells.{Cell}
-use Rattle.ft_content.specs.Content.{Column, Documents, CellRow, is_document, is_name, names_of, skipped_from, document_rows, with_cell, gathered, content_in, RowsAreRead, ContentsAreOne}
+use Rattle.ft_content.proofs.Common.{list_any, list_all, flat_map, enumerate_from, Ordering, Less, Equal, Greater, int_cmp, int_eq, is_eq, is_lt, int_cmp_total, tied_itself, Equal-is, eq_by_cmp_equiv, int_cmp-IsAntisymmetric, below_all, is_sorted, and_parts, false_from_ne_true, Cell, Documents, CellRow, is_document, is_name, names_of, skipped_from, document_rows, with_cell, content_in, RowsAreRead, ContentsAreOne}
+use Rattle.ft_content.specs.Content.{Column, gathered}
 
 below_apart : (o : Ordering) → is_lt o ≡ true → is_eq o ≡ false
 below_apart Less h = refl

@@ -1,11 +1,7 @@
 -- Names in small letters, one after the other.
 use Rattle.std.proofs.Common.{◌≡◌, ℕ, ◌+◌, ◌<◌, ◌||◌, Bool, true, false, cond, not, List, [], ◌∷◌, ◌++◌, map, length, take, drop, get_or, refl, sym, ap, ◌∙◌, subst, String}
 use Rattle.std.specs.BTreeSet.{BTreeSet}
-use Rattle.std.specs.List.{list_any}
-use Rattle.std.proofs.lemmas.List.{map-append, take_more, take-append-drop}
-use Rattle.std.proofs.lemmas.List.Folds.{list_any-append}
-use Rattle.ft_content.specs.Content.{same_name, repeats_name}
-use Rattle.ft_content.specs.Small.{HasLowercase}
+use Rattle.ft_content.proofs.Common.{list_any, map-append, take_more, take-append-drop, list_any-append, same_name, repeats_name, HasLowercase}
 
 or_true : (a : Bool) → (a || true) ≡ true
 or_true true = refl

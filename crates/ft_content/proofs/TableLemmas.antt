@@ -1,20 +1,8 @@
 -- Tables that are there, by their names and ids.
-use Rattle.std.proofs.Common.{◌≡◌, ◌≤◌, ℕ, ◌+◌, ◌&&◌, ◌||◌, Bool, true, false, cond, List, [], ◌∷◌, length, Some, ℤ, pos, is_some, string_bytes, refl, sym, ap, subst, ◌∙◌, arith}
-use Rattle.std.specs.List.{list_any}
-use Rattle.std.specs.declared.cmp.Ordering.{Ordering}
-use Rattle.std.specs.declared.cmp.Ordering.TheVariants.{Less, Equal, Greater}
-use Rattle.std.specs.Ordering.{int_cmp, int_eq, is_eq, is_lt, MatchOrdering}
-use Rattle.std.specs.Cmp.{int_cmp_is, int_cmp_total, int_ranks}
-use Rattle.std.specs.FinMap.Entries.{below_all, is_sorted}
-use Rattle.std.proofs.lemmas.Bool.{and_parts, false_from_ne_true}
-use Rattle.std.proofs.lemmas.Bool.Decides.{Decides-int_eq}
+use Rattle.std.proofs.Common.{◌≡◌, ◌≤◌, ℕ, ◌+◌, ◌&&◌, ◌||◌, Bool, true, false, cond, List, [], ◌∷◌, length, Some, ℤ, pos, is_some, string_bytes, refl, sym, ap, subst, ◌∙◌, arith, ◌<ℤ◌}
 use Rattle.std.proofs.lemmas.Int.{ints}
-use Rattle.std.specs.Prelude.{◌<ℤ◌}
-use Rattle.ft_content.specs.Content.{same_name}
-use Rattle.ft_content.specs.Deserved.{Contents, Table, table_named}
-use Rattle.ft_content.specs.Step.{free_id_from}
 use Rattle.ft_values.specs.declared.table.TableInfo.{TableInfo}
-use Rattle.ft_content.specs.Views.{table_names, table_ids, info_names, info_ids}
+use Rattle.ft_content.proofs.Common.{list_any, Ordering, Less, Equal, Greater, int_cmp, int_eq, is_eq, is_lt, MatchOrdering, int_cmp_is, int_cmp_total, int_ranks, below_all, is_sorted, and_parts, false_from_ne_true, Decides-int_eq, same_name, Contents, Table, table_named, free_id_from, table_names, table_ids, info_names, info_ids}
 use Rattle.ft_content.proofs.Lists.{length_of_map}
 
 named : (contents : Contents) (name : List ℕ) → is_some (table_named contents name) ≡ list_any (λ n. same_name n name) (table_names contents)

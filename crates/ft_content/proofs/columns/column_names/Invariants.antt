@@ -1,7 +1,6 @@
 -- the names so far
 use Rattle.std.proofs.Common.{◌≡◌, map, take, string_bytes}
-use Rattle.ft_content.specs.Content.{names_of}
-use Rattle.ft_content.specs.Views.{column_of}
+use Rattle.ft_content.proofs.Common.{names_of, column_of}
 use Rattle.ft_content.proofs.columns.column_names.Given as goal
 
 abbrev pub invariant-loop-column : goal.invariant-loop-column

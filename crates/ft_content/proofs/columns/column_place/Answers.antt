@@ -1,9 +1,6 @@
 -- the columns' names are those of the definition's columns
 use Rattle.std.proofs.Common.{string_bytes, sym, ◌∙◌, rules, tests}
-use Rattle.std.proofs.lemmas.Iterator.{YieldsList-from_slice}
-use Rattle.std.proofs.lemmas.Iterator.Search.{position_from_yields_List}
-use Rattle.ft_content.specs.Content.{same_name}
-use Rattle.ft_values.specs.declared.table.Column.{Column}
+use Rattle.ft_content.proofs.Common.{YieldsList-from_slice, position_from_yields_List, same_name, Column}
 use Rattle.ft_content.proofs.ColumnLemmas.{position_of_names}
 use Rattle.ft_content.proofs.columns.column_place.Goals as goal
 

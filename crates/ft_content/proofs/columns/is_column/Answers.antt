@@ -1,9 +1,6 @@
 -- the columns' names are those of the definition's columns
 use Rattle.std.proofs.Common.{string_bytes, ap, sym, ◌∙◌, rules, tests}
-use Rattle.std.specs.List.{list_any}
-use Rattle.std.proofs.lemmas.Iterator.{YieldsList-from_slice}
-use Rattle.ft_values.specs.declared.table.Column.{Column}
-use Rattle.ft_content.specs.Content.{same_name}
+use Rattle.ft_content.proofs.Common.{list_any, YieldsList-from_slice, Column, same_name}
 use Rattle.ft_content.proofs.ColumnLemmas.{names_are}
 use Rattle.ft_content.proofs.Lists.{any_shown}
 use Rattle.ft_content.proofs.columns.is_column.Goals as goal

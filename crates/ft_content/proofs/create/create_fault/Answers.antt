@@ -1,14 +1,10 @@
 -- the tests one after the other: options as pairs of texts, and tables by their names
 use Rattle.std.proofs.Common.{◌≡◌, ℕ, Bool, true, false, List, [], ◌∷◌, map, not, ◌&&◌, ◌||◌, codes, is_some, refl, ap, sym, ◌∙◌, rules, tests, string_bytes}
-use Rattle.std.specs.List.{list_any, list_all}
-use Rattle.std.proofs.lemmas.Iterator.{YieldsList-from_slice}
-use Rattle.ft_content.specs.Content.{same_name, is_name}
-use Rattle.ft_content.specs.Deserved.{Contents, is_tokenize, is_notindexed, table_named}
-use Rattle.ft_content.specs.Views.{option_of, table_names, info_names}
+use Rattle.ft_content.proofs.Common.{list_any, list_all, YieldsList-from_slice, same_name, is_name, Contents, is_tokenize, is_notindexed, table_named, option_of, table_names, info_names}
 use Rattle.ft_content.proofs.Lists.{any_of_map, any_shown, all_of_map, all_shown, length_of_map}
 use Rattle.ft_content.proofs.TableLemmas.{is_named, as_many}
+use Rattle.ft_content.proofs.create.create_fault.Goals.{After-any, After-all, Joined-is_name, then-is_name, else-is_name, After-has_table-is_there, After-any-else-tables-ge1000}
 use Rattle.ft_content.proofs.create.create_fault.Goals as goal
-use Rattle.ft_content.proofs.create.create_fault.Goals.{After-same_name, After-any, After-all, Joined-is_name, then-is_name, else-is_name, After-names_clash, After-has_table-is_there, After-any-else-tables-ge1000}
 
 others : (c : After-any) → c.any.result ≡ list_any (λ o. is_tokenize o && not (same_name o.1 (codes "simple"))) (map option_of c.args.creation.now.options.items)
 others c = any_shown (λ o. is_tokenize o && not (same_name o.1 (codes "simple"))) option_of _ _ _ c.any.ensures.ran (YieldsList-from_slice c.args.creation.now.options.items cc) (λ x b q k. search (rules, tests))

@@ -1,13 +1,6 @@
 -- no table is left
-use mir.Val.{to_z}
-use Rattle.std.proofs.Common.{◌≡◌, pos, sym, ap, ◌∙◌}
-use Rattle.std.proofs.lemmas.List.{drop_all}
-use Rattle.std.specs.List.{list_any}
-use Rattle.std.specs.Int.{w64}
-use Rattle.std.specs.Ordering.{int_eq}
-use Rattle.ft_content.specs.Deserved.{Contents}
-use Rattle.ft_content.specs.Step.{free_id_from}
-use Rattle.ft_content.specs.Views.{table_ids, info_ids}
+use Rattle.std.proofs.Common.{to_z, ◌≡◌, pos, sym, ap, ◌∙◌}
+use Rattle.ft_content.proofs.Common.{drop_all, list_any, w64, int_eq, Contents, free_id_from, table_ids, info_ids}
 use Rattle.ft_content.proofs.TableLemmas.{free_from, free_among, free_among_ids}
 use Rattle.ft_content.proofs.create.free_id.Goals as goal
 

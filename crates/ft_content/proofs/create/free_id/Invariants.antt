@@ -1,6 +1,6 @@
 -- the least id that none of the tables so far has; those that are left decide
 use Rattle.std.proofs.Common.{◌≡◌, ℕ, ◌+◌, ◌≤◌, drop, pos}
-use Rattle.ft_content.specs.Views.{info_ids}
+use Rattle.ft_content.proofs.Common.{info_ids}
 use Rattle.ft_content.proofs.TableLemmas.{free_from}
 use Rattle.ft_content.proofs.create.free_id.Given as goal
 

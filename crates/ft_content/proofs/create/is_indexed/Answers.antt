@@ -1,9 +1,6 @@
 -- the options as pairs of texts
 use Rattle.std.proofs.Common.{not, ◌&&◌, ap, rules, tests}
-use Rattle.std.proofs.lemmas.Iterator.{YieldsList-from_slice}
-use Rattle.ft_content.specs.Content.{same_name}
-use Rattle.ft_content.specs.Deserved.{is_notindexed}
-use Rattle.ft_content.specs.Views.{option_of}
+use Rattle.ft_content.proofs.Common.{YieldsList-from_slice, same_name, is_notindexed, option_of}
 use Rattle.ft_content.proofs.Lists.{any_shown}
 use Rattle.ft_content.proofs.create.is_indexed.Goals as goal
 

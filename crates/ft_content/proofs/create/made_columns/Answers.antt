@@ -1,12 +1,6 @@
 -- one more column
 use Rattle.std.proofs.Common.{◌≡◌, ℕ, List, [], ◌∷◌, ◌++◌, map, not, ◌&&◌, string_bytes, sym, ap, ◌∙◌}
-use Rattle.std.proofs.lemmas.List.{map-append}
-use Rattle.std.specs.List.{list_any}
-use Rattle.ft_content.specs.Content.{same_name}
-use Rattle.ft_values.specs.declared.table.Column.{Column}
-use Rattle.ft_content.specs.Deserved.{is_notindexed}
-use Rattle.ft_content.specs.Step.{made_column}
-use Rattle.ft_content.specs.Views.{option_of, column_of}
+use Rattle.ft_content.proofs.Common.{map-append, list_any, same_name, Column, is_notindexed, made_column, option_of, column_of}
 use Rattle.ft_content.proofs.create.made_columns.Goals as goal
 
 pub loop-name-preserved : goal.loop-name-preserved

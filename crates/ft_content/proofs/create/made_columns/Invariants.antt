@@ -1,7 +1,6 @@
 -- the columns so far
 use Rattle.std.proofs.Common.{◌≡◌, map, string_bytes}
-use Rattle.ft_content.specs.Step.{made_column}
-use Rattle.ft_content.specs.Views.{option_of, column_of}
+use Rattle.ft_content.proofs.Common.{made_column, option_of, column_of}
 use Rattle.ft_content.proofs.create.made_columns.Given as goal
 
 abbrev pub invariant-loop-name : goal.invariant-loop-name

@@ -1,11 +1,9 @@
 -- the copies are the names that are given, and there is one name at least
-use Rattle.std.proofs.Common.{◌≡◌, ℕ, true, false, List, [], ◌∷◌, ◌++◌, map, length, codes, string_bytes, refl, sym, ap, ◌∙◌, arith, rules, tests}
-use Rattle.std.specs.Prelude.{◌==◌}
-use Rattle.std.proofs.lemmas.List.{map-append}
-use Rattle.ft_content.specs.Deserved.{made_columns}
+use Rattle.std.proofs.Common.{◌≡◌, ℕ, true, false, List, [], ◌∷◌, ◌++◌, map, length, codes, string_bytes, refl, sym, ap, ◌∙◌, arith, rules, tests, ◌==◌}
+use Rattle.ft_content.proofs.Common.{map-append, made_columns}
 use Rattle.ft_content.proofs.Lists.{copies, length_of_map}
-use Rattle.ft_content.proofs.create.made_names.Goals as goal
 use Rattle.ft_content.proofs.create.made_names.Goals.{then-is_empty+in_ok-to_string+in_ok-push, else-is_empty}
+use Rattle.ft_content.proofs.create.made_names.Goals as goal
 
 none_given : (names : List (List ℕ)) → (length names == 0) ≡ true → names ++ codes "content" ∷ [] ≡ made_columns names
 none_given [] h = refl

@@ -1,15 +1,8 @@
 -- after the last docid
-use mir.Val.{to_z, of_z}
-use Rattle.std.proofs.Common.{◌≡◌, List, [], ◌∷◌, Option, Some, None, ℤ, pos, sym, ap, subst, ◌∙◌, rules}
-use Rattle.std.specs.Prelude.{◌+ℤ◌, FitsSigned, slice_get, ok_or}
-use Rattle.std.specs.Option.{SomeIff}
-use Rattle.std.specs.Int.{w64}
-use Rattle.ft_values.specs.declared.fault.Fault.TheVariants as faults
-use Rattle.ft_values.specs.Cells.{Cell}
-use Rattle.ft_content.specs.Content.{Documents}
-use Rattle.ft_content.specs.Deserved.{append_document, insert_row, next_docid}
-use Rattle.ft_content.specs.Views.{placed}
+use Rattle.std.proofs.Common.{to_z, of_z, ◌≡◌, List, [], ◌∷◌, Option, Some, None, ℤ, pos, sym, ap, subst, ◌∙◌, rules, ◌+ℤ◌, FitsSigned, slice_get, ok_or}
+use Rattle.ft_content.proofs.Common.{SomeIff, w64, Cell, Documents, append_document, insert_row, next_docid, placed}
 use Rattle.ft_content.proofs.DocidLemmas.{next_after, next_is, stepped}
+use Rattle.ft_values.specs.declared.fault.Fault.TheVariants as faults
 use Rattle.ft_content.proofs.docid.docid_for_row.Goals as goal
 
 appended : (documents : Documents) (docids : List ℤ) (cells : List Cell) (next : Option ℤ) → slice_get docids 0 ≡ None → next_docid documents ≡ next →

@@ -1,8 +1,6 @@
 -- the greater of the two
-use mir.Val.{to_z, of_z}
-use Rattle.std.proofs.Common.{◌≡◌, Some, sym, ap, ◌∙◌, rules}
-use Rattle.std.specs.Option.{MatchOption}
-use Rattle.std.specs.Int.{int_max, w64}
+use Rattle.std.proofs.Common.{to_z, of_z, ◌≡◌, Some, sym, ap, ◌∙◌, rules}
+use Rattle.ft_content.proofs.Common.{MatchOption, int_max, w64}
 use Rattle.ft_content.proofs.LastLemmas.{last_put_among, greater_of}
 use Rattle.ft_content.proofs.docid.last_docid_after.Goals as goal
 

@@ -1,16 +1,10 @@
 -- by the docid that is set
-use mir.Val.{to_z, of_z}
-use Rattle.std.proofs.Common.{◌≡◌, ◌<◌, ◌≤◌, Bool, not, ◌&&◌, cond, List, [], ◌∷◌, length, get_or, ℤ, pos, Option, Some, None, subst, sym, ap, ◌∙◌, rules, arith}
-use Rattle.std.specs.Prelude.{IfSome, slice_get}
-use Rattle.std.specs.Int.{w64}
-use Rattle.std.specs.Ordering.{int_eq}
-use Rattle.ft_values.specs.declared.fault.Fault.TheVariants as faults
-use Rattle.ft_content.specs.Content.{Documents}
-use Rattle.ft_content.specs.Deserved.{has_docid, move_fault, moves_fault}
-use Rattle.ft_content.specs.Step.{docids_of}
+use Rattle.std.proofs.Common.{to_z, of_z, ◌≡◌, ◌<◌, ◌≤◌, Bool, not, ◌&&◌, cond, List, [], ◌∷◌, length, get_or, ℤ, pos, Option, Some, None, subst, sym, ap, ◌∙◌, rules, arith, IfSome, slice_get}
+use Rattle.ft_content.proofs.Common.{w64, int_eq, Documents, has_docid, move_fault, moves_fault, docids_of}
 use Rattle.ft_content.proofs.LastLemmas.{moves_by_first}
-use Rattle.ft_content.proofs.docid.moves_fault.Goals as goal
 use Rattle.ft_content.proofs.docid.moves_fault.Goals.{Joined-not-is_taken, then-not-is_taken, else-not-is_taken}
+use Rattle.ft_values.specs.declared.fault.Fault.TheVariants as faults
+use Rattle.ft_content.proofs.docid.moves_fault.Goals as goal
 
 -- one document moves where another has that docid
 one : (documents picked : Documents) (chosen : List ℤ) (docid : ℤ) → docids_of picked ≡ chosen → 1 ≤ length chosen → length chosen < 2 →

@@ -1,17 +1,9 @@
 -- a copy of the first value under the column's name
-use Rattle.std.proofs.Common.{◌≡◌, ℕ, List, Bool, Option, map, option_map, ap, sym, ◌∙◌, subst, rules, tests, string_bytes}
-use Rattle.std.specs.Prelude.{zip, unwrap_or, IfOk}
-use Rattle.std.proofs.lemmas.Iterator.{YieldsList-from_slice, YieldsList-from_zip}
-use Rattle.std.proofs.lemmas.Iterator.Search.{find_from_yields_List}
-use denote.Ref.{Bor}
-use Rattle.ft_values.specs.declared.rows.Value.{Value}
-use Rattle.ft_values.specs.Cells.{Cell, Null, shown_value}
-use Rattle.ft_content.specs.Content.{same_name}
-use Rattle.ft_content.specs.Deserved.{value_under}
-use Rattle.ft_content.specs.Views.{column_of}
+use Rattle.std.proofs.Common.{◌≡◌, ℕ, List, Bool, Option, map, option_map, ap, sym, ◌∙◌, subst, rules, tests, string_bytes, zip, unwrap_or, IfOk, Bor}
+use Rattle.ft_content.proofs.Common.{YieldsList-from_slice, YieldsList-from_zip, find_from_yields_List, Value, Cell, Null, shown_value, same_name, value_under, column_of}
 use Rattle.ft_content.proofs.GivenLemmas.{given, find_given, pointed}
-use Rattle.ft_content.proofs.insert.cell_under.Goals as goal
 use Rattle.ft_content.proofs.insert.cell_under.Goals.{After-find}
+use Rattle.ft_content.proofs.insert.cell_under.Goals as goal
 
 abbrev cell : Option (List ℕ × Cell) → Cell
 cell o = unwrap_or (option_map (λ (v : List ℕ × Cell). v.1) o) Null

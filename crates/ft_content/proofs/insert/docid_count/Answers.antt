@@ -1,12 +1,6 @@
 -- the values that give a docid
-use Rattle.std.proofs.Common.{ℕ, List, map, length, ap, sym, ◌∙◌, rules, tests}
-use Rattle.std.specs.Prelude.{zip}
-use Rattle.std.specs.List.{filter_map}
-use Rattle.std.proofs.lemmas.Iterator.{YieldsList-from_slice, YieldsList-from_zip}
-use Rattle.std.proofs.lemmas.Iterator.Consumers.{YieldsList-from_filter_map, count_from_yields_List}
-use denote.Ref.{Bor}
-use Rattle.ft_values.specs.declared.rows.Value.{Value}
-use Rattle.ft_values.specs.Cells.{Cell, shown_value}
+use Rattle.std.proofs.Common.{ℕ, List, map, length, ap, sym, ◌∙◌, rules, tests, zip, Bor}
+use Rattle.ft_content.proofs.Common.{filter_map, YieldsList-from_slice, YieldsList-from_zip, YieldsList-from_filter_map, count_from_yields_List, Value, Cell, shown_value}
 use Rattle.ft_content.proofs.GivenLemmas.{zip_of_maps, filter_map_of_map, docid_given, docids_are}
 use Rattle.ft_content.proofs.insert.docid_count.Goals as goal
 

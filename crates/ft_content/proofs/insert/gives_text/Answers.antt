@@ -1,11 +1,6 @@
 -- the values under their names
-use Rattle.std.proofs.Common.{ℕ, List, ◌&&◌, ap, sym, ◌∙◌, rules, tests}
-use Rattle.std.specs.List.{list_any}
-use Rattle.std.proofs.lemmas.Iterator.{YieldsList-from_slice, YieldsList-from_zip}
-use denote.Ref.{Bor}
-use Rattle.ft_values.specs.Cells.{Cell, shown_value}
-use Rattle.ft_content.specs.Content.{is_docid}
-use Rattle.ft_content.specs.Deserved.{is_text}
+use Rattle.std.proofs.Common.{ℕ, List, ◌&&◌, ap, sym, ◌∙◌, rules, tests, Bor}
+use Rattle.ft_content.proofs.Common.{list_any, YieldsList-from_slice, YieldsList-from_zip, Cell, shown_value, is_docid, is_text}
 use Rattle.ft_content.proofs.Lists.{any_shown}
 use Rattle.ft_content.proofs.GivenLemmas.{given, zip_of_maps}
 use Rattle.ft_content.proofs.insert.gives_text.Goals as goal

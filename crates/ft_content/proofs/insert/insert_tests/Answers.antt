@@ -1,21 +1,10 @@
 -- the values under their names
-use Rattle.std.proofs.Common.{◌≡◌, ℕ, List, [], ◌∷◌, ◌||◌, refl, Vec, Bool, not, ◌&&◌, ◌==◌, nat_lt, map, length, sym, ◌∙◌, rules, tests}
-use Rattle.std.specs.Prelude.{zip}
-use Rattle.std.specs.List.{list_any, list_all, flat_map}
-use Rattle.std.proofs.lemmas.List.Folds.{list_any-append}
-use Rattle.std.proofs.lemmas.Iterator.{YieldsList-from_slice}
+use Rattle.std.proofs.Common.{◌≡◌, ℕ, List, [], ◌∷◌, ◌||◌, refl, Vec, Bool, not, ◌&&◌, ◌==◌, nat_lt, map, length, sym, ◌∙◌, rules, tests, zip, Bor}
 use Rattle.std.proofs.lemmas.Iterator.Adapters.{YieldsList-from_flatten}
-use Rattle.std.proofs.lemmas.Iterator.Search.{any_from_yields_List}
-use denote.Ref.{Bor}
-use Rattle.std.specs.declared.alloc.Global.{Global}
-use Rattle.ft_values.specs.declared.rows.Value.{Value}
-use Rattle.ft_values.specs.Cells.{Cell, shown_value}
-use Rattle.ft_content.specs.Content.{is_docid, is_too_long, has_nul}
-use Rattle.ft_content.specs.Deserved.{has_column, is_text, docids_named}
-use Rattle.ft_content.specs.Views.{bare_content, cells_of}
+use Rattle.ft_content.proofs.Common.{list_any, list_all, flat_map, list_any-append, YieldsList-from_slice, any_from_yields_List, Global, Value, Cell, shown_value, is_docid, is_too_long, has_nul, has_column, is_text, docids_named, bare_content, cells_of}
 use Rattle.ft_content.proofs.Lists.{any_of_map, any_shown, all_shown, length_of_map}
-use Rattle.ft_content.proofs.insert.insert_tests.Goals as goal
 use Rattle.ft_content.proofs.insert.insert_tests.Goals.{After-all, After-any, After-any-else-any, After-any-else-any-2, After-any-else-any-3, After-any-else-any-4}
+use Rattle.ft_content.proofs.insert.insert_tests.Goals as goal
 
 abbrev texts : List (Bor (List ℕ)) → List (List ℕ)
 texts names = map (λ (n : Bor (List ℕ)). n.now) names

@@ -1,13 +1,6 @@
 -- the names in their order
-use Rattle.std.proofs.Common.{◌≡◌, ℕ, List, Option, map, option_map, subst, sym, rules, String, string_bytes}
-use Rattle.std.specs.Prelude.{IfOk}
-use Rattle.std.proofs.lemmas.Iterator.{YieldsList-from_slice, YieldsList-from_map_by}
-use Rattle.std.proofs.lemmas.Iterator.Consumers.{map_from_collect}
-use denote.Ref.{Bor}
-use Rattle.std.specs.declared.alloc.Global.{Global}
-use Rattle.ft_values.specs.declared.table.Column.{Column}
-use Rattle.ft_content.specs.Deserved.{listed_columns}
-use Rattle.ft_content.specs.Views.{bare_content}
+use Rattle.std.proofs.Common.{◌≡◌, ℕ, List, Option, map, option_map, subst, sym, rules, String, string_bytes, IfOk, Bor}
+use Rattle.ft_content.proofs.Common.{YieldsList-from_slice, YieldsList-from_map_by, map_from_collect, Global, Column, listed_columns, bare_content}
 use Rattle.ft_content.proofs.ColumnLemmas.{names_are}
 use Rattle.ft_content.proofs.insert.listed_names.Goals as goal
 

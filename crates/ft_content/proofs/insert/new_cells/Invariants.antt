@@ -1,9 +1,7 @@
 -- the cells so far
-use Rattle.std.proofs.Common.{◌≡◌, map, take}
-use Rattle.std.specs.Prelude.{zip}
-use Rattle.ft_values.specs.Cells.{shown_value}
+use Rattle.std.proofs.Common.{◌≡◌, map, take, zip}
+use Rattle.ft_content.proofs.Common.{shown_value, column_of}
 use Rattle.ft_content.specs.Deserved as deserved
-use Rattle.ft_content.specs.Views.{column_of}
 use Rattle.ft_content.proofs.insert.new_cells.Given as goal
 
 abbrev pub invariant-loop-column : goal.invariant-loop-column

@@ -1,12 +1,6 @@
 -- the first docid that a value gives
-use Rattle.std.proofs.Common.{ℕ, List, map, ap, sym, ◌∙◌, rules, tests}
-use Rattle.std.specs.Prelude.{slice_get, zip}
-use Rattle.std.specs.List.{filter_map}
-use Rattle.std.proofs.lemmas.Iterator.{YieldsList-from_slice, YieldsList-from_zip}
-use Rattle.std.proofs.lemmas.Iterator.Consumers.{YieldsList-from_filter_map}
-use denote.Ref.{Bor}
-use Rattle.ft_values.specs.declared.rows.Value.{Value}
-use Rattle.ft_values.specs.Cells.{shown_value}
+use Rattle.std.proofs.Common.{ℕ, List, map, ap, sym, ◌∙◌, rules, tests, slice_get, zip, Bor}
+use Rattle.ft_content.proofs.Common.{filter_map, YieldsList-from_slice, YieldsList-from_zip, YieldsList-from_filter_map, Value, shown_value}
 use Rattle.ft_content.proofs.GivenLemmas.{docid_given, docids_are, filter_map_of_map, first_item, given, zip_of_maps}
 use Rattle.ft_content.proofs.insert.row_docid.Goals as goal
 

@@ -1,5 +1,5 @@
 -- one name more
-use Rattle.std.proofs.lemmas.List.{take_rest}
+use Rattle.ft_content.proofs.Common.{take_rest}
 use Rattle.ft_content.proofs.NameLemmas.{repeats_here, repeats_later}
 use Rattle.ft_content.proofs.names.repeats_behind.Goals as goal
 

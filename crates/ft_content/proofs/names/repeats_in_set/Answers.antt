@@ -1,15 +1,12 @@
 -- one name more
 use Rattle.std.proofs.Common.{◌≡◌, true, cond, List, ◌∷◌, [], ◌++◌, ℕ, not, string_bytes, sym, ap, ◌∙◌}
 use Rattle.std.specs.BTreeSet.{contains_text}
-use Rattle.std.specs.List.{list_any}
 use Rattle.std.specs.Str.{bytes_eq, str_to_ascii_lowercase}
-use Rattle.std.proofs.lemmas.List.Folds.{list_any-append}
 use Rattle.std.proofs.lemmas.Map.Text.{btree_set_updates_text}
-use Rattle.ft_content.specs.Content.{same_name}
-use Rattle.ft_content.specs.Small.{HasLowercase}
+use Rattle.ft_content.proofs.Common.{list_any, list_any-append, same_name, HasLowercase}
 use Rattle.ft_content.proofs.SmallLemmas.{or_added, small_again, small_more}
-use Rattle.ft_content.proofs.names.repeats_in_set.Goals as goal
 use Rattle.ft_content.proofs.names.repeats_in_set.Goals.{In_ok-insert}
+use Rattle.ft_content.proofs.names.repeats_in_set.Goals as goal
 
 -- the name in small letters is new where the set didn't have it
 told : (g : _) (c : In_ok-insert g) (names : List (List ℕ)) → HasLowercase c.loop-one.small names → c.in_ok-insert.field-0 ≡ not (list_any (λ n. same_name n c.name.result.now) names)

@@ -1,8 +1,7 @@
 -- the names so far, none of which stands twice
-use Rattle.std.proofs.Common.{◌≡◌, false, map}
-use Rattle.std.specs.Prelude.{take}
+use Rattle.std.proofs.Common.{◌≡◌, false, map, take}
+use Rattle.ft_content.proofs.Common.{HasLowercase}
 use Rattle.ft_content.specs.Content as content
-use Rattle.ft_content.specs.Small.{HasLowercase}
 use Rattle.ft_content.proofs.names.repeats_in_set.Given as goal
 
 abbrev pub invariant-loop-one : goal.invariant-loop-one

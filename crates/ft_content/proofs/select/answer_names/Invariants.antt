@@ -1,8 +1,7 @@
 -- the names so far
 use Rattle.std.proofs.Common.{◌≡◌, map, take}
-use Rattle.std.specs.List.{flat_map}
+use Rattle.ft_content.proofs.Common.{flat_map, bare_content, item_of, names_in}
 use Rattle.ft_content.specs.Answer as answer
-use Rattle.ft_content.specs.Views.{bare_content, item_of, names_in}
 use Rattle.ft_content.proofs.select.answer_names.Given as goal
 
 abbrev pub invariant-loop-item : goal.invariant-loop-item

@@ -1,8 +1,6 @@
 -- the items as the definitions see them
 use Rattle.std.proofs.Common.{rules, tests}
-use Rattle.std.proofs.lemmas.Iterator.{YieldsList-from_slice}
-use Rattle.ft_content.specs.Deserved.{is_offsets}
-use Rattle.ft_content.specs.Views.{item_of}
+use Rattle.ft_content.proofs.Common.{YieldsList-from_slice, is_offsets, item_of}
 use Rattle.ft_content.proofs.Lists.{any_shown}
 use Rattle.ft_content.proofs.select.any_offsets.Goals as goal
 

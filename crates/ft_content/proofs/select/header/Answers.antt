@@ -1,13 +1,8 @@
 -- the name of the column at its place
-use Rattle.std.proofs.Common.{◌≡◌, ◌<◌, ◌||◌, false, cond, List, [], ℕ, Option, Some, map, option_map, length, string_bytes, subst, sym, ap, ◌∙◌}
-use Rattle.std.specs.Prelude.{slice_get, unwrap_or, option_and_then}
-use Rattle.std.proofs.lemmas.List.{length-map}
+use Rattle.std.proofs.Common.{◌≡◌, ◌<◌, ◌||◌, false, cond, List, [], ℕ, Option, Some, map, option_map, length, string_bytes, subst, sym, ap, ◌∙◌, slice_get, unwrap_or, option_and_then}
 use Rattle.std.proofs.lemmas.List.Quantifiers.{position-Some}
 use Rattle.std.proofs.lemmas.Option.{slice_get-map, slice_get-get_or}
-use Rattle.ft_values.specs.declared.table.Column.{Column}
-use Rattle.ft_content.specs.Content.{is_docid, same_name, names_of}
-use Rattle.ft_content.specs.Answer.{docid_header, column_place}
-use Rattle.ft_content.specs.Views.{bare_content, column_of}
+use Rattle.ft_content.proofs.Common.{length-map, Column, is_docid, same_name, names_of, docid_header, column_place, bare_content, column_of}
 use Rattle.ft_content.proofs.ColumnLemmas.{names_are}
 use Rattle.ft_content.proofs.select.header.Goals as goal
 

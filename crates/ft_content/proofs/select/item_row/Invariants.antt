@@ -1,10 +1,8 @@
 -- the cells so far
 use Rattle.std.proofs.Common.{◌≡◌, map, take}
-use Rattle.std.specs.List.{flat_map}
+use Rattle.ft_content.proofs.Common.{flat_map, shown_value, bare_content, item_of, cells_of}
 use Rattle.ft_values.specs.Cells as stored
-use Rattle.ft_values.specs.Cells.{shown_value}
 use Rattle.ft_content.specs.Answer as answer
-use Rattle.ft_content.specs.Views.{bare_content, item_of, cells_of}
 use Rattle.ft_content.proofs.select.item_row.Given as goal
 
 abbrev pub invariant-loop-item : goal.invariant-loop-item

@@ -1,18 +1,9 @@
 -- a copy of the first value under the column's name, else of the cell
-use Rattle.std.proofs.Common.{◌≡◌, ℕ, List, Bool, Option, String, map, option_map, ap, sym, ◌∙◌, subst, rules, tests, string_bytes}
-use Rattle.std.specs.Prelude.{unwrap_or, IfOk}
-use Rattle.std.proofs.lemmas.Iterator.{YieldsList-from_slice}
-use Rattle.std.proofs.lemmas.Iterator.Search.{find_from_yields_List}
-use denote.Ref.{Bor}
-use Rattle.std.specs.declared.alloc.Global.{Global}
-use Rattle.ft_values.specs.declared.rows.Value.{Value}
-use Rattle.ft_values.specs.Cells.{Cell, shown_value}
-use Rattle.ft_content.specs.Content.{same_name}
-use Rattle.ft_content.specs.Deserved.{value_under}
-use Rattle.ft_content.specs.Views.{column_of, set_of}
+use Rattle.std.proofs.Common.{◌≡◌, ℕ, List, Bool, Option, String, map, option_map, ap, sym, ◌∙◌, subst, rules, tests, string_bytes, unwrap_or, IfOk, Bor}
+use Rattle.ft_content.proofs.Common.{YieldsList-from_slice, find_from_yields_List, Global, Value, Cell, shown_value, same_name, value_under, column_of, set_of}
 use Rattle.ft_content.proofs.GivenLemmas.{find_of_map}
-use Rattle.ft_content.proofs.update.cell_after.Goals as goal
 use Rattle.ft_content.proofs.update.cell_after.Goals.{After-find}
+use Rattle.ft_content.proofs.update.cell_after.Goals as goal
 
 abbrev or_cell : Cell → Option (List ℕ × Cell) → Cell
 or_cell cell o = unwrap_or (option_map (λ (v : List ℕ × Cell). v.1) o) cell

@@ -1,11 +1,6 @@
 -- the first docid that a value gives
-use Rattle.std.proofs.Common.{String, map, ap, sym, ◌∙◌, rules, tests}
-use Rattle.std.specs.Prelude.{slice_get}
-use Rattle.std.proofs.lemmas.Iterator.{YieldsList-from_slice}
-use Rattle.std.proofs.lemmas.Iterator.Consumers.{YieldsList-from_filter_map}
-use Rattle.std.specs.declared.alloc.Global.{Global}
-use Rattle.ft_values.specs.declared.rows.Value.{Value}
-use Rattle.ft_content.specs.Views.{set_of}
+use Rattle.std.proofs.Common.{String, map, ap, sym, ◌∙◌, rules, tests, slice_get}
+use Rattle.ft_content.proofs.Common.{YieldsList-from_slice, YieldsList-from_filter_map, Global, Value, set_of}
 use Rattle.ft_content.proofs.GivenLemmas.{docid_given, docids_are, filter_map_of_map, first_item}
 use Rattle.ft_content.proofs.update.set_docid.Goals as goal
 

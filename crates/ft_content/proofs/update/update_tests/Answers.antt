@@ -1,17 +1,10 @@
 -- the values under their names
 use Rattle.std.proofs.Common.{◌≡◌, not, ◌&&◌, ◌||◌, String, map, length, ap, sym, ◌∙◌, rules, tests}
-use Rattle.std.specs.List.{list_any, list_all}
-use Rattle.std.proofs.lemmas.Iterator.{YieldsList-from_slice}
-use Rattle.std.proofs.lemmas.Iterator.Consumers.{YieldsList-from_filter_map, count_from_yields_List}
-use Rattle.std.specs.declared.alloc.Global.{Global}
-use Rattle.ft_values.specs.declared.rows.Value.{Value}
-use Rattle.ft_content.specs.Content.{is_docid, is_too_long, has_nul}
-use Rattle.ft_content.specs.Deserved.{has_column, is_text, is_null, docids_named, names_unknown}
-use Rattle.ft_content.specs.Views.{bare_content, filter_of, set_of}
+use Rattle.ft_content.proofs.Common.{list_any, list_all, YieldsList-from_slice, YieldsList-from_filter_map, count_from_yields_List, Global, Value, is_docid, is_too_long, has_nul, has_column, is_text, is_null, docids_named, names_unknown, bare_content, filter_of, set_of}
 use Rattle.ft_content.proofs.Lists.{any_shown, all_shown}
 use Rattle.ft_content.proofs.GivenLemmas.{filter_map_of_map, docid_given, docids_are}
-use Rattle.ft_content.proofs.update.update_tests.Goals as goal
 use Rattle.ft_content.proofs.update.update_tests.Goals.{After-all, Joined-not-all, then-not-all, else-not-all, After-any, After-count-docids, After-any-else-docids-gt1, After-any-else-any-2}
+use Rattle.ft_content.proofs.update.update_tests.Goals as goal
 
 known : (c : After-all) → c.all.result ≡ list_all (λ s. has_column (bare_content c.args.columns.now) s.0) (map set_of c.args.sets.now)
 known c = all_shown (λ s. has_column (bare_content c.args.columns.now) s.0) set_of _ _ _ c.all.ensures.ran (YieldsList-from_slice c.args.sets.now cc) (λ x b q k. search (rules, tests))

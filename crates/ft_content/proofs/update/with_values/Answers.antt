@@ -1,15 +1,7 @@
 -- every column and cell came
-use Rattle.std.proofs.Common.{◌≡◌, map, ap, sym, ◌∙◌}
-use Rattle.std.specs.Prelude.{zip}
-use Rattle.std.proofs.lemmas.Iterator.{YieldsList-from_slice, YieldsList-from_zip}
-use Rattle.std.proofs.lemmas.Iterator.Consumers.{YieldsList-end}
-use denote.Ref.{Bor}
-use Rattle.ft_values.specs.declared.rows.Value.{Value}
-use Rattle.ft_values.specs.Cells.{Cell, shown_value}
+use Rattle.std.proofs.Common.{◌≡◌, map, ap, sym, ◌∙◌, zip, Bor}
+use Rattle.ft_content.proofs.Common.{YieldsList-from_slice, YieldsList-from_zip, YieldsList-end, Value, Cell, shown_value, Column, value_under, column_of, set_of}
 use Rattle.ft_content.specs.Content.{Column as PlainColumn}
-use Rattle.ft_values.specs.declared.table.Column.{Column}
-use Rattle.ft_content.specs.Deserved.{value_under}
-use Rattle.ft_content.specs.Views.{column_of, set_of}
 use Rattle.ft_content.proofs.Lists.{map_of_map}
 use Rattle.ft_content.proofs.GivenLemmas.{zip_of_maps}
 use Rattle.ft_content.proofs.update.with_values.Goals as goal

@@ -1,8 +1,7 @@
 -- the cells so far
 use Rattle.std.proofs.Common.{◌≡◌, map}
-use Rattle.ft_values.specs.Cells.{shown_value}
+use Rattle.ft_content.proofs.Common.{shown_value, column_of, set_of}
 use Rattle.ft_content.specs.Deserved as deserved
-use Rattle.ft_content.specs.Views.{column_of, set_of}
 use Rattle.ft_content.proofs.update.with_values.Given as goal
 
 abbrev pub invariant-loop-column : goal.invariant-loop-column
