@@ -1,14 +1,7 @@
 -- Bytes stand for places where these are read from them one after another.
-use Rattle.std.proofs.Common.{◌≡◌, ℕ, ◌+◌, ◌<◌, Bool, true, false, true≢false, List, [], ◌∷◌, map, length, drop, get_or, not, suc, pos, Option, Some, None, refl, sym, ap, ◌∙◌, arith, ◌≢◌, unwrap_or}
-use Rattle.std.specs.Prelude.{◌↔◌, ◌==◌, ◌&&◌, IsTrue, nat_lt, if◌then◌else◌}
-use Rattle.std.specs.Option.{option_and_then}
-use Rattle.std.proofs.lemmas.Bool.{eqb-true, eq-eqb, false_from_ne_true, and_parts}
-use Rattle.std.proofs.lemmas.Bool.Decides.{nat_tests}
-use Rattle.std.proofs.lemmas.List.{drop_more}
-use Rattle.ft_rows.specs.Packed.{Spot, origin, numbers_in, unpacked}
-use Rattle.ft_rows.specs.declared.terms.Posting.{Posting}
-use Rattle.ft_rows.specs.Terms.{spot_of}
-use Rattle.ft_rows.specs.Unpacking.{spot_from, passes, checked, read_after, BeginsWithSpot}
+use Rattle.std.proofs.Common.{◌≡◌, ℕ, ◌+◌, ◌<◌, Bool, true, false, true≢false, List, [], ◌∷◌, map, length, drop, get_or, not, suc, pos, Option, Some, None, refl, sym, ap, ◌∙◌, arith, ◌≢◌, unwrap_or, ◌↔◌, ◌==◌, ◌&&◌, IsTrue, nat_lt, if◌then◌else◌}
+use Rattle.ft_rows.proofs.Common.{option_and_then, eqb-true, eq-eqb, false_from_ne_true, and_parts, nat_tests, drop_more, Spot, origin, Posting, spot_of, spot_from, passes, checked, read_after, BeginsWithSpot}
+use Rattle.ft_rows.specs.Packed.{numbers_in, unpacked}
 use Rattle.ft_rows.proofs.PackedLemmas.{same_some}
 use Rattle.ft_rows.proofs.ReadLemmas.{some_number, unpacked-is_read}
 

@@ -1,3 +1,4 @@
+pub mod Common
 pub mod ExactLemmas
 pub mod ListLemmas
 pub mod PackTests

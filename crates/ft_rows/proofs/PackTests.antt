@@ -1,8 +1,6 @@
 -- The places that can be packed, tested one after another.
 use Rattle.std.proofs.Common.{◌≡◌, Bool, true, false, ◌&&◌, List, [], ◌∷◌, refl, sym, ap, ◌∙◌}
-use Rattle.std.proofs.lemmas.Bool.{and_parts, and_from}
-use Rattle.ft_rows.specs.Packed.{Spot, CanPack, is_spot, is_after, rise_after, origin}
-use Rattle.ft_rows.specs.Unpacking.{passes}
+use Rattle.ft_rows.proofs.Common.{and_parts, and_from, Spot, CanPack, is_spot, is_after, rise_after, origin, passes}
 
 abbrev pub tests : Bool → Spot → List Spot → Bool
 tests first last [] = true

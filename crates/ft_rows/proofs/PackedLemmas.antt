@@ -1,12 +1,8 @@
 -- A packed list is read as the spots that it was made of.
-use Rattle.std.proofs.Common.{◌≡◌, ℕ, zero, suc, ◌+◌, ◌-◌, ◌*◌, ◌/◌, ◌%◌, ◌^◌, ◌<◌, ◌≤◌, true, false, ◌&&◌, List, [], ◌∷◌, ◌++◌, Some, None, refl, sym, ap, subst, ◌∙◌, arith, nat_lt, nat_le, ◌==◌, ⊎_elim}
-use Rattle.std.specs.Prelude.{IsTrue, if◌then◌else◌, unwrap_or, slice_index}
-use Rattle.std.specs.List.{flat_map}
-use Rattle.std.specs.Option.{option_and_then}
-use Rattle.std.proofs.lemmas.Bool.{and_parts, or_cases, ltb-true, ltb-false, leb-true, eqb-true, eqb-false}
+use Rattle.std.proofs.Common.{◌≡◌, ℕ, zero, suc, ◌+◌, ◌-◌, ◌*◌, ◌/◌, ◌%◌, ◌^◌, ◌<◌, ◌≤◌, true, false, ◌&&◌, List, [], ◌∷◌, ◌++◌, Some, None, refl, sym, ap, subst, ◌∙◌, arith, nat_lt, nat_le, ◌==◌, ⊎_elim, IsTrue, if◌then◌else◌, unwrap_or, slice_index}
 use Rattle.std.proofs.lemmas.Option.{option_and_then_some, cond_some}
-use Rattle.std.proofs.lemmas.Bool.Decides.{nat_tests}
-use Rattle.ft_rows.specs.Packed.{Spot, leb128_within, leb128, going_on, numbers_in, origin, numbers_after, spots_after, is_after, is_spot, rise_after, are_spots, packed, unpacked, PackedIsRead, PackedIsExact, OnlyPackedIsRead}
+use Rattle.ft_rows.proofs.Common.{flat_map, option_and_then, and_parts, or_cases, ltb-true, ltb-false, leb-true, eqb-true, eqb-false, nat_tests, Spot, leb128_within, going_on, origin, numbers_after, spots_after, is_after, is_spot, rise_after, are_spots, PackedIsRead, PackedIsExact, OnlyPackedIsRead}
+use Rattle.ft_rows.specs.Packed.{leb128, numbers_in, packed, unpacked}
 
 -- ---- numbers
 

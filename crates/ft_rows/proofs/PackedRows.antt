@@ -1,6 +1,7 @@
 -- Lists of bytes that are spots or damaged, computed.
-use Rattle.std.specs.Prelude.{◌≡◌, ℕ, [], ◌∷◌, Some, None, refl}
-use Rattle.ft_rows.specs.Packed.{Spot, leb128, numbers_in, packed, unpacked}
+use Rattle.std.proofs.Common.{◌≡◌, ℕ, [], ◌∷◌, Some, None, refl}
+use Rattle.ft_rows.proofs.Common.{Spot}
+use Rattle.ft_rows.specs.Packed.{leb128, numbers_in, packed, unpacked}
 
 abbrev pub spot : ℕ → ℕ → ℕ → ℕ → Spot
 spot column pos place size = record { column = column; pos = pos; place = place; size = size }

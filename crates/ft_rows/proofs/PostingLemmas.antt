@@ -1,13 +1,9 @@
 -- Postings one after another, as lists.
-use Rattle.std.proofs.Common.{◌≡◌, ℕ, ℤ, ◌+◌, Bool, true, false, cond, Some, List, [], ◌∷◌, map, refl, sym, ap, subst, ◌∙◌, suc, arith, take, drop}
-use Rattle.std.specs.Prelude.{slice_get}
-use Rattle.std.specs.List.{prefix_len}
+use Rattle.std.proofs.Common.{◌≡◌, ℕ, ℤ, ◌+◌, Bool, true, false, cond, Some, List, [], ◌∷◌, map, refl, sym, ap, subst, ◌∙◌, suc, arith, take, drop, slice_get}
 use Rattle.std.specs.Ordering.{int_eq}
-use Rattle.std.proofs.lemmas.Bool.Decides.{Decides-int_eq}
 use Rattle.std.proofs.lemmas.List.Sums.{prefix_len-le-length}
 use Rattle.ft_values.specs.declared.rows.Spot.{Spot}
-use Rattle.ft_rows.specs.declared.terms.Posting.{Posting}
-use Rattle.ft_rows.specs.Terms.{spot_of, joined_posting, lists_of_postings, AreFirstList}
+use Rattle.ft_rows.proofs.Common.{prefix_len, Decides-int_eq, Posting, spot_of, joined_posting, lists_of_postings, AreFirstList}
 
 pub itself : (n : ℤ) → int_eq n n ≡ true
 itself n = (Decides-int_eq n n).1 refl

@@ -1,12 +1,8 @@
 -- How the functions that pack and unpack go through numbers and places.
-use Rattle.std.proofs.Common.{◌≡◌, ℕ, zero, suc, ◌+◌, ◌-◌, ◌*◌, ◌/◌, ◌%◌, ◌^◌, ◌<◌, ◌≤◌, Bool, true, false, ◌&&◌, ◌||◌, ◌==◌, List, [], ◌∷◌, ◌++◌, length, get_or, Some, None, Option, sym, ap, subst, ◌∙◌, arith, nat_lt, append_assoc, append-nil, ltb-true, refl, ◌≢◌, true≢false}
-use Rattle.std.specs.Prelude.{if◌then◌else◌, IsTrue}
-use Rattle.std.specs.Option.{option_and_then}
+use Rattle.std.proofs.Common.{◌≡◌, ℕ, zero, suc, ◌+◌, ◌-◌, ◌*◌, ◌/◌, ◌%◌, ◌^◌, ◌<◌, ◌≤◌, Bool, true, false, ◌&&◌, ◌||◌, ◌==◌, List, [], ◌∷◌, ◌++◌, length, get_or, Some, None, Option, sym, ap, subst, ◌∙◌, arith, nat_lt, append_assoc, append-nil, ltb-true, refl, ◌≢◌, true≢false, if◌then◌else◌, IsTrue}
 use Rattle.std.proofs.lemmas.Option.{option_and_then_some, cond_some}
-use Rattle.std.proofs.lemmas.Bool.{eqb-true, eqb-false, and_parts}
-use Rattle.std.proofs.lemmas.Bool.Decides.{nat_tests}
-use Rattle.ft_rows.specs.Packed.{Spot, leb128_within, leb128, going_on, numbers_in, is_spot, is_after, origin, spots_after, rise_after, are_spots, unpacked}
-use Rattle.ft_rows.specs.Unpacking.{spot_from, passes, checked, read_after, BeginsWith, BeginsWithSpot, HasNoNumber}
+use Rattle.ft_rows.proofs.Common.{option_and_then, eqb-true, eqb-false, and_parts, nat_tests, Spot, leb128_within, going_on, is_spot, is_after, origin, spots_after, rise_after, are_spots, spot_from, passes, checked, read_after, BeginsWith, BeginsWithSpot, HasNoNumber}
+use Rattle.ft_rows.specs.Packed.{leb128, numbers_in, unpacked}
 use Rattle.ft_rows.proofs.PackedLemmas.{reach, more_fuel, last_byte, is_spot-fits, same_some}
 
 -- a number from 128 on is its low seven bits and the rest

@@ -1,42 +1,23 @@
 -- What the calls are like that the turns of a session make of the full-text tables, and that they
 -- are all that changes these.
-use Rattle.std.proofs.Common.{◌≡◌, ℕ, Bool, true, false, List, [], ◌∷◌, ◌++◌, Option, Some, None, refl, sym, ap, subst, ◌⊎◌, inl, inr}
-use Rattle.std.specs.Prelude.{MatchBool, codes, length, map, is_ok}
-use Rattle.sqlite.specs.Store.{Ghosts}
-use Rattle.sqlite.specs.Held.{Held}
+use Rattle.std.proofs.Common.{◌≡◌, ℕ, Bool, true, false, List, [], ◌∷◌, ◌++◌, Option, Some, None, refl, sym, ap, subst, ◌⊎◌, inl, inr, MatchBool, codes, length, map, is_ok}
 use Rattle.shell_text.specs.Print.{Settings}
 use Rattle.shell_text.specs.Units.{Member, Sql, Dot, Fault}
 use Rattle.shell_text.specs.Dot.{dot_words_of}
 use Rattle.shell_text.specs.Words.{is_unclosed}
-use Rattle.ft_index.specs.Kept.{FullText, OnlyLooks}
 use Rattle.ft_index.specs.Crashes.{LeavesRead}
-use Rattle.ft_index.specs.Called.{Call, Looked, Noted, DoesCall, Runs}
-use Rattle.ft_statements.specs.Words.{sql_tokens}
-use Rattle.ft_statements.specs.Plain.{asks, made_name}
-use Rattle.ft_shell.specs.Shell.{Shell}
+use Rattle.ft_index.specs.Called.{Runs}
 use Rattle.shell_io.specs.Outcomes.{Answer, blames, lacks_memory}
-use Rattle.ft_shell.specs.Effects.{Effects, and_then}
-use Rattle.ft_content.specs.Command.{Insert}
-use Rattle.ft_statements.specs.Dots.{DotCommand, Import, Nothing, SetMode, SetHeaders, SetSeparator, SetNull, SetEcho, SetBail, Print, Importing, Tables, Quit, Usage, Unknown, dot_command_of}
-use Rattle.ft_shell.specs.DotTurns.{DotTurn}
-use Rattle.ft_shell.specs.DotParts.{after_stop}
-use Rattle.ft_shell.specs.FullTextTurns.{MaybeNotes, NoteTurn}
 use Rattle.plain_sql.specs.Imports.{delimiter_of, row_cells}
-use Rattle.shell_io.specs.Records.{warnings}
-use Rattle.ft_shell.specs.ImportTurns.{BytesTurn, DelimitedTurn, FileTurn, IntoNamed, IntoNew, PlainImport, TextImport, width_in, executed, no_memory, no_header, too_wide, declined, there, new_table, untried, read, no_text, fetched, unfetched}
-use Rattle.shell_io.specs.Records.{kept, records_in}
-use Rattle.shell_io.specs.Sources.{fetch_words}
-use Rattle.ft_shell.specs.TablesTurns.{TablesTurn}
-use Rattle.ft_shell.specs.ImportTurns as imports
-use Rattle.ft_shell.specs.TablesTurns as tables
-use Rattle.ft_shell.specs.PlainTurns.{CommandTurn, PlainTurn, done, refused}
+use Rattle.shell_io.specs.Records.{warnings, kept, records_in}
+use Rattle.shell_io.specs.Sources.{fetch_words, Files, GivesFile}
 use Rattle.plain_sql.specs.PlainStatements.{QueryTurn}
-use Rattle.ft_statements.specs.Statements.{Class, Plain, FullText as FullTextClass, class_of}
-use Rattle.ft_shell.specs.StatementTurns.{ClassTurn, Declines, StatementTurn, known_names}
+use Rattle.ft_statements.specs.Statements.{FullText as FullTextClass}
+use Rattle.ft_shell.proofs.Common.{Ghosts, Held, FullText, OnlyLooks, Call, Looked, Noted, DoesCall, sql_tokens, asks, made_name, Shell, Effects, and_then, Insert, DotCommand, Import, Nothing, SetMode, SetHeaders, SetSeparator, SetNull, SetEcho, SetBail, Print, Importing, Tables, Quit, Usage, Unknown, dot_command_of, DotTurn, after_stop, MaybeNotes, NoteTurn, BytesTurn, DelimitedTurn, FileTurn, IntoNamed, IntoNew, PlainImport, TextImport, width_in, executed, no_memory, no_header, too_wide, declined, there, new_table, untried, read, no_text, fetched, unfetched, TablesTurn, CommandTurn, PlainTurn, done, refused, Class, Plain, class_of, ClassTurn, Declines, StatementTurn, known_names, Body, Turn, Turns, calls_in}
 use Rattle.ft_shell.specs.TurnCalls.{bytes_in, class_in, closed_in, command_in, delimited_in, dot_in, file_in, named_in, new_in, note_in, plain_in, statement_in, table_in, tables_in, text_in}
 use Rattle.ft_shell.proofs.Spelled.{MayNote, MayRead, NoCall, CallsOf, CallsOfClass, CallsOfDot, CallsOfImport, HasRecords, OneCommand}
-use Rattle.shell_io.specs.Sources.{Files, GivesFile}
-use Rattle.ft_shell.specs.Turns.{Body, Turn, Turns, calls_in}
+use Rattle.ft_shell.specs.ImportTurns as imports
+use Rattle.ft_shell.specs.TablesTurns as tables
 
 -- ---- calls
 

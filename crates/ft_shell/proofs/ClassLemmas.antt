@@ -1,26 +1,15 @@
 -- Names of tables, as the code and as contracts see them.
-use Rattle.std.proofs.Common.{◌≡◌, ℕ, List, map, Option, None, Result, Err, true, false, refl, sym, ap, subst, ◌∙◌, inl, inr, [], ◌∷◌, string_bytes}
-use Rattle.std.specs.Prelude.{MatchBool, codes}
-use Rattle.sqlite.specs.Store.{Ghosts}
-use Rattle.sqlite.specs.Held.{Held}
+use Rattle.std.proofs.Common.{◌≡◌, ℕ, List, map, Option, None, Result, Err, true, false, refl, sym, ap, subst, ◌∙◌, inl, inr, [], ◌∷◌, string_bytes, MatchBool, codes}
 use Rattle.shell_text.specs.Print.{Settings}
 use Rattle.shell_text.specs.Words.{is_unclosed}
 use Rattle.shell_text.specs.declared.words.LexFault.{LexFault}
-use Rattle.shell_text.specs.declared.words.LexFault.TheVariants as lex
-use Rattle.ft_statements.specs.Words.{sql_tokens}
-use Rattle.ft_statements.specs.Texts.{statement_text}
 use Rattle.ft_statements.specs.declared.statement.StatementFault.{StatementFault}
-use Rattle.ft_statements.specs.declared.statement.StatementFault.TheVariants as faults
 use Rattle.shell_io.specs.Outcomes.{Answer, blames}
 use Rattle.shell_io.specs.FaultWords.{lex_words}
-use Rattle.ft_shell.specs.PlainTurns.{OrNothing}
-use Rattle.ft_shell.specs.StatementTurns.{ClassTurn, Declines, StatementTurn}
 use Rattle.ft_values.specs.declared.table.TableInfo.{TableInfo as RustTableInfo}
-use Rattle.ft_content.specs.Views.{TableInfo, shown_info, info_names}
-use Rattle.ft_index.specs.Kept.{FullText}
-use Rattle.ft_statements.specs.Words.{Token}
-use Rattle.ft_statements.specs.Statements.{Class, class_of}
-use Rattle.ft_shell.specs.StatementTurns.{known_names}
+use Rattle.ft_shell.proofs.Common.{Ghosts, Held, sql_tokens, statement_text, OrNothing, ClassTurn, Declines, StatementTurn, TableInfo, shown_info, info_names, FullText, Token, Class, class_of, known_names}
+use Rattle.shell_text.specs.declared.words.LexFault.TheVariants as lex
+use Rattle.ft_statements.specs.declared.statement.StatementFault.TheVariants as faults
 
 names_known : (tables : List RustTableInfo) → info_names tables ≡ map (λ (t : TableInfo). t.name) (map shown_info tables)
 names_known [] = refl

@@ -1,20 +1,13 @@
 -- A dot-command that does nothing but change a setting.
 use Rattle.std.proofs.Common.{◌≡◌, ◌⊎◌, ℕ, List, refl, ap, inl, inr, Vec, String, Global, Bor}
-use Rattle.sqlite.specs.Store.{Ghosts}
-use Rattle.sqlite.specs.Held.{Held}
 use Rattle.shell_text.specs.Print.{Settings}
-use Rattle.ft_index.specs.Kept.{FullText}
 use Rattle.ft_statements.specs.declared.dots.DotCommand.{DotCommand}
-use Rattle.ft_statements.specs.declared.dots.DotCommand.TheVariants as commands
 use Rattle.ft_statements.specs.declared.dots.Import.{Import}
-use Rattle.ft_statements.specs.Dots as forms
-use Rattle.ft_statements.specs.Views.{command_as}
-use Rattle.ft_shell.specs.DotParts.{Sets}
 use Rattle.shell_io.specs.Sources.{Files}
 use Rattle.shell_io.specs.Outcomes.{Answer, lacks_memory}
-use Rattle.ft_shell.specs.DotTurns.{OnlySets}
-use Rattle.ft_shell.specs.Shell.{shell_of}
-use Rattle.ft_shell.specs.Turns.{DotOrLacks}
+use Rattle.ft_shell.proofs.Common.{Ghosts, Held, FullText, command_as, Sets, OnlySets, shell_of, DotOrLacks}
+use Rattle.ft_statements.specs.declared.dots.DotCommand.TheVariants as commands
+use Rattle.ft_statements.specs.Dots as forms
 
 module _ {P S : Type 0} (g : Ghosts P) (h : Ghosts S) (plain : Held P) (known : FullText S) (holds : Files) (old new : Settings) (answer : Answer) where
   abbrev SetsOrLacks : forms.DotCommand → Type 0

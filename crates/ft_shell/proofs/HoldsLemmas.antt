@@ -1,21 +1,11 @@
 -- What is known of the files stays, whatever a run does.
-use Rattle.std.proofs.Common.{◌≡◌, ◌^◌, Bool, true, false, List, [], ◌∷◌, ◌++◌, take, Option, Result, Ok, Err, ap, ◌∙◌, inl, inr}
-use Rattle.std.specs.Prelude.{ℕ, MatchBool}
-use Rattle.sqlite.specs.Store.{Ghosts}
+use Rattle.std.proofs.Common.{◌≡◌, ◌^◌, Bool, true, false, List, [], ◌∷◌, ◌++◌, take, Option, Result, Ok, Err, ap, ◌∙◌, inl, inr, ℕ, MatchBool}
 use Rattle.shell_text.specs.Units.{Member, Sql, Dot, Fault, members_of}
 use Rattle.shell_text.specs.Dot.{dot_words_of}
 use Rattle.shell_io.specs.declared.run.Status.{Status}
 use Rattle.shell_io.specs.declared.run.RunFault.{RunFault}
-use Rattle.ft_shell.specs.DotParts.{after_stop}
 use Rattle.shell_io.specs.Outcomes.{Answer}
-use Rattle.ft_statements.specs.Dots.{DotCommand, Nothing, SetMode, SetHeaders, SetSeparator, SetNull, SetEcho, SetBail, Print, Importing, Tables, Quit, Usage, Unknown, dot_command_of}
-use Rattle.ft_shell.specs.Shell.{Shell}
-use Rattle.ft_shell.specs.Effects.{Effects, and_then}
-use Rattle.ft_shell.specs.DotTurns.{DotTurn}
-use Rattle.ft_shell.specs.Turns.{Body, Turns}
-use Rattle.ft_shell.specs.Broken.{Broken, not_begun, not_echoed, not_told}
-use Rattle.ft_shell.specs.Runs.{Console, IsWhole, IsFront}
-use Rattle.ft_shell.specs.Promise.{Ran, RanAndKept}
+use Rattle.ft_shell.proofs.Common.{Ghosts, after_stop, DotCommand, Nothing, SetMode, SetHeaders, SetSeparator, SetNull, SetEcho, SetBail, Print, Importing, Tables, Quit, Usage, Unknown, dot_command_of, Shell, Effects, and_then, DotTurn, Body, Turns, Broken, not_begun, not_echoed, not_told, Console, IsWhole, IsFront, Ran, RanAndKept}
 
 module _ {P S : Type 0} (g : Ghosts P) (h : Ghosts S) where
   shell_holds : (old new : Shell P S) → new ≡ old → new.holds ≡ old.holds

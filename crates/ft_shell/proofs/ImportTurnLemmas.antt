@@ -1,17 +1,9 @@
 -- What is refused.
-use Rattle.std.proofs.Common.{◌≡◌, ◌≤◌, ◌⊎◌, ℕ, List, ◌∷◌, length, Some, Result, Err, refl, ap, ◌∙◌, inl, inr}
-use Rattle.std.specs.Prelude.{codes}
+use Rattle.std.proofs.Common.{◌≡◌, ◌≤◌, ◌⊎◌, ℕ, List, ◌∷◌, length, Some, Result, Err, refl, ap, ◌∙◌, inl, inr, codes}
 use Rattle.shell_text.specs.Records.{IsNoText, csv_reader}
 use Rattle.shell_text.specs.declared.records.RecordFault.{RecordFault}
-use Rattle.shell_text.specs.declared.records.RecordFault.TheVariants as records
 use Rattle.ft_values.specs.declared.fault.Fault.{Fault}
-use Rattle.ft_values.specs.declared.fault.Fault.TheVariants as faults
-use Rattle.ft_statements.specs.Texts.{fault_text}
 use Rattle.shell_io.specs.FaultWords.{record_words}
-use Rattle.sqlite.specs.Store.{Ghosts}
-use Rattle.sqlite.specs.Held.{Held, state}
-use Rattle.ft_index.specs.Kept.{FullText}
-use Rattle.ft_statements.specs.Dots.{Import}
 use Rattle.plain_sql.specs.declared.plain_import.ImportFault.{ImportFault}
 use Rattle.plain_sql.specs.declared.plain_import.ImportFault.TheVariants.{Refused, Memory}
 use Rattle.plain_sql.specs.IntoTables.{fault_words}
@@ -19,8 +11,10 @@ use Rattle.plain_sql.specs.PlainImports.{CommitsNothing, import_steps, Declines}
 use Rattle.plain_sql.specs.PlainStatements.{IfClean}
 use Rattle.shell_io.specs.Records.{records_in}
 use Rattle.shell_io.specs.Outcomes.{Answer, Tells, blames}
+use Rattle.ft_shell.proofs.Common.{fault_text, Ghosts, Held, state, FullText, Import, BytesTurn, IntoNew, declined, no_memory}
+use Rattle.shell_text.specs.declared.records.RecordFault.TheVariants as records
+use Rattle.ft_values.specs.declared.fault.Fault.TheVariants as faults
 use Rattle.ft_shell.specs.ImportTurns as imports
-use Rattle.ft_shell.specs.ImportTurns.{BytesTurn, IntoNew, declined, no_memory}
 
 module _ {P : Type 0} (g : Ghosts P) (what : Import) (rows : List (ℕ × List (List ℕ))) where
   pub making_refused : {S T : Type 0} (h : Ghosts S) (fault : ImportFault) (first : ℕ × List (List ℕ)) (rest : List (ℕ × List (List ℕ))) (old new : Held P) (known : FullText S) (told : Answer) → rows ≡ first ∷ rest → length first.1 ≤ 100

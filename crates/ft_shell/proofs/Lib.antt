@@ -1,3 +1,4 @@
+pub mod Common
 pub mod PlainTurnLemmas
 pub mod ClassLemmas
 pub mod RanLemmas

@@ -1,11 +1,8 @@
 -- Pieces of an input that are read.
 use Rattle.std.proofs.Common.{◌≡◌, ◌≢◌, ◌⊎◌, ℕ, ◌-◌, ◌<◌, min, List, [], ◌++◌, length, take, drop, Option, Result, Ok, Err, refl, sym, ap, ◌∙◌, arith, length-append, inl, inr}
-use Rattle.std.specs.Io.KnownBytes.{Consumes, IsAtEnd}
-use Rattle.std.proofs.lemmas.List.{length-drop, length-take-le, take_all}
-use Rattle.sqlite.specs.Store.{Ghosts}
 use Rattle.shell_io.specs.declared.run.RunFault.{RunFault}
 use Rattle.shell_io.specs.LinesRead.{LinesRead, Way, at_end, behind, members_left}
-use Rattle.ft_shell.specs.Ran.{Moment, Runs, TakesRead}
+use Rattle.ft_shell.proofs.Common.{Consumes, IsAtEnd, length-drop, length-take-le, take_all, Ghosts, Moment, Runs, TakesRead}
 use Rattle.ft_shell.proofs.RanLemmas.{runs_as}
 use Rattle.ft_shell.proofs.RunLemmas.{HasRead, Interrupted, nil_of, some_or_none}
 

@@ -1,15 +1,9 @@
 -- A plain statement is a query, or a command.
-use Rattle.std.proofs.Common.{◌≡◌, ℕ, List, refl, subst, sym}
-use Rattle.std.specs.Prelude.{MatchBool, true, false, Option}
-use Rattle.sqlite.specs.Store.{Ghosts}
-use Rattle.sqlite.specs.Held.{Held}
+use Rattle.std.proofs.Common.{◌≡◌, ℕ, List, refl, subst, sym, MatchBool, true, false, Option}
 use Rattle.shell_text.specs.Print.{Settings}
-use Rattle.ft_index.specs.Kept.{FullText}
-use Rattle.ft_statements.specs.Plain.{asks, made_name}
-use Rattle.ft_statements.specs.Words.{sql_tokens}
 use Rattle.plain_sql.specs.PlainStatements.{QueryTurn}
 use Rattle.shell_io.specs.Outcomes.{Answer}
-use Rattle.ft_shell.specs.PlainTurns.{CommandTurn, PlainTurn}
+use Rattle.ft_shell.proofs.Common.{Ghosts, Held, FullText, asks, made_name, sql_tokens, CommandTurn, PlainTurn}
 
 pub asks_turn : {P S : Type 0} (g : Ghosts P) (h : Ghosts S) (settings : Settings) (text : List ℕ) (old new : Held P) (before : FullText S) (told : Answer) →
     asks (sql_tokens text) ≡ true → QueryTurn g settings text old new told → PlainTurn g h settings text old new before before told

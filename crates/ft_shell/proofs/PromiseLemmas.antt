@@ -1,45 +1,26 @@
 -- What runs leave, by the calls that their turns made.
-use Rattle.std.proofs.Common.{◌≡◌, ℕ, Bool, true, false, List, [], ◌∷◌, ◌++◌, Option, Some, None, Result, Ok, Err, refl, ap, sym, subst, ◌∙◌, ◌⊎◌, inl, inr, append-nil, append_assoc, ◌^◌}
-use Rattle.std.specs.Prelude.{IsTrue, MatchBool, drop, map, take}
-use Rattle.std.proofs.lemmas.List.{take-append-drop}
-use Rattle.sqlite.specs.Store.{Ghosts}
+use Rattle.std.proofs.Common.{◌≡◌, ℕ, Bool, true, false, List, [], ◌∷◌, ◌++◌, Option, Some, None, Result, Ok, Err, refl, ap, sym, subst, ◌∙◌, ◌⊎◌, inl, inr, append-nil, append_assoc, ◌^◌, IsTrue, MatchBool, drop, map, take}
 use Rattle.shell_text.specs.Print.{Settings}
 use Rattle.shell_text.specs.Dot.{dot_words_of}
-use Rattle.shell_text.specs.Units as units
 use Rattle.shell_text.specs.Units.{Member, Sql, Dot, members_of}
 use Rattle.shell_text.specs.Words.{is_unclosed}
 use Rattle.ft_values.specs.declared.fault.Fault.{Fault}
-use Rattle.ft_content.specs.Command.{Command, Filter, Insert, Items, Reply, Select}
 use Rattle.ft_content.specs.Deserved.{Contents, deserved}
 use Rattle.ft_content.specs.Step.{after, reply_to, step, step_by}
-use Rattle.ft_index.specs.Kept.{FullText, is_outside}
-use Rattle.ft_index.specs.Called.{Call, CallsKept, Executed, Looked, Noted, Runs, KeptByCalls, NoneGetsUnsound, accepted, left_by, AreAnswered}
-use Rattle.ft_statements.specs.Words.{sql_tokens}
-use Rattle.ft_statements.specs.Statements.{Class, Plain, FullText as FullTextClass, class_of}
-use Rattle.ft_statements.specs.Dots.{DotCommand, Import, Nothing, SetMode, SetHeaders, SetSeparator, SetNull, SetEcho, SetBail, Print, Importing, Tables, Quit, Usage, Unknown, dot_command_of}
-use Rattle.ft_statements.specs.Replies.{reply_text}
+use Rattle.ft_index.specs.Called.{Runs, left_by, AreAnswered}
+use Rattle.ft_statements.specs.Statements.{FullText as FullTextClass}
 use Rattle.shell_io.specs.declared.run.Status.{Status}
 use Rattle.shell_io.specs.declared.run.RunFault.{RunFault}
-use Rattle.ft_shell.specs.Shell.{Parts, Shell}
 use Rattle.plain_sql.specs.Imports.{row_cells}
-use Rattle.ft_shell.specs.ImportTurns.{width_in}
 use Rattle.shell_io.specs.Records.{kept, records_in}
-use Rattle.ft_shell.specs.FullTextTurns.{answer_of_reply}
-use Rattle.ft_shell.specs.StatementTurns.{known_names}
 use Rattle.shell_io.specs.Outcomes.{Answer, Outcome, Tells, says, echoed, lacks_memory, outcome_of}
-use Rattle.ft_shell.specs.Effects.{Effects, idle, and_then, outcome_in}
-use Rattle.ft_shell.specs.DotParts.{after_stop}
-use Rattle.ft_shell.proofs.Spelled.{MayNote, MayRead, CallsOf, CallsOfClass, CallsOfDot, CallsOfImport}
-use Rattle.ft_shell.specs.Turns.{Begins, Turn, Turns}
-use Rattle.ft_shell.specs.Ran.{Ends}
-use Rattle.ft_shell.specs.Runs.{Console, IsFront, IsWhole}
 use Rattle.ft_index.specs.Crashes.{SurvivesCrash}
-use Rattle.ft_shell.specs.Promise.{IsClean, Ran, AllRan, none_ran, last_ran, first_ran, Reached, Lists, KeptByRuns, RanAndKept, shell_parts, read_by}
+use Rattle.shell_io.specs.Sources.{Files}
+use Rattle.ft_shell.proofs.Common.{take-append-drop, Ghosts, Command, Filter, Insert, Items, Reply, Select, FullText, is_outside, Call, CallsKept, Executed, Looked, Noted, KeptByCalls, NoneGetsUnsound, accepted, sql_tokens, Class, Plain, class_of, DotCommand, Import, Nothing, SetMode, SetHeaders, SetSeparator, SetNull, SetEcho, SetBail, Print, Importing, Tables, Quit, Usage, Unknown, dot_command_of, reply_text, Parts, Shell, width_in, answer_of_reply, known_names, Effects, idle, and_then, outcome_in, after_stop, Begins, Turn, Turns, Ends, Console, IsFront, IsWhole, IsClean, Ran, AllRan, none_ran, last_ran, first_ran, Reached, Lists, KeptByRuns, RanAndKept, shell_parts, read_by, Broken, not_begun, not_echoed, not_told, made_name}
+use Rattle.ft_shell.proofs.Spelled.{MayNote, MayRead, CallsOf, CallsOfClass, CallsOfDot, CallsOfImport}
 use Rattle.ft_shell.proofs.CallsLemmas.{runs_join, turn_spelled, turns_made}
 use Rattle.ft_shell.proofs.TurnsLemmas.{assoc_then, idle_then, turns_one, turns_then}
-use Rattle.ft_shell.specs.Broken.{Broken, not_begun, not_echoed, not_told}
-use Rattle.shell_io.specs.Sources.{Files}
-use Rattle.ft_statements.specs.Plain.{made_name}
+use Rattle.shell_text.specs.Units as units
 
 -- ---- calls
 

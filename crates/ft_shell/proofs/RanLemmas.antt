@@ -1,24 +1,17 @@
 -- What parts of a run do, one after the other.
-use Rattle.std.proofs.Common.{◌≡◌, ℕ, ◌+◌, ◌-◌, ◌^◌, min, Bool, true, false, ◌||◌, List, [], ◌∷◌, ◌++◌, Option, Result, Ok, Err, refl, sym, ap, subst, ◌∙◌, arith, append_assoc, inl, inr}
-use Rattle.std.specs.Prelude.{IfErr, OnOk}
-use Rattle.std.specs.Io.KnownBytes.{Appends}
-use Rattle.sqlite.specs.Store.{Ghosts}
+use Rattle.std.proofs.Common.{◌≡◌, ℕ, ◌+◌, ◌-◌, ◌^◌, min, Bool, true, false, ◌||◌, List, [], ◌∷◌, ◌++◌, Option, Result, Ok, Err, refl, sym, ap, subst, ◌∙◌, arith, append_assoc, inl, inr, IfErr, OnOk}
 use Rattle.shell_text.specs.declared.units.UnitKind.{UnitKind}
-use Rattle.shell_text.specs.declared.units.UnitKind.TheVariants as kinds
 use Rattle.shell_text.specs.Units.{Member}
 use Rattle.shell_text.specs.Splitting.{member_as}
 use Rattle.shell_io.specs.declared.run.RunFault.{RunFault}
-use Rattle.shell_io.specs.declared.run.RunFault.TheVariants as causes
-use Rattle.ft_shell.specs.Shell.{Shell}
 use Rattle.shell_io.specs.Outcomes.{Answer, echo_text, echoed, outcome_of}
-use Rattle.ft_shell.specs.Effects.{Effects, effects_of, idle, and_then}
-use Rattle.ft_shell.specs.Turns.{Body, Turn, calls_in, echo_of}
-use Rattle.ft_shell.specs.Broken.{Broken, not_begun, not_echoed, not_told}
 use Rattle.shell_text.specs.Print.{Settings}
 use Rattle.shell_io.specs.Writing.{AppendsUpTo, Sends}
-use Rattle.ft_shell.specs.Ran.{Moment, Did, Cut, Passes, Breaks, Runs}
 use Rattle.shell_io.proofs.WriteLemmas.{appends_then, appends_same}
+use Rattle.ft_shell.proofs.Common.{Appends, Ghosts, Shell, Effects, effects_of, idle, and_then, Body, Turn, calls_in, echo_of, Broken, not_begun, not_echoed, not_told, Moment, Did, Cut, Passes, Breaks, Runs}
 use Rattle.ft_shell.proofs.TurnsLemmas.{assoc_then, turns_then, turns_one}
+use Rattle.shell_text.specs.declared.units.UnitKind.TheVariants as kinds
+use Rattle.shell_io.specs.declared.run.RunFault.TheVariants as causes
 
 -- ---- turns of members
 

@@ -1,24 +1,17 @@
 -- From the pieces of an input to a whole run.
 use Rattle.std.proofs.Common.{◌≡◌, ◌≢◌, ◌⊎◌, ℕ, zero, suc, ◌+◌, ◌-◌, ◌^◌, ◌<◌, ◌≤◌, Bool, true, false, ◌||◌, List, [], ◌∷◌, ◌++◌, length, take, drop, Option, Some, None, Result, Err, refl, sym, ap, subst, ◌∙◌, arith, append-nil, append_assoc, length-append, inl, inr}
-use Rattle.std.specs.Io.KnownBytes.{Consumes, IsAtEnd, Keeps}
-use Rattle.std.proofs.lemmas.List.{take_all, take-append-drop}
 use Rattle.std.proofs.Math.Seq.{take-append-add, take-append_seam, drop-append_seam}
-use Rattle.sqlite.specs.Store.{Ghosts}
 use Rattle.shell_text.specs.Units.{Member, ended_members, lines_of, members_from, members_of, start}
 use Rattle.shell_text.specs.Splitting.{given_by}
 use Rattle.shell_io.specs.declared.run.Status.{Status}
 use Rattle.shell_io.specs.declared.run.RunFault.{RunFault}
-use Rattle.shell_io.specs.declared.run.RunFault.TheVariants as causes
-use Rattle.ft_shell.specs.Shell.{Shell}
-use Rattle.ft_shell.specs.Effects.{Effects}
-use Rattle.ft_shell.specs.Turns.{Turns, Session, Begins}
 use Rattle.shell_io.specs.LinesRead.{HasNoEnd, LinesRead, Way, at_end, behind, members_left}
-use Rattle.ft_shell.specs.Ran.{Moment, Did, Passes, Breaks, Ends, IsInside}
-use Rattle.ft_shell.specs.Runs.{Console, EndedDone, IsWhole, IsFront, Completes, Stops}
 use Rattle.shell_io.proofs.LineReaderLemmas.{none_left}
 use Rattle.shell_io.proofs.WriteLemmas.{appends_kept}
+use Rattle.ft_shell.proofs.Common.{Consumes, IsAtEnd, Keeps, take_all, take-append-drop, Ghosts, Shell, Effects, Turns, Session, Begins, Moment, Did, Passes, Breaks, Ends, IsInside, Console, EndedDone, IsWhole, IsFront, Completes, Stops}
 use Rattle.ft_shell.proofs.TurnsLemmas.{turns_ended}
 use Rattle.ft_shell.proofs.RanLemmas.{breaks_after, breaks_none, breaks_then, passes_as, passes_none, passes_then}
+use Rattle.shell_io.specs.declared.run.RunFault.TheVariants as causes
 
 -- ---- lists and readers
 

@@ -1,30 +1,20 @@
 -- What is so of the calls that a member's turn makes of the full-text tables: the command that a
 -- full-text statement spells, or the one Insert of an import.
-use Rattle.std.specs.Prelude.{ℕ, ◌≡◌, ◌⊎◌, Bool, MatchBool, List, [], ◌∷◌, map, Option, Some, None, Result}
+use Rattle.std.proofs.Common.{ℕ, ◌≡◌, ◌⊎◌, Bool, MatchBool, List, [], ◌∷◌, map, Option, Some, None, Result}
 use Rattle.csv.specs.Reading.{AreRecords, strip_bom}
-use Rattle.csv.specs.declared.parser.State.TheVariants as csv
 use Rattle.shell_text.specs.Print.{Settings}
 use Rattle.shell_text.specs.Units.{Member, Sql, Dot, Fault}
 use Rattle.shell_text.specs.Dot.{dot_words_of}
 use Rattle.shell_text.specs.Records.{csv_reader}
 use Rattle.shell_text.specs.Words.{is_unclosed}
 use Rattle.ft_values.specs.declared.fault.Fault.{Fault as Cause}
-use Rattle.ft_content.specs.Command.{Command, Insert, Reply}
-use Rattle.ft_index.specs.Called.{Call, Executed, Looked, Noted}
-use Rattle.ft_statements.specs.Words.{sql_tokens}
-use Rattle.ft_statements.specs.Statements.{Class, Plain, FullText, class_of}
-use Rattle.ft_statements.specs.Dots.{DotCommand, Import, Importing, Tables, dot_command_of}
-use Rattle.ft_statements.specs.Plain.{made_name}
-use Rattle.ft_shell.specs.Shell.{Shell}
+use Rattle.ft_statements.specs.Statements.{FullText}
 use Rattle.shell_io.specs.Sources.{Files, GivesFile}
 use Rattle.plain_sql.specs.Imports.{delimiter_of, row_cells}
-use Rattle.shell_io.specs.Records.{warnings}
-use Rattle.ft_shell.specs.FullTextTurns.{answer_of_reply}
-use Rattle.ft_shell.specs.StatementTurns.{known_names}
-use Rattle.ft_shell.specs.ImportTurns.{width_in, answer_of_insert}
-use Rattle.shell_io.specs.Records.{kept, records_in}
-use Rattle.ft_shell.specs.DotParts.{after_stop}
+use Rattle.shell_io.specs.Records.{warnings, kept, records_in}
 use Rattle.shell_io.specs.Outcomes.{Answer, Tells, blames}
+use Rattle.ft_shell.proofs.Common.{Command, Insert, Reply, Call, Executed, Looked, Noted, sql_tokens, Class, Plain, class_of, DotCommand, Import, Importing, Tables, dot_command_of, made_name, Shell, answer_of_reply, known_names, width_in, answer_of_insert, after_stop}
+use Rattle.csv.specs.declared.parser.State.TheVariants as csv
 
 -- nothing is called, or the table that is made, if one may be, is noted once
 abbrev pub MayNote : Option (List ℕ) → List Call → Type 0

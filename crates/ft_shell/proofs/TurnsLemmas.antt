@@ -1,11 +1,7 @@
 -- Turns one after the other.
-use Rattle.std.proofs.Common.{◌≡◌, true, false, List, [], ◌∷◌, ◌++◌, refl, sym, ap, subst, ◌∙◌, append_assoc, append-nil, add_assoc, add-zero, zero-add}
-use Rattle.std.specs.Prelude.{MatchBool, Bool}
-use Rattle.sqlite.specs.Store.{Ghosts}
+use Rattle.std.proofs.Common.{◌≡◌, true, false, List, [], ◌∷◌, ◌++◌, refl, sym, ap, subst, ◌∙◌, append_assoc, append-nil, add_assoc, add-zero, zero-add, MatchBool, Bool}
 use Rattle.shell_text.specs.Units.{Member}
-use Rattle.ft_shell.specs.Shell.{Shell}
-use Rattle.ft_shell.specs.Effects.{Effects, idle, and_then}
-use Rattle.ft_shell.specs.Turns.{Turn, Turns}
+use Rattle.ft_shell.proofs.Common.{Ghosts, Shell, Effects, idle, and_then, Turn, Turns}
 
 pub assoc_then : (a b c : Effects) → and_then (and_then a b) c ≡ and_then a (and_then b c)
 assoc_then a b c = λ i. record { out = append_assoc a.out b.out c.out i; err = append_assoc a.err b.err c.err i; faults = add_assoc a.faults b.faults c.faults i; ends = c.ends; calls = append_assoc a.calls b.calls c.calls i }

@@ -1,12 +1,8 @@
 -- Arguments of a CREATE VIRTUAL TABLE.
 use Rattle.std.proofs.Common.{◌≡◌, ℕ, List, [], ◌∷◌, ◌++◌, map, Some, codes, refl, sym, ap, ◌∙◌, ◌≤◌, length, get_or, drop, take, ◌-◌, arith, string_bytes, String, Global}
-use Rattle.std.specs.List.{flat_map, join_with_byte}
-use Rattle.std.proofs.lemmas.List.{append-nil, map-append, take_all}
-use Rattle.ft_statements.specs.Words.{Token, bare}
-use Rattle.ft_statements.specs.Create.{Argument, Setting, Column, joined, settings_in, columns_in, tokenizer_of}
+use Rattle.ft_statements.proofs.Common.{flat_map, join_with_byte, append-nil, map-append, take_all, Token, bare, Argument, Setting, Column, joined, settings_in, columns_in, tokenizer_of, seen, plain, argument_as}
 use Rattle.ft_statements.specs.declared.words.Token.{Token as RustToken}
 use Rattle.ft_statements.specs.declared.create.Argument.{Argument as Code}
-use Rattle.ft_statements.specs.Views.{seen, plain, argument_as}
 
 -- a word's text after a space
 abbrev pub behind_space : Token → List ℕ

@@ -1,12 +1,10 @@
 -- A dot line is read as its grammar says.
-use Prim.Native.String.{String}
 use Rattle.std.proofs.Common.{◌≡◌, inl, inr, ℕ, Bool, true, false, cond, List, [], ◌∷◌, Option, Some, None, option_map, unwrap_or, Result, Ok, Err, IfOk, refl, sym, ap, ◌∙◌, codes}
+use Prim.Native.String.{String}
 use Rattle.std.proofs.lemmas.Slice.Eq.{bytes_eq-Decides}
+use Rattle.ft_statements.proofs.Common.{Form, means, one, ends, ◌&◌, ◌·◌, Has, FrontRead, ◌>>=◌, onto_read, found, read, DotCommand, Row, dot_row, rows, Usage, SaysRow, SaysIn, Says, said_in, is_exact, any_word, all_words, file_named, options, Import, command_as, IsSaid}
 use Rattle.ft_statements.specs.declared.dots.DotCommand.{DotCommand as Code}
-use Rattle.ft_statements.specs.Forms.{Form, means, one, ends, ◌&◌, ◌·◌, Has}
-use Rattle.ft_statements.specs.Reading.{FrontRead, ◌>>=◌, onto_read, found, read}
-use Rattle.ft_statements.specs.Dots.{DotCommand, Row, dot_row, rows, Usage, SaysRow, SaysIn, Says, said_in, dot_command_of, is_exact, any_word, all_words, files, file_named, options, Import, import}
-use Rattle.ft_statements.specs.Views.{command_as, IsSaid}
+use Rattle.ft_statements.specs.Dots.{dot_command_of, files, import}
 use Rattle.ft_statements.proofs.FormLaw.{none_or, found_sound, found_complete}
 
 -- ---- the law

@@ -3,8 +3,9 @@
 use Rattle.std.proofs.Common.{◌≡◌, refl, [], ◌∷◌, codes, Some, true}
 use Rattle.std.specs.Str.{chars}
 use Rattle.shell_text.specs.Dot.{dot_turn, dot_words_from, dot_words_of}
+use Rattle.ft_statements.proofs.Common.{SetMode, SetHeaders, Print, Importing, Usage, Unknown, Nothing}
+use Rattle.ft_statements.specs.Dots.{dot_command_of, rows, import, options, files, may_csv, may_skip}
 use Rattle.shell_text.specs.declared.settings.Mode.TheVariants as mode
-use Rattle.ft_statements.specs.Dots.{SetMode, SetHeaders, Print, Importing, Usage, Unknown, Nothing, dot_command_of, rows, import, options, files, may_csv, may_skip}
 use lib.Utf8
 
 pub mode_csv : dot_command_of (dot_words_of (codes "mode csv")) ≡ SetMode mode.Csv

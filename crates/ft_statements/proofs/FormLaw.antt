@@ -2,8 +2,8 @@
 use Rattle.std.proofs.Common.{◌≡◌, inl, inr, ℕ, zero, suc, ◌+◌, ◌-◌, ◌≤◌, ◌<◌, Bool, true, false, cond, ◌&&◌, ◌==◌, List, [], ◌∷◌, ◌++◌, length, drop, Option, Some, None, refl, sym, ap, ◌∙◌, subst, arith, append_assoc, length-append}
 use Rattle.std.proofs.Math.Dec.{eqb-suc-zero}
 use Rattle.std.specs.Option.{option_or}
-use Rattle.ft_statements.specs.Forms.{Mark, Opens, Closes, Parts, Other, Form, means, one, ends, ◌&◌, ◌·◌, such, when, first, list, balanced, begins, Separated, last_part, then_comma, IsBalanced, no_word, any_word, any_part, group, ends_part, Stops, Has}
-use Rattle.ft_statements.specs.Reading.{FrontRead, ◌>>=◌, onto_read, list_at, depth_after, balanced_at, read, found}
+use Rattle.ft_statements.proofs.Common.{Mark, Opens, Closes, Parts, Other, Form, means, one, ends, ◌&◌, ◌·◌, such, when, first, list, balanced, begins, Separated, last_part, then_comma, IsBalanced, no_word, any_part, group, ends_part, Stops, Has, FrontRead, ◌>>=◌, onto_read, list_at, depth_after, balanced_at, read, found}
+use Rattle.ft_statements.specs.Forms.{any_word}
 
 -- ---- steps one after the other
 

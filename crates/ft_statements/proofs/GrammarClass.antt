@@ -1,15 +1,12 @@
 -- Which statements are full-text, what they spell, and their classes, are what is computed of them.
 use Rattle.std.proofs.Common.{◌≡◌, ℕ, Bool, true, false, cond, ◌&&◌, ◌||◌, List, [], ◌∷◌, ◌++◌, Option, Some, None, is_some, option_map, refl, sym, ap, ◌∙◌, subst, codes}
-use Rattle.std.specs.List.{Any, list_any}
 use Rattle.std.specs.Option.{option_map_or}
 use Rattle.std.proofs.lemmas.List.Folds.{Any-from_list_any, list_any-from_Any}
 use Rattle.ft_values.specs.Names.{same_name}
 use Rattle.ft_content.specs.Command.{Command}
-use Rattle.ft_statements.specs.Forms.{Form, Has}
-use Rattle.ft_statements.specs.Words.{Token, spells, is_one_of, name_of}
-use Rattle.ft_statements.specs.Reading.{FrontRead, read}
-use Rattle.ft_statements.specs.Grammar.{words, done, statement, IsStatement}
-use Rattle.ft_statements.specs.Statements.{Class, Plain, FullText, spelled_command, is_table, names_table, is_full_text, class_of, lead_words, IsTable, table_name, IsFullText, makes_virtual, names_one, HasClass, plain_class, full_text_class}
+use Rattle.ft_statements.proofs.Common.{Any, list_any, Form, Has, Token, spells, is_one_of, name_of, FrontRead, read, words, IsStatement, Class, Plain, FullText, is_table, names_table, is_full_text, lead_words, IsTable, table_name, IsFullText, makes_virtual, names_one, HasClass, plain_class, full_text_class}
+use Rattle.ft_statements.specs.Grammar.{done, statement}
+use Rattle.ft_statements.specs.Statements.{spelled_command, class_of}
 use Rattle.ft_statements.proofs.FormLaw.{law, finally, some_inj, none_or, found_sound, found_complete}
 
 -- ---- statements

@@ -1,3 +1,4 @@
+pub mod Common
 pub mod FormLaw
 pub mod ReadingLemmas
 pub mod CreateLemmas

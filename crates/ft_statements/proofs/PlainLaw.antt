@@ -1,10 +1,7 @@
 -- What is asked of a plain statement is what its forms say.
 use Rattle.std.proofs.Common.{◌≡◌, ℕ, Bool, true, false, ◌||◌, ◌&&◌, List, [], ◌∷◌, Some, refl, codes}
-use Rattle.std.specs.List.{list_any}
 use Rattle.std.proofs.lemmas.List.Folds.{Any-from_list_any, list_any-from_Any}
-use Rattle.ft_statements.specs.Words.{Token, spells, is_one_of}
-use Rattle.ft_statements.specs.Reading.{read}
-use Rattle.ft_statements.specs.Plain.{query_words, writing_words, Asks, queries, returns, asks, made_table, Makes, made_name}
+use Rattle.ft_statements.proofs.Common.{list_any, Token, spells, is_one_of, read, query_words, writing_words, Asks, queries, returns, asks, made_table, Makes, made_name}
 use Rattle.ft_statements.proofs.FormLaw.{law, bound, finally, found_complete}
 use Rattle.ft_statements.proofs.GrammarClass.{and_both, or_left, or_right}
 

@@ -1,12 +1,7 @@
 -- The tables that a statement names, and how a plain one is run.
 use Rattle.std.proofs.Common.{◌≡◌, ℕ, ◌-◌, ◌≤◌, Bool, true, false, ◌||◌, ◌&&◌, List, [], ◌∷◌, length, drop, take, get_or, refl, sym, ap, ◌∙◌, arith, codes}
-use Rattle.std.specs.List.{list_any}
-use Rattle.std.proofs.lemmas.List.{length-drop, take_all}
-use Rattle.ft_statements.specs.Words.{Token, spells, is_one_of}
-use Rattle.ft_statements.specs.Plain.{query_words, writing_words, asks}
+use Rattle.ft_statements.proofs.Common.{list_any, length-drop, take_all, Token, spells, is_one_of, query_words, writing_words, asks, seen, plain, names_table}
 use Rattle.ft_statements.specs.declared.words.Token.{Token as RustToken}
-use Rattle.ft_statements.specs.Views.{seen, plain}
-use Rattle.ft_statements.specs.Statements.{names_table}
 
 -- fewer than two words name no table
 few_words : (tables : List (List ℕ)) (ps : List RustToken) → length ps ≤ 1 → names_table tables (plain ps) ≡ false

@@ -1,14 +1,13 @@
 -- Worked statements, computed. By the law of statements each has the class that is computed.
-use Rattle.std.proofs.Common.{◌≡◌, refl, [], ◌∷◌, codes, Some, None, true, false}
-use Rattle.std.specs.Prelude.{pos, negsuc, encode_utf8_all}
+use Rattle.std.proofs.Common.{◌≡◌, refl, [], ◌∷◌, codes, Some, None, true, false, pos, negsuc, encode_utf8_all}
 use Rattle.std.specs.Str.{chars}
 use Rattle.shell_text.specs.Words.{pieces_from, turn, begun}
 use Rattle.ft_content.specs.Content.{Null, Int, Text}
 use Rattle.ft_content.specs.Command.{All, Docid, Match, AllColumns, Named, OffsetsOf, Counted, Listed, Create, Drop, Insert, Update, Delete, Select, Rebuild, Check}
-use Rattle.ft_statements.specs.Words.{sql_tokens}
+use Rattle.ft_statements.proofs.Common.{sql_tokens, Plain, FullText, asks, made_name}
+use Rattle.ft_statements.specs.Statements.{class_of, spelled_command}
+use Rattle.ft_statements.specs.Plain.{temporary}
 use Rattle.ft_statements.specs.Grammar as forms
-use Rattle.ft_statements.specs.Statements.{Plain, FullText, class_of, spelled_command}
-use Rattle.ft_statements.specs.Plain.{asks, made_name, temporary}
 use lib.Utf8
 
 -- all forms

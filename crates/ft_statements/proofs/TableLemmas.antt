@@ -4,7 +4,7 @@ use Rattle.std.specs.List.Sorted.{IsSorted}
 use Rattle.std.specs.Ordering.{nat_cmp, is_lt}
 use Rattle.std.specs.Cmp.Lexicographic.{slice_cmp}
 use Rattle.std.specs.String.{string_cmp}
-use Rattle.std.proofs.lemmas.List.{get_or-map, length-map}
+use Rattle.ft_statements.proofs.Common.{get_or-map, length-map}
 
 pub sorted_texts : (names : List (String Global)) → IsSorted string_cmp names → IsSorted (slice_cmp nat_cmp) (map string_bytes names)
 sorted_texts [] h = λ k d low high. absurd (omega (arith, high))

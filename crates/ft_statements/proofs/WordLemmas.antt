@@ -1,16 +1,12 @@
 -- The characters between two marks.
-use Rattle.std.proofs.Common.{◌≡◌, ◌≢◌, ℕ, ◌-◌, Bool, true, false, cond, Option, Some, None, List, [], ◌∷◌, ◌++◌, length, take, refl, sym, ap, ◌∙◌, subst, arith, append_assoc, append-nil}
-use Rattle.std.specs.Prelude.{◌&&◌, ◌==◌, chars, encode_utf8, encode_utf8_all}
-use Rattle.std.specs.Str.{IsUtf8}
-use Rattle.std.specs.Str.Iter.{chars_rest, chars_steps_back}
+use Rattle.std.proofs.Common.{◌≡◌, ◌≢◌, ℕ, ◌-◌, Bool, true, false, cond, Option, Some, None, List, [], ◌∷◌, ◌++◌, length, take, refl, sym, ap, ◌∙◌, subst, arith, append_assoc, append-nil, ◌&&◌, ◌==◌, chars, encode_utf8, encode_utf8_all}
 use Rattle.std.specs.declared.str.Chars.{Chars}
-use Rattle.std.proofs.lemmas.List.{length-append}
 use Rattle.std.proofs.lemmas.Str.{chars-encodes, chars-nil, encodes_same, encodes-append, cons_from_encodes, length-le-encodes}
 use Rattle.std.proofs.Math.Seq.{take-append_seam}
-use Rattle.ft_statements.specs.Words.{StandsFor, nothing, other_character, doubled_mark, halved, closing, between_marks}
 use Rattle.std.proofs.lemmas.Bool.Decides.{nat_tests}
-use Rattle.shell_text.specs.WordForms as marked
 use Rattle.shell_text.specs.WordForms.{IsInMarks}
+use Rattle.ft_statements.proofs.Common.{IsUtf8, chars_rest, chars_steps_back, length-append, StandsFor, nothing, other_character, doubled_mark, halved, closing, between_marks}
+use Rattle.shell_text.specs.WordForms as marked
 
 characters_are : (text : List ℕ) (u : IsUtf8 text) → chars text ≡ u.0
 characters_are text u = sym (ap chars u.1.1) ∙ chars-encodes u.0 u.1.0

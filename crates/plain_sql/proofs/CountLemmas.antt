@@ -1,15 +1,13 @@
 -- The number of columns of a plain table.
-use Rattle.std.proofs.Common.{◌≡◌, ◌+◌, ◌≤◌, ℕ, List, [], true, false, Option, Some, None, sym, ap, ◌∙◌, arith, inl, inr}
-use Rattle.std.specs.Prelude.{is_ok}
+use Rattle.std.proofs.Common.{◌≡◌, ◌+◌, ◌≤◌, ℕ, List, [], true, false, Option, Some, None, sym, ap, ◌∙◌, arith, inl, inr, is_ok}
 use Rattle.std.proofs.lemmas.Bool.{cases_lt}
 use Rattle.sqlite_trees.specs.declared.error.StoreError.{StoreError}
 use Rattle.sqlite_trees.specs.declared.error.StoreError.TheVariants.{OutOfMemory, Io, Corrupt, Full, Broken, Unstorable}
 use Rattle.sqlite.specs.Schema.{Schema}
 use Rattle.sqlite_resolve.specs.declared.error.CompileError.{CompileError}
-use Rattle.sqlite.specs.Listing.{understood}
-use Rattle.sqlite.specs.State.{State, IsNotRun, IsUnchanged, store_error}
+use Rattle.sqlite.specs.State.{IsNotRun}
 use Rattle.sqlite.specs.declared.error.Error.TheVariants.{SqlInputError}
-use Rattle.plain_sql.specs.PlainImports.{HasColumns, IsOnlyBelow, takes_values}
+use Rattle.plain_sql.proofs.Common.{understood, State, IsUnchanged, store_error, HasColumns, IsOnlyBelow, takes_values}
 
 no_input_error : (cause : StoreError) (f : CompileError) → SqlInputError f ≡ store_error cause → ⊥
 no_input_error OutOfMemory f e = cc

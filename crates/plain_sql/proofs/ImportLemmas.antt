@@ -1,9 +1,7 @@
 -- Texts of an import.
 use Rattle.std.proofs.Common.{◌≡◌, ℕ, zero, suc, ◌+◌, ◌≤◌, List, [], ◌∷◌, ◌++◌, replicate, sym, ap, ◌∙◌, arith, codes, append_assoc}
-use Rattle.std.specs.List.{flat_map}
-use Rattle.std.proofs.lemmas.List.{append-nil, replicate_more}
 use Rattle.std.proofs.lemmas.Grind.{flat_map-append}
-use Rattle.plain_sql.specs.Imports.{with_commas}
+use Rattle.plain_sql.proofs.Common.{flat_map, append-nil, replicate_more, with_commas}
 
 abbrev pub marks : ℕ → List ℕ
 marks n = with_commas (λ mark. mark) (replicate n (codes "?"))

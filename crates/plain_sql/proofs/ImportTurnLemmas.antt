@@ -1,20 +1,10 @@
 -- Parts of imports.
-use Rattle.std.proofs.Common.{◌≡◌, ◌≤◌, ◌<◌, ◌+◌, ◌-◌, ℕ, zero, suc, List, [], ◌∷◌, map, length, get_or, take, drop, Option, None, Result, Err, refl, sym, ap, subst, ◌∙◌, arith, min, String, Vec, Global}
-use Rattle.std.specs.Prelude.{unwrap_or}
-use Rattle.std.proofs.lemmas.List.{drop-map, length-map, take_all}
-use Rattle.std.specs.List.{enumerate_from}
-use Rattle.sqlite.specs.Store.{Ghosts}
-use Rattle.sqlite.specs.Held.{Held, state}
-use Rattle.plain_sql.specs.declared.plain_import.ImportFault.{ImportFault}
-use Rattle.plain_sql.specs.declared.plain_import.ImportFault.TheVariants.{Refused, Memory}
+use Rattle.std.proofs.Common.{◌≡◌, ◌≤◌, ◌<◌, ◌+◌, ◌-◌, ℕ, zero, suc, List, [], ◌∷◌, map, length, get_or, take, drop, Option, None, Result, Err, refl, sym, ap, subst, ◌∙◌, arith, min, String, Vec, Global, unwrap_or}
 use Rattle.ft_statements.specs.Dots.{Import}
-use Rattle.plain_sql.specs.PlainStatements.{IfClean}
-use Rattle.plain_sql.proofs.PlainImportLemmas.{all_kept, stays_all_kept}
-use Rattle.plain_sql.specs.PlainImports.{HasColumns, Stays, CommitsNothing, import_steps, Declines, Uncounted}
-use Rattle.plain_sql.specs.IntoTables.{fault_words, IntoTable, uncounted, declined, no_memory}
 use Rattle.shell_io.specs.Records.{kept, records_in}
-use Rattle.ft_statements.specs.Views.{texts_of}
 use Rattle.shell_io.specs.Outcomes.{Answer, blames}
+use Rattle.plain_sql.proofs.Common.{drop-map, length-map, take_all, enumerate_from, Ghosts, Held, state, ImportFault, Refused, Memory, IfClean, HasColumns, Stays, CommitsNothing, import_steps, Declines, Uncounted, fault_words, IntoTable, uncounted, declined, no_memory, texts_of}
+use Rattle.plain_sql.proofs.PlainImportLemmas.{all_kept, stays_all_kept}
 
 -- ---- records and their numbers
 

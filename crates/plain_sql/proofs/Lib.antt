@@ -1,3 +1,4 @@
+pub mod Common
 pub mod ImportLemmas
 pub mod AnswerLemmas
 pub mod QueryLemmas

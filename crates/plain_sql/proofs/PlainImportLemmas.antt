@@ -1,19 +1,10 @@
 -- Steps of an import into the plain database.
-use Rattle.std.proofs.Common.{◌≡◌, ◌<◌, ◌+◌, ℕ, List, [], ◌∷◌, ◌++◌, map, length, get_or, take, drop, true, false, Bool, Result, Ok, Err, refl, sym, ap, subst, ◌∙◌, inl, inr, IsTrue, String, Vec, Global}
-use Rattle.std.specs.Prelude.{◌⊎◌, if◌then◌else◌}
-use Rattle.std.proofs.lemmas.List.{take_more, drop_more, take-append-drop, map-append}
-use Rattle.ft_statements.specs.Views.{texts_of}
+use Rattle.std.proofs.Common.{◌≡◌, ◌<◌, ◌+◌, ℕ, List, [], ◌∷◌, ◌++◌, map, length, get_or, take, drop, true, false, Bool, Result, Ok, Err, refl, sym, ap, subst, ◌∙◌, inl, inr, IsTrue, String, Vec, Global, ◌⊎◌, if◌then◌else◌}
 use Rattle.sqlite_value.specs.Order.{Row}
-use Rattle.sqlite.specs.Store.{Ghosts}
 use Rattle.sqlite.specs.Tree.{Trees}
-use Rattle.sqlite.specs.Held.{Held, state}
-use Rattle.sqlite.specs.State.{State, HasCleanDisk, Survives, ExecutesInside, IsNotRun, IsRolledBack, IsUnchanged, KeepsCommit}
+use Rattle.sqlite.specs.State.{IsNotRun}
 use Rattle.sqlite.specs.Steps.{FailsToCommit}
-use Rattle.sqlite.specs.declared.error.Error.{Error}
-use Rattle.plain_sql.specs.declared.plain_import.ImportFault.{ImportFault}
-use Rattle.plain_sql.specs.declared.plain_import.ImportFault.TheVariants.{Refused, Memory}
-use Rattle.plain_sql.specs.PlainStatements.{IfClean, is_memory_error}
-use Rattle.plain_sql.specs.PlainImports.{Step, Prepare, Run, row_values, runs_of, Stays, CommitsNothing, Does, IsRefused, DoesAll, StopsAtStep, begun, IsInside, KeepsLast}
+use Rattle.plain_sql.proofs.Common.{take_more, drop_more, take-append-drop, map-append, texts_of, Ghosts, Held, state, State, HasCleanDisk, Survives, ExecutesInside, IsRolledBack, IsUnchanged, KeepsCommit, Error, ImportFault, Refused, Memory, IfClean, is_memory_error, Step, Prepare, Run, row_values, runs_of, Stays, CommitsNothing, Does, IsRefused, DoesAll, StopsAtStep, begun, IsInside, KeepsLast}
 use Rattle.plain_sql.proofs.QueryLemmas.{clean_before}
 
 -- ---- what a call leaves of the last commit

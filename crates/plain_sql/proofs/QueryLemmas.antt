@@ -1,18 +1,13 @@
 -- What `sqlite` says of a query that is prepared and then run, where the disk is clean as it ends.
-use Rattle.std.proofs.Common.{◌≡◌, ℕ, List, [], refl, subst, sym, arith, inl}
-use Rattle.std.specs.Prelude.{Bool, MatchBool, false}
+use Rattle.std.proofs.Common.{◌≡◌, ℕ, List, [], refl, subst, sym, arith, inl, Bool, MatchBool, false}
 use Rattle.shell_io.specs.Outcomes.{Answer, Tells, blames, lacks_memory}
 use Rattle.sqlite_trees.specs.View.{doubt}
-use Rattle.sqlite.specs.Store.{Ghosts}
 use Rattle.sqlite.specs.Tree.{Trees}
 use Rattle.sqlite_value.specs.Order.{Row}
-use Rattle.sqlite.specs.Held.{Held, state}
-use Rattle.sqlite.specs.State.{State, HasCleanDisk, Survives, FailsToQuery, IsNotRun, IsUnchanged, Shown}
-use Rattle.sqlite.specs.Listing.{understood}
+use Rattle.sqlite.specs.State.{FailsToQuery}
 use Rattle.sqlite.specs.Outline.{Outline}
 use Rattle.sqlite.specs.Steps.{Outlines}
-use Rattle.sqlite.specs.declared.error.Error.{Error}
-use Rattle.plain_sql.specs.PlainStatements.{EndsSo, is_memory_error, match_hint, TellsRefusal, IfClean, Prepares, Answers, FailsToAnswer, unprepared, refused}
+use Rattle.plain_sql.proofs.Common.{Ghosts, Held, state, State, HasCleanDisk, Survives, IsNotRun, IsUnchanged, Shown, understood, Error, EndsSo, is_memory_error, match_hint, TellsRefusal, IfClean, Prepares, Answers, FailsToAnswer, unprepared, refused}
 
 pub clean_before : {old new : State} {Commits : Trees → Type 0} → Survives old new Commits → HasCleanDisk new → HasCleanDisk old
 clean_before {old} {new} survives clean = let c : doubt new.is_clean ≡ 0 = clean in let s = survives.clean in omega (arith, c, s)

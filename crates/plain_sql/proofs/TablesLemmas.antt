@@ -1,10 +1,6 @@
 -- Names that are tried one after the other.
-use Rattle.std.proofs.Common.{◌≡◌, ◌+◌, ◌<◌, ℕ, List, [], ◌∷◌, ◌++◌, map, length, take, drop, get_or, true, false, Some, Result, Ok, Err, refl, sym, ap, ◌∙◌, subst, inl, inr, string_bytes, String, Global}
-use Rattle.std.specs.Prelude.{OnErr}
-use Rattle.std.proofs.lemmas.List.{take_more, drop_more, take-append-drop, map-append}
-use Rattle.sqlite.specs.Store.{Ghosts}
-use Rattle.sqlite.specs.Held.{Held}
-use Rattle.plain_sql.specs.Listings.{Finds, StopsTrying, Tries}
+use Rattle.std.proofs.Common.{◌≡◌, ◌+◌, ◌<◌, ℕ, List, [], ◌∷◌, ◌++◌, map, length, take, drop, get_or, true, false, Some, Result, Ok, Err, refl, sym, ap, ◌∙◌, subst, inl, inr, string_bytes, String, Global, OnErr}
+use Rattle.plain_sql.proofs.Common.{take_more, drop_more, take-append-drop, map-append, Ghosts, Held, Finds, StopsTrying, Tries}
 
 pub finds_cannot : {P : Type 0} (g : Ghosts P) (xs : List (List ℕ)) (name : List ℕ) (old mid new : Held P) (found : List (List ℕ)) → Finds g xs old mid found → Tries g name (Some false) mid new → Finds g (xs ++ name ∷ []) old new found
 finds_cannot g [] name old mid new found first tries = (new, [], (refl, refl), inr (subst (λ h. Tries g name (Some false) h new) first.0 tries, first.1))

@@ -1,6 +1,6 @@
 -- by the tests of the places to come
 use Rattle.std.proofs.Common.{◌≡◌, ◌+◌, Bool, not, ◌==◌, true, false, refl, sym, ap, ◌∙◌, drop, length}
-use Rattle.std.proofs.lemmas.List.{drop_more, drop_all}
+use Rattle.ft_rows.proofs.Common.{drop_more, drop_all}
 use Rattle.ft_rows.proofs.PackTests.{fails_all, all_pass}
 use Rattle.ft_rows.proofs.packed.can_pack.Goals as goal
 

@@ -1,7 +1,6 @@
 -- the tests of all places are those of the places to come
-use Rattle.std.proofs.Common.{◌≡◌, true, drop}
-use Rattle.std.specs.Prelude.{◌==◌}
-use Rattle.ft_rows.specs.Packed.{origin}
+use Rattle.std.proofs.Common.{◌≡◌, true, drop, ◌==◌}
+use Rattle.ft_rows.proofs.Common.{origin}
 use Rattle.ft_rows.proofs.PackTests.{tests}
 use Rattle.ft_rows.proofs.packed.can_pack.Given as goal
 

@@ -1,14 +1,10 @@
 -- one place after another is that of the posting
-use Rattle.std.proofs.Common.{◌≡◌, ◌+◌, ◌≤◌, true, false, true≢false, [], sym, ap, subst, ◌∙◌, drop, map, length, ◌≢◌, Some, List, ℕ}
-use Rattle.std.specs.Prelude.{◌==◌, IsTrue, ◌↔◌}
-use Rattle.std.proofs.lemmas.List.{drop_all}
-use Rattle.ft_rows.specs.Packed.{Spot, origin, unpacked}
-use Rattle.ft_rows.specs.Terms.{spot_of}
-use Rattle.ft_rows.specs.Unpacking.{read_after, BeginsWithSpot}
+use Rattle.std.proofs.Common.{◌≡◌, ◌+◌, ◌≤◌, true, false, true≢false, [], sym, ap, subst, ◌∙◌, drop, map, length, ◌≢◌, Some, List, ℕ, ◌==◌, IsTrue, ◌↔◌}
+use Rattle.ft_rows.proofs.Common.{drop_all, Spot, origin, unpacked, spot_of, read_after, BeginsWithSpot}
 use Rattle.ft_rows.proofs.ReadLemmas.{no_spots}
 use Rattle.ft_rows.proofs.ExactLemmas.{Reads, begun, goes_on, another, nothing, ends, unpacked-reads, spot_at, left_are, never_first, same_spot, other_spot, is_nil, some_at, some_told, told_some}
+use Rattle.ft_rows.proofs.packed.is_list_of.Goals.{At-loop-at}
 use Rattle.ft_rows.proofs.packed.is_list_of.Goals as goal
-use Rattle.ft_rows.proofs.packed.is_list_of.Goals.{After-first_spot, At-loop-at}
 
 refused : (bytes : List ℕ) (all : List Spot) → all ≢ [] → read_after true origin bytes ≢ Some all → IsTrue false ↔ (unpacked bytes ≡ Some all)
 refused bytes all some wrong = (λ h. absurd (true≢false (sym h)), λ h. absurd (wrong ((unpacked-reads bytes all some).0 h)))

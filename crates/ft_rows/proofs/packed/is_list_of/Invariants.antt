@@ -1,7 +1,6 @@
 -- the places of all bytes are those of the postings just where those of what is left are those to come
-use Rattle.std.proofs.Common.{map, drop}
-use Rattle.std.specs.Prelude.{◌==◌}
-use Rattle.ft_rows.specs.Terms.{spot_of}
+use Rattle.std.proofs.Common.{map, drop, ◌==◌}
+use Rattle.ft_rows.proofs.Common.{spot_of}
 use Rattle.ft_rows.proofs.ExactLemmas.{Reads}
 use Rattle.ft_rows.proofs.packed.is_list_of.Given as goal
 

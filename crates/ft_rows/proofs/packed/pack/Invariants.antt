@@ -1,6 +1,5 @@
 use Rattle.std.proofs.Common.{◌≡◌, ◌++◌, drop}
-use Rattle.std.specs.List.{flat_map}
-use Rattle.ft_rows.specs.Packed.{leb128, numbers_after, packed}
+use Rattle.ft_rows.proofs.Common.{flat_map, leb128, numbers_after, packed}
 use Rattle.ft_rows.proofs.packed.pack.Given as goal
 
 abbrev pub invariant-loop-spot : goal.invariant-loop-spot

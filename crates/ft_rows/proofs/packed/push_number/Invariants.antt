@@ -1,5 +1,5 @@
 use Rattle.std.proofs.Common.{◌≡◌, ◌++◌}
-use Rattle.ft_rows.specs.Packed.{leb128}
+use Rattle.ft_rows.proofs.Common.{leb128}
 use Rattle.ft_rows.proofs.packed.push_number.Given as goal
 
 abbrev pub invariant-loop-rest : goal.invariant-loop-rest

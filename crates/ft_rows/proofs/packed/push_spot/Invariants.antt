@@ -1,6 +1,5 @@
 use Rattle.std.proofs.Common.{◌≡◌, ◌++◌, [], ◌∷◌, drop}
-use Rattle.std.specs.List.{flat_map}
-use Rattle.ft_rows.specs.Packed.{leb128, numbers_after}
+use Rattle.ft_rows.proofs.Common.{flat_map, leb128, numbers_after}
 use Rattle.ft_rows.proofs.packed.push_spot.Given as goal
 
 abbrev pub invariant-loop-number : goal.invariant-loop-number

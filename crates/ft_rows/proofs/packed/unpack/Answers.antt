@@ -1,9 +1,5 @@
-use Rattle.std.proofs.Common.{◌++◌, true, length, Some, sym, ap, ◌∙◌, arith}
-use Rattle.std.specs.Prelude.{nat_lt, IsTrue}
-use Rattle.std.specs.Option.{option_and_then}
-use Rattle.std.proofs.lemmas.Bool.Decides.{nat_tests}
-use Rattle.ft_rows.specs.Packed.{origin}
-use Rattle.ft_rows.specs.Unpacking.{read_after}
+use Rattle.std.proofs.Common.{◌++◌, true, length, Some, sym, ap, ◌∙◌, arith, nat_lt, IsTrue}
+use Rattle.ft_rows.proofs.Common.{option_and_then, nat_tests, origin, read_after}
 use Rattle.ft_rows.proofs.ReadLemmas.{unpacked-no_length, unpacked-is_read, whole, nothing_left, one_passed}
 use Rattle.ft_rows.proofs.packed.unpack.Goals as goal
 

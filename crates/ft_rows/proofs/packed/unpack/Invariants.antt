@@ -1,8 +1,6 @@
 -- the places of all bytes are those so far and those of what is left
 use Rattle.std.proofs.Common.{◌≡◌, ◌++◌, length, Some, true}
-use Rattle.std.specs.Option.{option_and_then}
-use Rattle.ft_rows.specs.Packed.{origin}
-use Rattle.ft_rows.specs.Unpacking.{read_after}
+use Rattle.ft_rows.proofs.Common.{option_and_then, origin, read_after}
 use Rattle.ft_rows.proofs.packed.unpack.Given as goal
 
 abbrev pub invariant-loop-left : goal.invariant-loop-left

@@ -1,10 +1,9 @@
 use Rattle.std.proofs.Common.{◌≡◌, ◌∙◌, ap, to_z, of_z, w64, rules, int_eq, tests}
-use Rattle.std.specs.List.{prefix_len}
 use Rattle.std.proofs.lemmas.Iterator.{YieldsList-from_slice}
 use Rattle.std.proofs.lemmas.Iterator.Consumers.{YieldsList-at, count_from_yields_List}
 use Rattle.std.proofs.lemmas.Iterator.Search.{YieldsList-from_take_while}
 use Rattle.std.proofs.lemmas.List.Folds.{length-prefix_len}
-use Rattle.ft_rows.specs.declared.terms.Posting.{Posting}
+use Rattle.ft_rows.proofs.Common.{prefix_len, Posting}
 use Rattle.ft_rows.proofs.PostingLemmas.{first_run}
 use Rattle.ft_rows.proofs.terms.first_list.Goals as goal
 

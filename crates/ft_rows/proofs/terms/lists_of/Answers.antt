@@ -2,11 +2,8 @@
 use Rattle.std.proofs.Common.{◌≡◌, ◌≤◌, ◌++◌, ◌∷◌, [], Some, None, List, ℕ, map, length, take, drop, refl, sym, ap, ◌∙◌, append_assoc, append-nil, arith, rules, to_z, of_z, w64, slice_get}
 use Rattle.std.proofs.lemmas.Iterator.{YieldsList-from_slice, YieldsList-from_map, items_from_collect}
 use Rattle.std.proofs.lemmas.Iterator.Consumers.{YieldsList-at}
-use Rattle.std.proofs.lemmas.List.{map-append}
 use Rattle.std.proofs.lemmas.Result.{IfOk-at_ok}
-use Rattle.ft_rows.specs.Shown.{shown_list}
-use Rattle.ft_rows.specs.declared.terms.Posting.{Posting}
-use Rattle.ft_rows.specs.Terms.{spot_of, lists_of_postings, AreFirstList}
+use Rattle.ft_rows.proofs.Common.{map-append, shown_list, Posting, spot_of, lists_of_postings, AreFirstList}
 use Rattle.ft_rows.proofs.terms.lists_of.Goals as goal
 
 within : (ps : List Posting) (n : ℕ) → AreFirstList ps n → n ≤ length ps

@@ -1,7 +1,6 @@
 -- the lists so far, and those of the postings that are left
 use Rattle.std.proofs.Common.{◌≡◌, ◌++◌, map, length}
-use Rattle.ft_rows.specs.Shown.{shown_list}
-use Rattle.ft_rows.specs.Terms.{lists_of_postings}
+use Rattle.ft_rows.proofs.Common.{shown_list, lists_of_postings}
 use Rattle.ft_rows.proofs.terms.lists_of.Given as goal
 
 abbrev pub invariant-loop-first : goal.invariant-loop-first

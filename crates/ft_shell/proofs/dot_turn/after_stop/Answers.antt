@@ -1,6 +1,5 @@
 -- a full stop is one byte
-use Rattle.std.proofs.Common.{rules, ◌<◌, length}
-use Rattle.std.specs.Prelude.{get_or}
+use Rattle.std.proofs.Common.{rules, ◌<◌, length, get_or}
 use Rattle.std.proofs.lemmas.Str.{IsCharBoundary-after_ascii}
 use Rattle.ft_shell.proofs.dot_turn.after_stop.Goals as goal
 

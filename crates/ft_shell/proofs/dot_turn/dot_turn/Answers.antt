@@ -1,9 +1,7 @@
 -- the settings and the files are as before
 use Rattle.std.proofs.Common.{rules, ◌≡◌, refl, sym, subst, inl}
-use Rattle.ft_statements.specs.Dots.{Tables}
-use Rattle.ft_statements.specs.Views.{command_as}
-use Rattle.ft_shell.specs.DotTurns.{DotTurn}
 use Rattle.shell_io.specs.OutputViews.{answer_as}
+use Rattle.ft_shell.proofs.Common.{Tables, command_as, DotTurn}
 use Rattle.ft_shell.proofs.DotLemmas.{sets_turn}
 use Rattle.ft_shell.proofs.dot_turn.dot_turn.Goals as goal
 

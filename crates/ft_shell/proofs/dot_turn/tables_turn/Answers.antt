@@ -1,17 +1,13 @@
 -- the noted names are listed
 use Rattle.std.proofs.Common.{rules, ◌≡◌, List, map, string_bytes, refl, ap, ◌∙◌, subst, inl, inr, String, Global}
-use Rattle.shell_text.specs.Print as print
-use Rattle.ft_content.specs.Views.{TableInfo, info_names}
-use Rattle.ft_statements.specs.Replies.{AreSorted, listed}
-use Rattle.ft_statements.specs.Texts.{fault_text}
-use Rattle.ft_statements.specs.Views.{texts_of}
 use Rattle.shell_io.specs.Outcomes.{blames, lacks_memory, says}
 use Rattle.shell_io.specs.OutputViews.{answer_as}
 use Rattle.plain_sql.specs.Listings.{Finds, StopsTrying, tables, unsorted, untried}
-use Rattle.ft_shell.specs.StatementTurns.{known_names}
-use Rattle.ft_shell.specs.TablesTurns.{lists, refused}
+use Rattle.ft_shell.proofs.Common.{TableInfo, info_names, AreSorted, listed, fault_text, texts_of, known_names, lists}
+use Rattle.ft_shell.specs.TablesTurns.{refused}
 use Rattle.ft_shell.proofs.ClassLemmas.{named_as}
 use Rattle.ft_shell.proofs.ImportTurnLemmas.{store_told}
+use Rattle.shell_text.specs.Print as print
 use Rattle.ft_shell.proofs.dot_turn.tables_turn.Goals as goal
 
 pub returns-in_err-noted : goal.returns-in_err-noted

@@ -1,16 +1,11 @@
 -- one command
 use Rattle.std.proofs.Common.{rules, ◌≡◌, None, Ok, Err, map, string_bytes, refl, sym, ◌∙◌, subst}
-use Rattle.std.specs.List.{enumerate_from}
-use Rattle.ft_content.specs.Command.{Insert}
-use Rattle.ft_content.specs.Views.{command_of, reply_of}
-use Rattle.ft_statements.specs.Texts.{fault_text}
-use Rattle.ft_statements.specs.Views.{texts_of}
 use Rattle.plain_sql.specs.Imports.{row_cells}
 use Rattle.shell_io.specs.OutputViews.{answer_as}
 use Rattle.shell_io.specs.Records.{records_in, warnings}
 use Rattle.shell_io.specs.Outcomes.{blames, warned}
 use Rattle.plain_sql.proofs.ImportTurnLemmas.{records_numbered}
-use Rattle.ft_shell.specs.ImportTurns.{InsertTurn, executed}
+use Rattle.ft_shell.proofs.Common.{enumerate_from, Insert, command_of, reply_of, fault_text, texts_of, InsertTurn, executed}
 use Rattle.ft_shell.proofs.import.full_text_import.Goals as goal
 
 pub returns-in_err-execute : goal.returns-in_err-execute

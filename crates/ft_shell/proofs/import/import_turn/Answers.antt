@@ -1,15 +1,12 @@
 -- the file's bytes, their records, and those that are left
-use Rattle.std.proofs.Common.{rules, ◌≡◌, ◌+◌, length, map, min, refl, ap, ◌∙◌, subst, inl, inr}
-use Rattle.std.specs.Prelude.{unwrap_or}
-use Rattle.std.specs.List.{enumerate_from}
-use Rattle.ft_statements.specs.Views.{import_as, texts_of}
+use Rattle.std.proofs.Common.{rules, ◌≡◌, ◌+◌, length, map, min, refl, ap, ◌∙◌, subst, inl, inr, unwrap_or}
 use Rattle.shell_io.specs.FaultWords.{record_words}
 use Rattle.shell_io.specs.OutputViews.{answer_as}
 use Rattle.shell_io.specs.Records.{kept}
 use Rattle.shell_io.specs.Sources.{GivesFile, Refuses, fetch_words}
 use Rattle.shell_io.specs.Outcomes.{blames, lacks_memory}
 use Rattle.plain_sql.proofs.ImportTurnLemmas.{left_rows}
-use Rattle.ft_shell.specs.ImportTurns.{BytesTurn, DelimitedTurn, IntoNamed, width_in, fetched, read, unfetched}
+use Rattle.ft_shell.proofs.Common.{enumerate_from, import_as, texts_of, BytesTurn, DelimitedTurn, IntoNamed, width_in, fetched, read, unfetched}
 use Rattle.ft_shell.proofs.ImportTurnLemmas.{records_refused}
 use Rattle.ft_shell.proofs.import.import_turn.Goals as goal
 

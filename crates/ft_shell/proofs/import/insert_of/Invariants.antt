@@ -1,8 +1,7 @@
 -- the rows so far
 use Rattle.std.proofs.Common.{◌≡◌, map}
-use Rattle.ft_content.specs.Views.{rows_of}
-use Rattle.ft_statements.specs.Views.{texts_of}
 use Rattle.plain_sql.specs.Imports.{row_cells}
+use Rattle.ft_shell.proofs.Common.{rows_of, texts_of}
 use Rattle.ft_shell.proofs.import.insert_of.Given as goal
 
 abbrev pub invariant-loop-fields : goal.invariant-loop-fields

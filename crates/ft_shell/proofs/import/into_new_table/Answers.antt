@@ -1,16 +1,12 @@
 -- the table is made and filled
 use Rattle.std.proofs.Common.{rules, ◌≡◌, ◌<◌, ◌≤◌, ◌+◌, ◌-◌, Some, length, map, take, drop, string_bytes, refl, sym, ap, ◌∙◌, subst, arith}
-use Rattle.std.specs.List.{enumerate_from}
-use Rattle.std.proofs.lemmas.List.{length-map}
-use Rattle.ft_statements.specs.Views.{import_as, texts_of}
 use Rattle.plain_sql.specs.IntoTables.{fault_words}
 use Rattle.shell_io.specs.OutputViews.{answer_as}
 use Rattle.plain_sql.specs.PlainImports.{CommitsAll, Declines}
 use Rattle.shell_io.specs.Records.{warnings}
 use Rattle.shell_io.specs.Outcomes.{blames}
 use Rattle.plain_sql.proofs.ImportTurnLemmas.{no_rows, same_steps, split_rows}
-use Rattle.ft_shell.specs.FullTextTurns.{NoteTurn}
-use Rattle.ft_shell.specs.ImportTurns.{made, no_header, too_wide}
+use Rattle.ft_shell.proofs.Common.{enumerate_from, length-map, import_as, texts_of, NoteTurn, made, no_header, too_wide}
 use Rattle.ft_shell.proofs.ImportTurnLemmas.{making_refused}
 use Rattle.ft_shell.proofs.import.into_new_table.Goals as goal
 

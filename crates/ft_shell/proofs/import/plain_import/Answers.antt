@@ -3,7 +3,7 @@ use Rattle.std.proofs.Common.{rules, ◌≡◌, true, false, None, Some, refl, s
 use Rattle.plain_sql.specs.Listings.{Tries}
 use Rattle.shell_io.specs.OutputViews.{answer_as}
 use Rattle.shell_io.specs.Outcomes.{lacks_memory}
-use Rattle.ft_shell.specs.ImportTurns.{there, new_table, untried}
+use Rattle.ft_shell.proofs.Common.{there, new_table, untried}
 use Rattle.ft_shell.proofs.import.plain_import.Goals as goal
 
 pub returns-in_err-can_read : goal.returns-in_err-can_read

@@ -1,9 +1,7 @@
 -- into the table that has the name
 use Rattle.std.proofs.Common.{◌≡◌, Option, ℕ, Some, None, map, string_bytes, refl, ◌∙◌, subst}
-use Rattle.std.specs.List.{enumerate_from}
-use Rattle.ft_statements.specs.Views.{import_as, texts_of}
 use Rattle.shell_io.specs.OutputViews.{answer_as}
-use Rattle.ft_shell.specs.ImportTurns.{width_in, PlainImport, IntoNamed}
+use Rattle.ft_shell.proofs.Common.{enumerate_from, import_as, texts_of, width_in, PlainImport, IntoNamed}
 use Rattle.ft_shell.proofs.import.records_turn.Goals as goal
 
 pub returns-in-Some : goal.returns-in-Some

@@ -1,8 +1,7 @@
 -- the cells so far
-use Rattle.std.proofs.Common.{◌≡◌, map}
-use Rattle.std.specs.Prelude.{option_map}
-use Rattle.ft_content.specs.Views.{cells_of}
+use Rattle.std.proofs.Common.{◌≡◌, map, option_map}
 use Rattle.plain_sql.specs.Imports.{field_cell}
+use Rattle.ft_shell.proofs.Common.{cells_of}
 use Rattle.ft_shell.proofs.import.row_cells.Given as goal
 
 abbrev pub invariant-loop-field : goal.invariant-loop-field

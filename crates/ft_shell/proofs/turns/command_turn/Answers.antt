@@ -1,12 +1,10 @@
 -- by what `sqlite` says of the call
-use Rattle.std.proofs.Common.{rules, ◌≡◌, ℕ, List, [], refl, string_bytes, subst, sym}
-use Rattle.std.specs.Prelude.{option_map}
+use Rattle.std.proofs.Common.{rules, ◌≡◌, ℕ, List, [], refl, string_bytes, subst, sym, option_map}
 use Rattle.plain_sql.proofs.QueryLemmas.{if_clean}
 use Rattle.shell_io.specs.OutputViews.{answer_as, complaint_as}
 use Rattle.shell_io.specs.Outcomes.{silent}
 use Rattle.plain_sql.specs.PlainStatements.{TellsRefusal}
-use Rattle.ft_shell.specs.FullTextTurns.{MaybeNotes, NoteTurn}
-use Rattle.ft_shell.specs.PlainTurns.{done, refused}
+use Rattle.ft_shell.proofs.Common.{MaybeNotes, NoteTurn, done, refused}
 use Rattle.ft_shell.proofs.turns.command_turn.Goals as goal
 
 pub returns-in-Some : goal.returns-in-Some

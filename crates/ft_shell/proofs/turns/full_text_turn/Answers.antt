@@ -1,10 +1,8 @@
 -- what is answered, and whether it is printed
 use Rattle.std.proofs.Common.{rules, ◌≡◌, Ok, Err, ap, inl, inr}
-use Rattle.ft_content.specs.Views.{reply_of}
-use Rattle.ft_statements.specs.Replies.{reply_text}
-use Rattle.ft_statements.specs.Texts.{fault_text}
 use Rattle.shell_io.specs.OutputViews.{answer_as}
 use Rattle.shell_io.specs.Outcomes.{blames, lacks_memory, says}
+use Rattle.ft_shell.proofs.Common.{reply_of, reply_text, fault_text}
 use Rattle.ft_shell.proofs.turns.full_text_turn.Goals as goal
 
 pub returns-in_err-reply : goal.returns-in_err-reply

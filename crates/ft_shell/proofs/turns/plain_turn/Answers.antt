@@ -1,9 +1,7 @@
 -- it asks, or it doesn't
-use Rattle.std.proofs.Common.{rules, ◌≡◌, true, false, inl, string_bytes}
-use Rattle.std.specs.Prelude.{option_map}
-use Rattle.ft_statements.specs.Plain.{asks}
-use Rattle.ft_statements.specs.Words.{sql_tokens}
+use Rattle.std.proofs.Common.{rules, ◌≡◌, true, false, inl, string_bytes, option_map}
 use Rattle.shell_io.specs.OutputViews.{answer_as}
+use Rattle.ft_shell.proofs.Common.{asks, sql_tokens}
 use Rattle.ft_shell.proofs.PlainTurnLemmas.{asks_turn, runs_turn}
 use Rattle.ft_shell.proofs.turns.plain_turn.Goals as goal
 

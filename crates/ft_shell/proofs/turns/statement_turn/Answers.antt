@@ -1,12 +1,10 @@
 -- by the class of the statement
 use Rattle.std.proofs.Common.{rules, ◌≡◌, Some, None, refl, inl}
-use Rattle.ft_content.specs.Views.{command_of, info_names}
-use Rattle.ft_statements.specs.Statements.{Plain, FullText, class_of}
-use Rattle.ft_statements.specs.Texts.{statement_text}
-use Rattle.ft_statements.specs.Words.{sql_tokens}
+use Rattle.ft_statements.specs.Statements.{FullText}
 use Rattle.shell_io.specs.FaultWords.{lex_words}
 use Rattle.shell_io.specs.OutputViews.{answer_as}
 use Rattle.shell_io.specs.Outcomes.{blames}
+use Rattle.ft_shell.proofs.Common.{command_of, info_names, Plain, class_of, statement_text, sql_tokens}
 use Rattle.ft_shell.proofs.ClassLemmas.{class_as_told, classless_turn, closed_turn, wordless_turn}
 use Rattle.ft_shell.proofs.turns.statement_turn.Goals as goal
 

@@ -1,8 +1,6 @@
 -- the first word and those after it
 use Rattle.std.proofs.Common.{◌++◌, sym, ◌∙◌}
-use Rattle.std.specs.List.{flat_map}
-use Rattle.std.proofs.lemmas.List.{take_all}
-use Rattle.ft_statements.specs.Views.{plain}
+use Rattle.ft_statements.proofs.Common.{flat_map, take_all, plain}
 use Rattle.ft_statements.proofs.CreateLemmas.{behind_space, joined_first}
 use Rattle.ft_statements.proofs.create.joined.Goals as goal
 

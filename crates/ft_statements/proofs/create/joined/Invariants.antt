@@ -1,7 +1,6 @@
 -- the texts so far
 use Rattle.std.proofs.Common.{◌≡◌, ◌++◌, take, string_bytes}
-use Rattle.std.specs.List.{flat_map}
-use Rattle.ft_statements.specs.Views.{plain}
+use Rattle.ft_statements.proofs.Common.{flat_map, plain}
 use Rattle.ft_statements.proofs.CreateLemmas.{behind_space}
 use Rattle.ft_statements.proofs.create.joined.Given as goal
 

@@ -1,8 +1,6 @@
 -- one argument more
 use Rattle.std.proofs.Common.{map, sym, ap, ◌∙◌, ◌∷◌, ◌++◌, [], string_bytes}
-use Rattle.std.proofs.lemmas.List.{map-append, append-nil}
-use Rattle.ft_content.specs.Views.{option_of}
-use Rattle.ft_statements.specs.Views.{argument_as}
+use Rattle.ft_statements.proofs.Common.{map-append, append-nil, option_of, argument_as}
 use Rattle.ft_statements.proofs.CreateLemmas.{one_setting, one_column}
 use Rattle.ft_statements.proofs.create.sorted.Goals as goal
 

@@ -1,8 +1,6 @@
 -- those so far
 use Rattle.std.proofs.Common.{◌≡◌, map}
-use Rattle.ft_content.specs.Views.{option_of, names_in}
-use Rattle.ft_statements.specs.Create.{settings_in, columns_in}
-use Rattle.ft_statements.specs.Views.{argument_as}
+use Rattle.ft_statements.proofs.Common.{option_of, names_in, settings_in, columns_in, argument_as}
 use Rattle.ft_statements.proofs.create.sorted.Given as goal
 
 abbrev pub invariant-loop-argument : goal.invariant-loop-argument

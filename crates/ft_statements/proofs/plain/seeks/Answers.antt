@@ -1,7 +1,6 @@
 -- the test of the tokens is that of their views
-use Rattle.std.proofs.Common.{◌∙◌, sym}
-use Rattle.std.specs.Prelude.{codes}
-use Rattle.ft_statements.specs.Words.{spells}
+use Rattle.std.proofs.Common.{◌∙◌, sym, codes}
+use Rattle.ft_statements.proofs.Common.{spells}
 use Rattle.ft_statements.proofs.StatementLemmas.{any_seen}
 use Rattle.ft_statements.proofs.plain.seeks.Goals as goal
 

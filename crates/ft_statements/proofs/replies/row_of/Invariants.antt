@@ -2,7 +2,7 @@
 use Rattle.std.proofs.Common.{◌≡◌, map}
 use Rattle.shell_text.specs.Print.{value_of_cell}
 use Rattle.ft_values.specs.Cells.{shown_value}
-use Rattle.ft_statements.specs.Replies.{cell_value}
+use Rattle.ft_statements.proofs.Common.{cell_value}
 use Rattle.ft_statements.proofs.replies.row_of.Given as goal
 
 abbrev pub invariant-loop-value : goal.invariant-loop-value

@@ -1,8 +1,7 @@
 -- the rows so far
 use Rattle.std.proofs.Common.{◌≡◌, map}
 use Rattle.shell_text.specs.Print.{value_of_cell}
-use Rattle.ft_content.specs.Views.{cells_of}
-use Rattle.ft_statements.specs.Replies.{cell_value}
+use Rattle.ft_statements.proofs.Common.{cells_of, cell_value}
 use Rattle.ft_statements.proofs.replies.rows_of.Given as goal
 
 abbrev pub invariant-loop-row : goal.invariant-loop-row

@@ -1,7 +1,6 @@
 -- the first word and those after it
 use Rattle.std.proofs.Common.{◌++◌, map, string_bytes, sym, ap, ◌∙◌}
-use Rattle.std.specs.List.{flat_map}
-use Rattle.std.proofs.lemmas.List.{take_all}
+use Rattle.ft_statements.proofs.Common.{flat_map, take_all}
 use Rattle.ft_statements.proofs.CreateLemmas.{spaced, words_first}
 use Rattle.ft_statements.proofs.setting.words_text.Goals as goal
 

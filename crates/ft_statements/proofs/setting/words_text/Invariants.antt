@@ -1,6 +1,6 @@
 -- the words so far
 use Rattle.std.proofs.Common.{◌≡◌, ◌++◌, take, map, string_bytes}
-use Rattle.std.specs.List.{flat_map}
+use Rattle.ft_statements.proofs.Common.{flat_map}
 use Rattle.ft_statements.proofs.CreateLemmas.{spaced}
 use Rattle.ft_statements.proofs.setting.words_text.Given as goal
 

@@ -1,8 +1,6 @@
 -- none of the tables is named before this place
 use Rattle.std.proofs.Common.{◌≡◌, ◌-◌, drop}
-use Rattle.ft_content.specs.Views.{info_names}
-use Rattle.ft_statements.specs.Statements.{names_table}
-use Rattle.ft_statements.specs.Views.{plain}
+use Rattle.ft_statements.proofs.Common.{info_names, names_table, plain}
 use Rattle.ft_statements.proofs.statement.names_table.Given as goal
 
 abbrev pub invariant-loop-place : goal.invariant-loop-place

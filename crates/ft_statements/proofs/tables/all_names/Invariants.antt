@@ -1,8 +1,6 @@
 -- the names so far
 use Rattle.std.proofs.Common.{◌≡◌, map, string_bytes}
-use Rattle.ft_content.specs.Views.{info_names}
-use Rattle.ft_statements.specs.Views.{texts_of}
-use Rattle.ft_statements.specs.Replies.{listed}
+use Rattle.ft_statements.proofs.Common.{info_names, texts_of, listed}
 use Rattle.ft_statements.proofs.tables.all_names.Given as goal
 
 abbrev pub invariant-loop-name : goal.invariant-loop-name

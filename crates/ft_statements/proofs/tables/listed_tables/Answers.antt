@@ -2,7 +2,7 @@
 use Rattle.std.proofs.Common.{subst, string_bytes}
 use Rattle.std.specs.List.Sorted.{IsPermutation}
 use Rattle.std.proofs.lemmas.List.Sorted.{IsPermutation-map}
-use Rattle.ft_statements.specs.Views.{texts_of}
+use Rattle.ft_statements.proofs.Common.{texts_of}
 use Rattle.ft_statements.proofs.TableLemmas.{sorted_texts}
 use Rattle.ft_statements.proofs.tables.listed_tables.Goals as goal
 

@@ -1,7 +1,6 @@
 -- the names so far
 use Rattle.std.proofs.Common.{◌≡◌, take}
-use Rattle.ft_content.specs.Views.{info_names}
-use Rattle.ft_statements.specs.Views.{texts_of}
+use Rattle.ft_statements.proofs.Common.{info_names, texts_of}
 use Rattle.ft_statements.proofs.tables.own_names.Given as goal
 
 abbrev pub invariant-loop-table : goal.invariant-loop-table

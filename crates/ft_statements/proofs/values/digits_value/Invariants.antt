@@ -1,5 +1,4 @@
-use Rattle.std.proofs.Common.{◌≡◌, take}
-use Rattle.std.specs.Prelude.{min}
+use Rattle.std.proofs.Common.{◌≡◌, take, min}
 use Rattle.ft_statements.specs.Values.{digits_value}
 use Rattle.ft_statements.proofs.values.digits_value.Given as goal
 

@@ -1,12 +1,11 @@
 -- words/halved/Answers.antt
 -- one character at a time
-use Rattle.std.proofs.Common.{◌≡◌, true, false, ap, ◌∙◌, string_bytes, arith}
-use Rattle.std.specs.Prelude.{◌&&◌, ◌==◌}
-use Rattle.std.specs.Str.Iter.{chars_rest}
+use Rattle.std.proofs.Common.{◌≡◌, true, false, ap, ◌∙◌, string_bytes, arith, ◌&&◌, ◌==◌}
 use Rattle.std.proofs.lemmas.Bool.Decides.{nat_tests}
+use Rattle.ft_statements.proofs.Common.{chars_rest}
 use Rattle.ft_statements.proofs.WordLemmas.{begins, passes, takes, ends}
-use Rattle.ft_statements.proofs.words.halved.Goals as goal
 use Rattle.ft_statements.proofs.words.halved.Goals.{else-after-via-then-after+else-c-mark, else-after-via-else-after}
+use Rattle.ft_statements.proofs.words.halved.Goals as goal
 
 pub loop-c-init : goal.loop-c-init
 loop-c-init c = begins c.args.mark c.args.text.now (string_bytes c.new-found.result) (chars_rest c.into_iter-c-iterator.result) c.utf8.text c.new-found.ensures.bytes (ap chars_rest c.into_iter-c-iterator.ensures.into_iter_gives ∙ c.chars-c-items.ensures.rest)

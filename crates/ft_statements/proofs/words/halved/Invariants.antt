@@ -1,7 +1,7 @@
 -- words/halved/Invariants.antt
 -- what was taken, and then what is left
 use Rattle.std.proofs.Common.{string_bytes}
-use Rattle.std.specs.Str.Iter.{chars_rest}
+use Rattle.ft_statements.proofs.Common.{chars_rest}
 use Rattle.ft_statements.proofs.WordLemmas.{Halves}
 use Rattle.ft_statements.proofs.words.halved.Given as goal
 

@@ -1,8 +1,6 @@
 -- the words so far
-use Rattle.std.proofs.Common.{◌≡◌, ◌+◌, map, take}
-use Rattle.std.specs.Prelude.{slice_range}
-use Rattle.ft_statements.specs.Words.{token}
-use Rattle.ft_statements.specs.Views.{plain}
+use Rattle.std.proofs.Common.{◌≡◌, ◌+◌, map, take, slice_range}
+use Rattle.ft_statements.proofs.Common.{token, plain}
 use Rattle.ft_statements.proofs.words.tokens_of.Given as goal
 
 abbrev pub invariant-loop-word : goal.invariant-loop-word

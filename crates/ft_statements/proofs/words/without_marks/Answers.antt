@@ -1,9 +1,7 @@
 -- words/without_marks/Answers.antt
 -- the characters between the marks
-use Rattle.std.proofs.Common.{◌≡◌, ap, ◌∙◌, sym, subst, false, length, string_bytes}
-use Rattle.std.specs.Prelude.{IfOk, chars, encode_utf8_all}
-use Rattle.std.specs.Str.{IsUtf8}
-use Rattle.ft_statements.specs.Words.{halved, closing}
+use Rattle.std.proofs.Common.{◌≡◌, ap, ◌∙◌, sym, subst, false, length, string_bytes, IfOk, chars, encode_utf8_all}
+use Rattle.ft_statements.proofs.Common.{IsUtf8, halved, closing}
 use Rattle.ft_statements.proofs.WordLemmas.{no_mark, inside_marks}
 use Rattle.ft_statements.proofs.words.without_marks.Goals as goal
 

@@ -1,7 +1,6 @@
 -- none of the values so far is a float
 use Rattle.std.proofs.Common.{◌≡◌, drop}
-use Rattle.std.specs.List.{list_any}
-use Rattle.plain_sql.specs.Answers.{is_float}
+use Rattle.plain_sql.proofs.Common.{list_any, is_float}
 use Rattle.plain_sql.proofs.answers.has_float.Given as goal
 
 abbrev pub invariant-loop-at : goal.invariant-loop-at

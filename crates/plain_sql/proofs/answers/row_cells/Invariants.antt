@@ -1,7 +1,7 @@
 -- the cells so far
 use Rattle.std.proofs.Common.{◌≡◌, take, map}
 use Rattle.shell_text.specs.Print.{value_of_cell}
-use Rattle.plain_sql.specs.Answers.{printed_value}
+use Rattle.plain_sql.proofs.Common.{printed_value}
 use Rattle.plain_sql.proofs.answers.row_cells.Given as goal
 
 abbrev pub invariant-loop-at : goal.invariant-loop-at

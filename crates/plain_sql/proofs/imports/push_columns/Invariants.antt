@@ -1,7 +1,6 @@
 -- the columns so far
 use Rattle.std.proofs.Common.{◌≡◌, ◌++◌, take, map, codes, string_bytes}
-use Rattle.std.specs.List.{flat_map}
-use Rattle.plain_sql.specs.Imports.{text_column}
+use Rattle.plain_sql.proofs.Common.{flat_map, text_column}
 use Rattle.plain_sql.proofs.imports.push_columns.Given as goal
 
 abbrev pub invariant-loop-column : goal.invariant-loop-column

@@ -1,11 +1,8 @@
 -- all of the characters
-use Rattle.std.proofs.Common.{◌≡◌, ◌∷◌, [], ◌++◌, map, sym, ap, ◌∙◌, string_bytes, append_assoc}
-use Rattle.std.specs.List.{flat_map}
-use Rattle.std.specs.Prelude.{chars}
-use Rattle.std.proofs.lemmas.List.{map-id}
+use Rattle.std.proofs.Common.{◌≡◌, ◌∷◌, [], ◌++◌, map, sym, ap, ◌∙◌, string_bytes, append_assoc, chars}
 use Rattle.std.proofs.lemmas.Iterator.{YieldsList-from_chars}
 use Rattle.std.proofs.lemmas.Iterator.Consumers.{YieldsList-end}
-use Rattle.plain_sql.specs.Imports.{doubled}
+use Rattle.plain_sql.proofs.Common.{flat_map, map-id, doubled}
 use Rattle.plain_sql.proofs.imports.push_identifier.Goals as goal
 
 pub returns : goal.returns

@@ -1,7 +1,6 @@
 -- the characters so far
 use Rattle.std.proofs.Common.{◌≡◌, ◌++◌, string_bytes}
-use Rattle.std.specs.List.{flat_map}
-use Rattle.plain_sql.specs.Imports.{doubled}
+use Rattle.plain_sql.proofs.Common.{flat_map, doubled}
 use Rattle.plain_sql.proofs.imports.push_identifier.Given as goal
 
 abbrev pub invariant-loop-c : goal.invariant-loop-c

@@ -1,8 +1,7 @@
 -- the numbers are tried in turn
 use Rattle.std.proofs.Common.{rules, ◌≡◌, ◌≤◌, Err, ap, subst, ◌∙◌, arith}
-use Rattle.sqlite.specs.Held.{state}
 use Rattle.sqlite.specs.Effect.{Database}
-use Rattle.plain_sql.specs.PlainImports.{IsOnlyBelow, takes_values, not_one, untold}
+use Rattle.plain_sql.proofs.Common.{state, IsOnlyBelow, takes_values, not_one, untold}
 use Rattle.plain_sql.proofs.CountLemmas.{no_number, only_number}
 use Rattle.plain_sql.proofs.PlainImportLemmas.{passed_on, stays_then}
 use Rattle.plain_sql.proofs.plain_import.column_count.Goals as goal

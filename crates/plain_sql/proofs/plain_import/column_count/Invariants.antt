@@ -1,7 +1,5 @@
 -- the numbers so far
-use Rattle.sqlite.specs.Held.{state}
-use Rattle.plain_sql.specs.PlainStatements.{IfClean}
-use Rattle.plain_sql.specs.PlainImports.{IsOnlyBelow, Stays}
+use Rattle.plain_sql.proofs.Common.{state, IfClean, IsOnlyBelow, Stays}
 use Rattle.plain_sql.proofs.plain_import.column_count.Given as goal
 
 abbrev pub invariant-loop-count : goal.invariant-loop-count

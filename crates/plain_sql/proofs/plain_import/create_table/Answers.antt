@@ -1,10 +1,6 @@
 -- what `sqlite` refuses
-use Rattle.std.proofs.Common.{rules, ◌≡◌, [], map, Err, string_bytes, subst}
-use Rattle.std.specs.Prelude.{if◌then◌else◌}
-use Rattle.plain_sql.specs.declared.plain_import.ImportFault.TheVariants.{Refused, Memory}
-use Rattle.plain_sql.specs.Imports.{create_text}
-use Rattle.plain_sql.specs.PlainStatements.{is_memory_error}
-use Rattle.plain_sql.specs.PlainImports.{Run, IsRefused}
+use Rattle.std.proofs.Common.{rules, ◌≡◌, [], map, Err, string_bytes, subst, if◌then◌else◌}
+use Rattle.plain_sql.proofs.Common.{Refused, Memory, create_text, is_memory_error, Run, IsRefused}
 use Rattle.plain_sql.proofs.PlainImportLemmas.{other_cause, run_refused}
 use Rattle.plain_sql.proofs.plain_import.create_table.Goals as goal
 

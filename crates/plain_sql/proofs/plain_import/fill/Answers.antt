@@ -1,10 +1,7 @@
 -- the table is made, and then filled
-use Rattle.std.proofs.Common.{rules, ◌≡◌, [], map, Err, refl, sym, subst, ◌∙◌, string_bytes}
-use Rattle.std.specs.Prelude.{option_map}
+use Rattle.std.proofs.Common.{rules, ◌≡◌, [], map, Err, refl, sym, subst, ◌∙◌, string_bytes, option_map}
 use Rattle.std.proofs.lemmas.Result.{on_ok_weaker}
-use Rattle.plain_sql.specs.Imports.{create_text}
-use Rattle.ft_statements.specs.Views.{texts_of}
-use Rattle.plain_sql.specs.PlainImports.{Run, TriesSteps, import_steps, insertions, DoesAll}
+use Rattle.plain_sql.proofs.Common.{create_text, texts_of, Run, TriesSteps, import_steps, insertions, DoesAll}
 use Rattle.plain_sql.proofs.PlainImportLemmas.{stops_at, stops_later}
 use Rattle.plain_sql.proofs.plain_import.fill.Goals as goal
 

@@ -1,12 +1,7 @@
 -- the transaction, to its end
-use Rattle.std.proofs.Common.{rules, ◌≡◌, List, map, false, Err, string_bytes, sym, subst, ◌∙◌, String, Global}
-use Rattle.std.specs.Prelude.{if◌then◌else◌, option_map}
+use Rattle.std.proofs.Common.{rules, ◌≡◌, List, map, false, Err, string_bytes, sym, subst, ◌∙◌, String, Global, if◌then◌else◌, option_map}
 use Rattle.std.specs.Borrow.{Bor}
-use Rattle.sqlite.specs.Held.{state}
-use Rattle.plain_sql.specs.declared.plain_import.ImportFault.TheVariants.{Refused, Memory}
-use Rattle.plain_sql.specs.PlainStatements.{IfClean, is_memory_error}
-use Rattle.plain_sql.specs.PlainImports.{CommitsNothing, KeepsLast, import_steps, DoesAll, StopsAtStep, CommitsAll, Declines, stopped, uncommitted}
-use Rattle.ft_statements.specs.Views.{texts_of}
+use Rattle.plain_sql.proofs.Common.{state, Refused, Memory, IfClean, is_memory_error, CommitsNothing, KeepsLast, import_steps, DoesAll, StopsAtStep, CommitsAll, Declines, stopped, uncommitted, texts_of}
 use Rattle.plain_sql.proofs.QueryLemmas.{clean_before}
 use Rattle.plain_sql.proofs.PlainImportLemmas.{other_cause, uncommitted_all_kept}
 use Rattle.plain_sql.proofs.plain_import.import_records.Goals as goal

@@ -1,7 +1,6 @@
 -- one record more goes in, or is refused
 use Rattle.std.proofs.Common.{rules, ◌≡◌, ◌+◌, map, take, drop, get_or, Err, string_bytes, sym, ap, subst, ◌∙◌, String, Vec, Global}
-use Rattle.ft_statements.specs.Views.{texts_of}
-use Rattle.plain_sql.specs.PlainImports.{Run, row_values, runs_of, DoesAll, StopsAtStep}
+use Rattle.plain_sql.proofs.Common.{texts_of, Run, row_values, runs_of, DoesAll, StopsAtStep}
 use Rattle.plain_sql.proofs.PlainImportLemmas.{runs_more, runs_split, does_more, stops_at, last_then}
 use Rattle.plain_sql.proofs.plain_import.insert_all.Goals as goal
 

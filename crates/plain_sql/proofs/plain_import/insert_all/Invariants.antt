@@ -1,9 +1,6 @@
 -- the records so far
 use Rattle.std.proofs.Common.{◌≡◌, ℕ, List, map, take}
-use Rattle.sqlite.specs.State.{HasCleanDisk}
-use Rattle.sqlite.specs.Held.{state}
-use Rattle.plain_sql.specs.PlainImports.{IsInside, KeepsLast, DoesAll, runs_of}
-use Rattle.ft_statements.specs.Views.{texts_of}
+use Rattle.plain_sql.proofs.Common.{HasCleanDisk, state, IsInside, KeepsLast, DoesAll, runs_of, texts_of}
 use Rattle.plain_sql.proofs.plain_import.insert_all.Given as goal
 
 pub record Kept (is_same is_inside keeps_last does_all : Type 0) : Type 0 where

@@ -1,9 +1,7 @@
 -- the insertion is prepared, and then run
 use Rattle.std.proofs.Common.{rules, ◌≡◌, [], map, Err, refl}
 use Rattle.std.proofs.lemmas.Result.{on_ok_weaker}
-use Rattle.plain_sql.specs.Imports.{insert_text}
-use Rattle.ft_statements.specs.Views.{texts_of}
-use Rattle.plain_sql.specs.PlainImports.{Prepare, runs_of, DoesAll}
+use Rattle.plain_sql.proofs.Common.{insert_text, texts_of, Prepare, runs_of, DoesAll}
 use Rattle.plain_sql.proofs.PlainImportLemmas.{passed_on, stops_at, stops_later}
 use Rattle.plain_sql.proofs.plain_import.insert_records.Goals as goal
 

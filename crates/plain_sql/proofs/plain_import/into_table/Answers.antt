@@ -1,14 +1,9 @@
 -- the columns are counted, and then the records go in
 use Rattle.std.proofs.Common.{rules, ◌≡◌, ℕ, None, map, string_bytes, refl, ap, ◌∙◌, subst}
-use Rattle.std.specs.List.{enumerate_from}
-use Rattle.sqlite.specs.Held.{state}
-use Rattle.ft_statements.specs.Views.{import_as, texts_of}
 use Rattle.shell_io.specs.Records.{warnings}
-use Rattle.plain_sql.specs.IntoTables.{fault_words, into}
-use Rattle.plain_sql.specs.PlainStatements.{IfClean}
-use Rattle.plain_sql.specs.PlainImports.{HasColumns, Stays, CommitsAll, Declines, Uncounted}
 use Rattle.shell_io.specs.Outcomes.{blames, warned}
 use Rattle.shell_io.specs.OutputViews.{answer_as}
+use Rattle.plain_sql.proofs.Common.{enumerate_from, state, import_as, texts_of, fault_words, into, IfClean, HasColumns, Stays, CommitsAll, Declines, Uncounted}
 use Rattle.plain_sql.proofs.ImportTurnLemmas.{same_steps, count_refused, import_refused}
 use Rattle.plain_sql.proofs.plain_import.into_table.Goals as goal
 

@@ -1,10 +1,6 @@
 -- what `sqlite` refuses
-use Rattle.std.proofs.Common.{rules, ◌≡◌, Err, subst}
-use Rattle.std.specs.Prelude.{if◌then◌else◌}
-use Rattle.plain_sql.specs.declared.plain_import.ImportFault.TheVariants.{Refused, Memory}
-use Rattle.plain_sql.specs.Imports.{insert_text}
-use Rattle.plain_sql.specs.PlainStatements.{is_memory_error}
-use Rattle.plain_sql.specs.PlainImports.{Prepare, IsRefused}
+use Rattle.std.proofs.Common.{rules, ◌≡◌, Err, subst, if◌then◌else◌}
+use Rattle.plain_sql.proofs.Common.{Refused, Memory, insert_text, is_memory_error, Prepare, IsRefused}
 use Rattle.plain_sql.proofs.PlainImportLemmas.{other_cause, prepare_refused, unprepared_kept}
 use Rattle.plain_sql.proofs.plain_import.prepared_insertion.Goals as goal
 

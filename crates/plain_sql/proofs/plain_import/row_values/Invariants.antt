@@ -1,6 +1,5 @@
 -- the values so far
-use Rattle.std.proofs.Common.{◌≡◌, map}
-use Rattle.std.specs.Prelude.{option_map}
+use Rattle.std.proofs.Common.{◌≡◌, map, option_map}
 use Rattle.sqlite.specs.Values.{bound}
 use Rattle.plain_sql.specs.PlainImports as forms
 use Rattle.plain_sql.proofs.plain_import.row_values.Given as goal

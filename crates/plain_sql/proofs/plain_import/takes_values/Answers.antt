@@ -1,11 +1,6 @@
 -- by what `sqlite` says of the text
-use Rattle.std.proofs.Common.{rules, ◌≡◌, [], false, Bool, Err, sym, ap, subst}
-use Rattle.std.specs.Prelude.{is_ok}
-use Rattle.sqlite.specs.Held.{state}
-use Rattle.sqlite.specs.State.{IsNotRun}
-use Rattle.sqlite.specs.Listing.{understood}
-use Rattle.plain_sql.specs.Imports.{insert_text}
-use Rattle.plain_sql.specs.PlainImports.{Prepare, IsRefused}
+use Rattle.std.proofs.Common.{rules, ◌≡◌, [], false, Bool, Err, sym, ap, subst, is_ok}
+use Rattle.plain_sql.proofs.Common.{state, IsNotRun, understood, insert_text, Prepare, IsRefused}
 use Rattle.plain_sql.proofs.QueryLemmas.{clean_before}
 use Rattle.plain_sql.proofs.CountLemmas.{not_understood}
 use Rattle.plain_sql.proofs.PlainImportLemmas.{other_cause, prepare_refused, unrun_all_kept, unchanged_stays}

@@ -1,6 +1,6 @@
 -- by whether it is taken, and whether one was found
 use Rattle.std.proofs.Common.{rules, ◌≡◌, true, false, sym, ◌∙◌, subst}
-use Rattle.plain_sql.specs.PlainImports.{IsOnlyBelow}
+use Rattle.plain_sql.proofs.Common.{IsOnlyBelow}
 use Rattle.plain_sql.proofs.CountLemmas.{skipped_number, first_number, second_number}
 use Rattle.plain_sql.proofs.plain_import.with_count.Goals as goal
 

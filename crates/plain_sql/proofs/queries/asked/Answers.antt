@@ -1,8 +1,6 @@
 -- by what `sqlite` says of the two calls
-use Rattle.std.proofs.Common.{rules, ◌≡◌, Err, sym, subst}
-use Rattle.std.specs.Prelude.{IfErr}
-use Rattle.sqlite.specs.declared.error.Error.{Error}
-use Rattle.plain_sql.specs.PlainStatements.{FailsToAnswer}
+use Rattle.std.proofs.Common.{rules, ◌≡◌, Err, sym, subst, IfErr}
+use Rattle.plain_sql.proofs.Common.{Error, FailsToAnswer}
 use Rattle.plain_sql.proofs.QueryLemmas.{asked_unprepared, asked_refused, asked_answered}
 use Rattle.plain_sql.proofs.queries.asked.Goals as goal
 

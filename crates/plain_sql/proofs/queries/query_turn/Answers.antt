@@ -1,9 +1,8 @@
 -- it is answered, or refused
 use Rattle.std.proofs.Common.{rules, subst}
 use Rattle.shell_io.specs.Outcomes.{Tells}
-use Rattle.plain_sql.specs.Answers.{row_print}
 use Rattle.shell_io.specs.OutputViews.{answer_as, complaint_as}
-use Rattle.plain_sql.specs.PlainStatements.{TellsRefusal, answered, refused}
+use Rattle.plain_sql.proofs.Common.{row_print, TellsRefusal, answered, refused}
 use Rattle.plain_sql.proofs.queries.query_turn.Goals as goal
 
 pub returns-in-Ok : goal.returns-in-Ok

@@ -1,9 +1,8 @@
 -- the words and what is said behind them, or want of memory
-use Rattle.std.proofs.Common.{rules, ◌≡◌, refl, inl, inr, string_bytes}
-use Rattle.std.specs.Prelude.{false, []}
+use Rattle.std.proofs.Common.{rules, ◌≡◌, refl, inl, inr, string_bytes, false, []}
 use Rattle.shell_io.specs.Outcomes.{blames, lacks_memory}
 use Rattle.shell_io.specs.OutputViews.{complaint_as}
-use Rattle.plain_sql.specs.PlainStatements.{is_memory_error, match_hint}
+use Rattle.plain_sql.proofs.Common.{is_memory_error, match_hint}
 use Rattle.plain_sql.proofs.QueryLemmas.{words_told}
 use Rattle.plain_sql.proofs.queries.refusal.Goals as goal
 

@@ -1,11 +1,9 @@
 -- one name more is tried, or memory is wanting
 use Rattle.std.proofs.Common.{◌≡◌, ◌+◌, [], ◌∷◌, ◌++◌, map, take, drop, get_or, true, None, Some, string_bytes, sym, ap, ◌∙◌, subst, inl, inr}
-use Rattle.std.proofs.lemmas.List.{map-append}
-use Rattle.ft_statements.specs.Views.{texts_of}
-use Rattle.plain_sql.specs.Listings.{Finds, StopsTrying, Tries}
+use Rattle.plain_sql.proofs.Common.{map-append, texts_of, Finds, StopsTrying, Tries}
 use Rattle.plain_sql.proofs.TablesLemmas.{finds_can, finds_cannot, stops_after, stops_now, names_split, names_more, on_err}
-use Rattle.plain_sql.proofs.readable.found_tables.Goals as goal
 use Rattle.plain_sql.proofs.readable.found_tables.Goals.{then-can_read+in_ok-from_str+in_ok-push, else-can_read}
+use Rattle.plain_sql.proofs.readable.found_tables.Goals as goal
 
 pub returns-in_err-can_read-clause-stops : goal.returns-in_err-can_read-clause-stops
 returns-in_err-can_read-clause-stops g c =

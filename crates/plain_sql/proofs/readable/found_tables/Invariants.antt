@@ -1,7 +1,6 @@
 -- the names so far
 use Rattle.std.proofs.Common.{map, take, string_bytes}
-use Rattle.ft_statements.specs.Views.{texts_of}
-use Rattle.plain_sql.specs.Listings.{Finds}
+use Rattle.plain_sql.proofs.Common.{texts_of, Finds}
 use Rattle.plain_sql.proofs.readable.found_tables.Given as goal
 
 abbrev pub invariant-loop-name : goal.invariant-loop-name

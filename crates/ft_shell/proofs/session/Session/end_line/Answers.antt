@@ -1,9 +1,9 @@
 -- the refusal, and then the units
 use Rattle.std.proofs.Common.{rules, ◌≡◌, [], ◌∷◌, ◌++◌, List, Err, false, refl}
 use Rattle.shell_text.specs.Units.{Member}
-use Rattle.shell_io.specs.declared.run.RunFault.TheVariants as causes
 use Rattle.shell_io.specs.LinesRead.{Way, behind, members_left, refused_as}
 use Rattle.ft_shell.proofs.RanLemmas.{lacks_memory, passes_as, runs_as, runs_err, runs_then}
+use Rattle.shell_io.specs.declared.run.RunFault.TheVariants as causes
 use Rattle.ft_shell.proofs.session.Session.end_line.Goals as goal
 
 pub returns-in_err-refused-clause-runs : goal.returns-in_err-refused-clause-runs

@@ -1,16 +1,13 @@
 -- its fault line is told
 use Rattle.std.proofs.Common.{rules, ◌≡◌, ◌∷◌, ◌++◌, [], List, Option, None, refl, sym, ap, ◌∙◌, subst}
 use Rattle.shell_text.specs.Units.{Member, Fault}
-use Rattle.ft_shell.specs.Shell.{Parts, Shell, shell_with}
 use Rattle.shell_io.specs.Outcomes.{Answer, blames, outcome_of}
-use Rattle.ft_shell.specs.Effects.{effects_of}
-use Rattle.ft_statements.specs.Texts.{split_text}
 use Rattle.shell_io.specs.OutputViews.{complaint_as}
-use Rattle.ft_shell.specs.Ran.{Runs, moment}
 use Rattle.shell_io.proofs.WriteLemmas.{appends_same}
-use Rattle.ft_shell.proofs.RanLemmas.{passes_none, runs_turn}
 use Rattle.shell_io.specs.declared.line_reader.Refusal.{Refusal}
 use Rattle.shell_io.specs.LinesRead.{refused_as}
+use Rattle.ft_shell.proofs.Common.{Parts, Shell, shell_with, effects_of, split_text, Runs, moment}
+use Rattle.ft_shell.proofs.RanLemmas.{passes_none, runs_turn}
 use Rattle.ft_shell.proofs.session.Session.refuse.Goals as goal
 
 pub returns-in_default-clause-runs : goal.returns-in_default-clause-runs

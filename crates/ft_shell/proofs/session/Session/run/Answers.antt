@@ -1,9 +1,7 @@
 -- its turns keep what the store holds
 use Rattle.std.proofs.Common.{rules, ap, subst₂}
-use Rattle.ft_shell.specs.Shell.{shell_with}
-use Rattle.ft_shell.specs.Runs.{Console}
-use Rattle.ft_shell.specs.Promise.{RanAndKept}
 use Rattle.shell_io.specs.Sources.{Files}
+use Rattle.ft_shell.proofs.Common.{shell_with, Console, RanAndKept}
 use Rattle.ft_shell.proofs.PromiseLemmas.{ran_and_kept}
 use Rattle.ft_shell.proofs.HoldsLemmas.{run_holds}
 use Rattle.ft_shell.proofs.session.Session.run.Goals as goal

@@ -2,8 +2,7 @@
 use Rattle.std.proofs.Common.{◌≡◌, ◌+◌, ◌-◌, ◌^◌, ◌<◌, length, [], false}
 use Rattle.shell_io.specs.LinesRead.{HasNoEnd}
 use Rattle.shell_io.specs.Writing.{SameWriters}
-use Rattle.ft_shell.specs.Shell.{shell_with}
-use Rattle.ft_shell.specs.Ran.{moment}
+use Rattle.ft_shell.proofs.Common.{shell_with, moment}
 use Rattle.ft_shell.proofs.RunLemmas.{SoFar, opening}
 use Rattle.ft_shell.proofs.session.Session.run_pieces.Given as goal
 

@@ -1,15 +1,11 @@
 -- its text is echoed, and what it tells is written
 use Rattle.std.proofs.Common.{rules, ◌≡◌, ◌++◌, ◌∷◌, List, Err, string_bytes, subst, sym, ap, inl}
-use Rattle.std.specs.Io.KnownBytes.{Appends}
 use Rattle.shell_text.specs.Units.{Member}
 use Rattle.shell_text.specs.Splitting.{member_of_unit}
-use Rattle.ft_shell.specs.Shell.{Shell, shell_with}
-use Rattle.ft_shell.specs.Effects.{effects_of}
 use Rattle.shell_io.specs.Outcomes.{echo_text, echoed, outcome_of}
-use Rattle.ft_shell.specs.Turns.{Turn, calls_in, echo_of}
 use Rattle.shell_io.specs.OutputViews.{answer_as}
 use Rattle.shell_io.specs.Writing.{AppendsUpTo}
-use Rattle.ft_shell.specs.Ran.{Runs, moment}
+use Rattle.ft_shell.proofs.Common.{Appends, Shell, shell_with, effects_of, Turn, calls_in, echo_of, Runs, moment}
 use Rattle.ft_shell.proofs.RanLemmas.{breaks_echo, runs_err, runs_turn, unit_echo, unit_turned}
 use Rattle.ft_shell.proofs.session.Session.run_unit.Goals as goal
 

@@ -2,8 +2,7 @@
 use Rattle.std.proofs.Common.{◌≡◌, [], false, length}
 use Rattle.shell_io.specs.LinesRead.{Way, behind, members_left}
 use Rattle.shell_io.specs.Writing.{SameWriters}
-use Rattle.ft_shell.specs.Shell.{shell_with}
-use Rattle.ft_shell.specs.Ran.{Passes, moment}
+use Rattle.ft_shell.proofs.Common.{shell_with, Passes, moment}
 use Rattle.ft_shell.proofs.session.Session.take.Given as goal
 
 pub record Kept (run_far is_waiting are_same : Type 0) : Type 0 where

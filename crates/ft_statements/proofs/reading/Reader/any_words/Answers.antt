@@ -1,8 +1,6 @@
 -- one word more, or the end of them
 use Rattle.std.proofs.Common.{sym, ap, ◌∙◌, ◌+◌, arith, take, drop}
-use Rattle.ft_statements.specs.Reading.{balanced_at}
-use Rattle.ft_statements.specs.Grammar.{mark_of}
-use Rattle.ft_statements.specs.Views.{plain}
+use Rattle.ft_statements.proofs.Common.{balanced_at, mark_of, plain}
 use Rattle.ft_statements.proofs.FormLaw.{all_onto}
 use Rattle.ft_statements.proofs.ReadingLemmas.{words_more, words_stop, words_open, words_all}
 use Rattle.ft_statements.proofs.reading.Reader.any_words.Goals as goal

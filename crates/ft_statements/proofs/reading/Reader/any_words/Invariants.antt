@@ -1,8 +1,6 @@
 -- the words so far, and what is read of the others
 use Rattle.std.proofs.Common.{◌≡◌, ◌≤◌, take, drop}
-use Rattle.ft_statements.specs.Reading.{balanced_at}
-use Rattle.ft_statements.specs.Grammar.{mark_of}
-use Rattle.ft_statements.specs.Views.{plain}
+use Rattle.ft_statements.proofs.Common.{balanced_at, mark_of, plain}
 use Rattle.ft_statements.proofs.FormLaw.{all_onto}
 use Rattle.ft_statements.proofs.reading.Reader.any_words.Given as goal
 

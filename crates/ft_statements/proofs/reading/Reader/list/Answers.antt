@@ -1,6 +1,6 @@
 -- one part more, or the end of them
 use Rattle.std.proofs.Common.{map, length, sym, ap, ◌∙◌, ◌+◌, arith, Err}
-use Rattle.ft_statements.specs.Views.{rest_of}
+use Rattle.ft_statements.proofs.Common.{rest_of}
 use Rattle.ft_statements.proofs.ReadingLemmas.{at_most, list_goes, list_stops, list_fails, list_spent, one_more, fault_goes}
 use Rattle.ft_statements.proofs.reading.Reader.list.Goals as goal
 

@@ -1,7 +1,6 @@
 -- those so far, and what is read of the words that are left
 use Rattle.std.proofs.Common.{◌≡◌, ◌-◌, map}
-use Rattle.ft_statements.specs.Reading.{list_at}
-use Rattle.ft_statements.specs.Views.{rest_of}
+use Rattle.ft_statements.proofs.Common.{list_at, rest_of}
 use Rattle.ft_statements.proofs.FormLaw.{all_onto}
 use Rattle.ft_statements.proofs.ReadingLemmas.{is_comma}
 use Rattle.ft_statements.proofs.reading.Reader.list.Given as goal

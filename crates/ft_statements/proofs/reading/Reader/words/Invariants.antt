@@ -1,8 +1,6 @@
 -- the words that are left
 use Rattle.std.proofs.Common.{◌≡◌, drop, map}
-use Rattle.ft_statements.specs.Reading.{read}
-use Rattle.ft_statements.specs.Grammar.{words}
-use Rattle.ft_statements.specs.Views.{rest_of}
+use Rattle.ft_statements.proofs.Common.{read, words, rest_of}
 use Rattle.ft_statements.proofs.reading.Reader.words.Given as goal
 
 abbrev pub invariant-loop-word : goal.invariant-loop-word
