@@ -1,20 +1,130 @@
 -- The passes over the phrases of a chain, backwards and forwards, give the members of its choices.
-use Rattle.std.proofs.Common.{◌≡◌, ℕ, ◌+◌, ◌-◌, ◌==◌, ◌&&◌, ◌||◌, Bool, true, false, not, List, [], ◌∷◌, ◌++◌, length, map, take, drop, refl, sym, ap, ◌∙◌, subst, arith, ⊎_elim}
-use Rattle.std.specs.Prelude.{filter, flat_map, AllPairs, Contains, nat_le, max}
-use Rattle.std.specs.List.{list_any, AllByRecursion}
-use Rattle.std.proofs.lemmas.Bool.Decides.{nat_tests}
-use Rattle.std.proofs.lemmas.List.{append-nil}
-use Rattle.ft_query.specs.declared.lists.place.Place.{Place}
-use Rattle.ft_query.specs.Documents.{Posting, IsBefore, is_filled}
-use Rattle.ft_query.specs.Trees.{PlainTerm, PlainPhrase, PlainLink, chain}
-use Rattle.ft_query.specs.Occurs.{places_of, occurrences, are_near, IsChoice, choices, heads, taken_in, taken_links}
-use Rattle.ft_query.specs.Visit.{listed_places, starts_of, marks_from, head_of, linked, link_marks, near_those, marks_of}
+use Rattle.std.proofs.Common.{◌≡◌, ℕ, ◌+◌, ◌<◌, ◌≤◌, ◌==◌, ◌||◌, Bool, true, false, cond, List, [], ◌∷◌, ◌⊎◌, inl, inr, refl, sym, ap, ◌∙◌, arith, filter, ◌++◌, length, map, take, drop, AllPairs, ◌-◌, ◌&&◌, not, subst, ⊎_elim, flat_map, Contains, nat_le, max, append-nil}
+use Rattle.std.proofs.Math.Bool.{or-false, or-true}
+use Rattle.ft_query.proofs.Common.{list_any, AllByRecursion, nat_tests, Place, are_near, is_behind, skip_behind, begin_near, near_those, Posting, IsBefore, is_filled, PlainPhrase, Tree, phrase, chain, both, either, without, terms_in, accepts, taken, taken_in, occurrences, places_of, listed_places, is_accepted, marks_of, marks_from, starts_of, PlainTerm, PlainLink, IsChoice, choices, heads, taken_links, head_of, linked, link_marks}
+use Rattle.ft_query.proofs.PhrasePasses.{Before, Rising, filter_same, all_weaker, starts_are, occurrences_rising, marks_are, occurrences_take, all_filter, rising_filter, any_same, filter_alike, Alike, Takes}
 use Rattle.ft_query.proofs.OffsetOrder.{contains_cases, contains_head, contains_tail}
 use Rattle.ft_query.proofs.Choices.{contains_nothing, map_from, map_to, filter_from, filter_to, chosen}
-use Rattle.ft_query.proofs.Merges.{Rising}
-use Rattle.ft_query.proofs.NearPasses.{near_is}
-use Rattle.ft_query.proofs.PhrasePasses.{all_filter, rising_filter, occurrences_rising, starts_are, any_same, filter_alike}
-use Rattle.ft_query.proofs.PhraseMarks.{Alike, Takes, marks_are, occurrences_take}
+
+-- ---- which occurrences the pass over two phrases' occurrences keeps
+
+-- a begins too far after b to be near it
+abbrev Beyond : ℕ → ℕ → Place → Place → Type 0
+Beyond most m b a = (b.column < a.column) ⊎ ((a.column ≡ b.column) × (b.pos + m + most < a.pos))
+
+-- a ends too far before b to be near it
+abbrev Behind : ℕ → ℕ → Place → Place → Type 0
+Behind most k a b = (a.column < b.column) ⊎ ((a.column ≡ b.column) × (a.pos + k + most < b.pos))
+
+abbrev Within : ℕ → ℕ → Place → Place → Type 0
+Within most k a b = (b.column < a.column) ⊎ ((a.column ≡ b.column) × (b.pos ≤ a.pos + k + most))
+
+behind_is : (most k : ℕ) (a b : Place) → is_behind most k a b ≡ true → Behind most k a b
+behind_is most k a b e = grind (arith, nat_tests)
+
+within_is : (most k : ℕ) (a b : Place) → is_behind most k a b ≡ false → Within most k a b
+within_is most k a b e = grind (arith, nat_tests)
+
+behind_not_near : (most k m : ℕ) (a b : Place) → Behind most k a b → are_near most k a m b ≡ false
+behind_not_near most k m a b behind = grind (arith, nat_tests)
+
+behind_later : (most k : ℕ) (a b c : Place) → Behind most k a b → Before b c → Behind most k a c
+behind_later most k a b c behind before = grind arith
+
+beyond_not_near : (most k m : ℕ) (a b : Place) → Beyond most m b a → are_near most k a m b ≡ false
+beyond_not_near most k m a b beyond = grind (arith, nat_tests)
+
+beyond_later : (most m : ℕ) (b a c : Place) → Beyond most m b a → Before a c → Beyond most m b c
+beyond_later most m b a c beyond before = grind arith
+
+far_beyond : (most k m : ℕ) (a b : Place) → are_near most k a m b ≡ false → a.column ≡ b.column → b.pos ≤ a.pos + k + most → (a.pos + k == b.pos + m) ≡ false
+    → b.pos + m + most < a.pos
+far_beyond most k m a b far column within apart = grind (arith, nat_tests)
+
+bar_moves : (x y k e : ℕ) → x < y → (y + k == e) ≡ true → (x + k == e) ≡ false
+bar_moves x y k e less same = grind (arith, nat_tests)
+
+second_by : (most k m : ℕ) (a c b : Place) → a.column ≡ b.column → c.column ≡ b.column → b.pos ≤ a.pos + k + most → a.pos < c.pos
+    → are_near most k a m b ≡ false → are_near most k c m b ≡ false → (barred : Bool) → (c.pos + k == b.pos + m) ≡ barred → b.pos + m + most < c.pos
+second_by most k m a c b here there within later far far_too false is = far_beyond most k m c b far_too there (omega arith) is
+second_by most k m a c b here there within later far far_too true is =
+    let first = far_beyond most k m a b far here within (bar_moves a.pos c.pos k (b.pos + m) later is) in
+    omega arith
+
+-- of two neighbours that aren't near, the second begins too far after
+second_beyond : (most k m : ℕ) (a c b : Place) → Within most k a b → are_near most k a m b ≡ false → Before a c → are_near most k c m b ≡ false
+    → Beyond most m b c
+second_beyond most k m a c b (inl h) far (inl i) far_too = inl (omega arith)
+second_beyond most k m a c b (inl h) far (inr i) far_too = let x = i.0 in inl (omega arith)
+second_beyond most k m a c b (inr h) far (inl i) far_too = let x = h.0 in inl (omega arith)
+second_beyond most k m a c b (inr h) far (inr i) far_too =
+    inr (sym i.0 ∙ h.0, second_by most k m a c b h.0 (sym i.0 ∙ h.0) h.1 i.1 far far_too (c.pos + k == b.pos + m) refl)
+
+none_near : (most k m : ℕ) (b : Place) (near : List Place) → AllByRecursion (Beyond most m b) near → list_any (λ a. are_near most k a m b) near ≡ false
+none_near most k m b [] all = refl
+none_near most k m b (a ∷ more) all =
+    ap (λ t. t || list_any (λ u. are_near most k u m b) more) (beyond_not_near most k m a b all.0) ∙ none_near most k m b more all.1
+
+all_beyond : (most m : ℕ) (b a : Place) (more : List Place) → Beyond most m b a → AllByRecursion (Before a) more → AllByRecursion (Beyond most m b) more
+all_beyond most m b a [] h all = tt
+all_beyond most m b a (c ∷ more) h all = (beyond_later most m b a c h all.0, all_beyond most m b a more h all.1)
+
+-- the first two decide
+two_decide : (most k m : ℕ) (b a : Place) (more : List Place) → Within most k a b → AllByRecursion (Before a) more → Rising more
+    → begin_near most k (a ∷ more) m b ≡ list_any (λ u. are_near most k u m b) (a ∷ more)
+two_decide most k m b a [] within first rising = sym (or-false (are_near most k a m b))
+two_decide most k m b a (c ∷ more) within first rising = by (are_near most k a m b) refl (are_near most k c m b) refl
+  where
+    by : (p : Bool) → are_near most k a m b ≡ p → (q : Bool) → are_near most k c m b ≡ q
+        → (are_near most k a m b || are_near most k c m b) ≡ (are_near most k a m b || (are_near most k c m b || list_any (λ u. are_near most k u m b) more))
+    by true e q f = ap (λ x. x || are_near most k c m b) e ∙ sym (ap (λ x. x || (are_near most k c m b || list_any (λ u. are_near most k u m b) more)) e)
+    by false e true f = ap (λ y. are_near most k a m b || y) f ∙ sym (ap (λ y. are_near most k a m b || (y || list_any (λ u. are_near most k u m b) more)) f)
+    by false e false f =
+        let far = second_beyond most k m a c b within e first.0 f in
+        ap (λ y. are_near most k a m b || y) f
+        ∙ sym (ap (λ y. are_near most k a m b || (y || list_any (λ u. are_near most k u m b) more)) f ∙ ap (λ y. are_near most k a m b || y)
+        (none_near most k m b more (all_beyond most m b c more far rising.0)))
+
+-- what a pass up to a place leaves
+record Kept (most k m : ℕ) (near : List Place) (b : Place) (left : List Place) : Type 0 where
+  decides : begin_near most k left m b ≡ list_any (λ a. are_near most k a m b) near
+  rising : Rising left
+  later : (c : Place) → Before b c → list_any (λ a. are_near most k a m c) left ≡ list_any (λ a. are_near most k a m c) near
+
+kept_one : (most k m : ℕ) (a : Place) (more left : List Place) (b : Place) (behind : Bool) → is_behind most k a b ≡ behind → AllByRecursion (Before a) more
+    → Rising more → Kept most k m more b left → Kept most k m (a ∷ more) b (cond behind left (a ∷ more))
+kept_one most k m a more left b true is first rising rest =
+    let far = behind_is most k a b is in
+    record {
+      decides = rest.decides ∙ sym (ap (λ t. t || list_any (λ u. are_near most k u m b) more) (behind_not_near most k m a b far));
+      rising = rest.rising;
+      later =
+          λ c h. rest.later c h
+          ∙ sym (ap (λ t. t || list_any (λ u. are_near most k u m c) more) (behind_not_near most k m a c (behind_later most k a b c far h)));
+    }
+kept_one most k m a more left b false is first rising rest = record {
+  decides = two_decide most k m b a more (within_is most k a b is) first rising;
+  rising = (first, rising);
+  later = λ c h. refl;
+}
+
+kept_by : (most k m : ℕ) (near : List Place) (b : Place) → Rising near → Kept most k m near b (skip_behind most k near b)
+kept_by most k m [] b rising = record { decides = refl; rising = tt; later = λ c h. refl }
+kept_by most k m (a ∷ more) b rising =
+    kept_one most k m a more (skip_behind most k more b) b (is_behind most k a b) refl rising.0 rising.1 (kept_by most k m more b rising.1)
+
+-- of rising occurrences those that are near one of the others are kept
+pub near_is : (most k : ℕ) (near : List Place) (m : ℕ) (bs : List Place) → Rising near → Rising bs
+    → near_those most k near m bs ≡ filter (λ b. list_any (λ a. are_near most k a m b) near) bs
+near_is most k near m [] first second = refl
+near_is most k near m (b ∷ bs) first second =
+    let left = skip_behind most k near b in
+    let kept = kept_by most k m near b first in
+    let all = λ (xs : List Place) (c : Place). list_any (λ a. are_near most k a m c) xs in
+    let rest =
+    near_is most k left m bs kept.rising second.1
+    ∙ filter_same (all left) (all near) bs (all_weaker (Before b) (λ c. all left c ≡ all near c) bs kept.later second.0) in
+    simp (kept.decides, rest)
 
 -- ---- lists of terms
 
@@ -32,12 +142,8 @@ pub any_to : {X : Type 0} (p : X → Bool) (xs : List X) (x : X) → Contains xs
 any_to p [] x c e = absurd (contains_nothing x c)
 any_to p (y ∷ ys) x c e = ⊎_elim
     (λ (here : y ≡ x). ap (λ b. b || list_any p ys) (ap p here ∙ e))
-    (λ (later : Contains ys x). ap (λ b. p y || b) (any_to p ys x later e) ∙ or_true (p y))
+    (λ (later : Contains ys x). ap (λ b. p y || b) (any_to p ys x later e) ∙ or-true (p y))
     (contains_cases y x ys c)
-  where
-    or_true : (b : Bool) → (b || true) ≡ true
-    or_true true = refl
-    or_true false = refl
 
 pub any_from : {X : Type 0} (p : X → Bool) (xs : List X) → list_any p xs ≡ true → (x : X) × Contains xs x × (p x ≡ true)
 any_from p [] e = cc
@@ -245,17 +351,15 @@ link_marks_are postings p (link ∷ links) starts cs ordered rising within count
     let is_next : near_those link.most k starts n (head_of all) ≡ next =
     ap (near_those link.most k starts n) (linked_are postings link.to links ordered)
     ∙ near_is link.most k starts n (reach postings link.to links) rising (reach_rising postings link.to links ordered) in
-    let marked : List Place → List (List Place) → List (List Place) → List (List Place) → List (List Place) =
-    λ s front back later. marks_from 0 front s ++ link_marks n s links back later in
-    ap (λ ls. link_marks k starts (link ∷ links) lists (linked link.to links ls)) (back_part L p.terms (link.to.terms ++ more))
-    ∙ ap (λ s. marked s (take n lists) (drop n lists) (drop 1 all)) is_next
-    ∙ ap (λ ls. marked next ls (drop n lists) (drop 1 all)) (front_part L link.to.terms more)
-    ∙ ap (λ ls. marked next (map L link.to.terms) ls (drop 1 all)) (back_part L link.to.terms more)
-    ∙ ap (λ ms. ms ++ link_marks n next links (map L more) (drop 1 all))
-    (marks_are postings 0 link.to.terms next (heads (map (drop 1) cs)) ordered next_rising next_takes
-    (counted_heads postings link.to links next (map (drop 1) cs) next_counted next_within))
-    ∙ ap (λ ms. taken_in postings 0 link.to.terms (heads (map (drop 1) cs)) ++ ms)
-    (link_marks_are postings link.to links next (map (drop 1) cs) ordered next_rising next_within next_counted)
+    simp (
+      back_part L p.terms (link.to.terms ++ more),
+      is_next,
+      front_part L link.to.terms more,
+      back_part L link.to.terms more,
+      marks_are postings 0 link.to.terms next (heads (map (drop 1) cs)) ordered next_rising next_takes
+          (counted_heads postings link.to links next (map (drop 1) cs) next_counted next_within),
+      link_marks_are postings link.to links next (map (drop 1) cs) ordered next_rising next_within next_counted,
+    )
 
 all_counted : (postings : List Posting) (p : PlainPhrase) (links : List PlainLink)
     → Counted postings p links (reach postings p links) (choices postings p links)
@@ -281,12 +385,50 @@ chain_marks_are postings p links ordered =
     let cs = choices postings p links in
     let within = λ (at : Place) (c : Contains starts at). c in
     let rising = reach_rising postings p links ordered in
-    let marked : List Place → List (List Place) → List (List Place) → List (List Place) =
-    λ s front back. marks_from 0 front s ++ link_marks n s links back (drop 1 (linked p links lists)) in
-    ap (λ s. marked s (take n lists) (drop n lists)) (linked_are postings p links ordered)
-    ∙ ap (λ ls. marked starts ls (drop n lists)) (front_part L p.terms more)
-    ∙ ap (λ ls. marked starts (map L p.terms) ls) (back_part L p.terms more)
-    ∙ ap (λ ms. ms ++ link_marks n starts links (map L more) (drop 1 (linked p links lists)))
-    (marks_are postings 0 p.terms starts (heads cs) ordered rising (reach_takes postings p links)
-    (counted_heads postings p links starts cs (all_counted postings p links) within))
-    ∙ ap (λ ms. taken_in postings 0 p.terms (heads cs) ++ ms) (link_marks_are postings p links starts cs ordered rising within (all_counted postings p links))
+    simp (
+      linked_are postings p links ordered,
+      front_part L p.terms more,
+      back_part L p.terms more,
+      marks_are postings 0 p.terms starts (heads cs) ordered rising (reach_takes postings p links)
+          (counted_heads postings p links starts cs (all_counted postings p links) within),
+      link_marks_are postings p links starts cs ordered rising within (all_counted postings p links),
+    )
+
+-- ---- what a query accepts, and the places that its terms take
+
+abbrev lists_for : List Posting → Tree → List (List Place)
+lists_for postings tree = map (listed_places postings) (terms_in tree)
+
+pub accepted_is : (postings : List Posting) (tree : Tree) → AllPairs IsBefore postings → is_accepted tree (lists_for postings tree) ≡ accepts postings tree
+accepted_is postings (phrase p) ordered = ap (λ (s : List Place). is_filled s) (starts_are postings p.filter p.terms ordered)
+accepted_is postings (chain p links) ordered = chain_accepts postings p links ordered
+accepted_is postings (both p q) ordered =
+    let L = listed_places postings in let ts = terms_in p in let us = terms_in q in
+    simp (front_part L ts us, back_part L ts us, accepted_is postings p ordered, accepted_is postings q ordered)
+accepted_is postings (either p q) ordered =
+    let L = listed_places postings in let ts = terms_in p in let us = terms_in q in
+    simp (front_part L ts us, back_part L ts us, accepted_is postings p ordered, accepted_is postings q ordered)
+accepted_is postings (without p q) ordered =
+    let L = listed_places postings in let ts = terms_in p in let us = terms_in q in
+    simp (front_part L ts us, back_part L ts us, accepted_is postings p ordered, accepted_is postings q ordered)
+
+phrase_marks : (postings : List Posting) (p : PlainPhrase) → AllPairs IsBefore postings
+    → marks_from 0 (map (listed_places postings) p.terms) (starts_of p (map (listed_places postings) p.terms))
+    ≡ taken_in postings 0 p.terms (occurrences postings p)
+phrase_marks postings p ordered =
+    rw (starts_are postings p.filter p.terms ordered)
+    (marks_are postings 0 p.terms (occurrences postings p) (occurrences postings p) ordered (occurrences_rising postings p ordered)
+    (occurrences_take postings p (places_of postings)) (λ t. refl))
+
+two_marks : (postings : List Posting) (p q : Tree) → marks_of p (lists_for postings p) ≡ taken postings p → marks_of q (lists_for postings q) ≡ taken postings q
+    → marks_of p (take (length (terms_in p)) (map (listed_places postings) (terms_in p ++ terms_in q))) ++ marks_of q
+    (drop (length (terms_in p)) (map (listed_places postings) (terms_in p ++ terms_in q))) ≡ taken postings p ++ taken postings q
+two_marks postings p q left right =
+    let L = listed_places postings in simp (front_part L (terms_in p) (terms_in q), back_part L (terms_in p) (terms_in q), left, right)
+
+pub marked_is : (postings : List Posting) (tree : Tree) → AllPairs IsBefore postings → marks_of tree (lists_for postings tree) ≡ taken postings tree
+marked_is postings (phrase p) ordered = phrase_marks postings p ordered
+marked_is postings (chain p links) ordered = chain_marks_are postings p links ordered
+marked_is postings (both p q) ordered = two_marks postings p q (marked_is postings p ordered) (marked_is postings q ordered)
+marked_is postings (either p q) ordered = two_marks postings p q (marked_is postings p ordered) (marked_is postings q ordered)
+marked_is postings (without p q) ordered = ap (marks_of p) (front_part (listed_places postings) (terms_in p) (terms_in q)) ∙ marked_is postings p ordered

@@ -1,25 +1,9 @@
 -- The evaluation of a query from its first operand on, one joint after the other.
-use Rattle.std.proofs.Common.{◌≡◌, ℕ, ◌+◌, ◌-◌, ◌≤◌, ◌<◌, ◌^◌, Bool, List, [], ◌∷◌, ◌++◌}
-use Rattle.std.proofs.Common.{length, take, drop, refl, sym, ap, ◌∙◌, subst, append-nil, append_assoc, add_assoc, arith, Ok}
-use Rattle.std.proofs.lemmas.List.{map-append, length-append, length-map, length-take-le, take-append-drop, take-append-le, drop-append-le, take_at, drop_at}
-use Rattle.ft_query.specs.declared.lists.place.Place.{Place}
-use Rattle.ft_query.specs.declared.walk.Offset.{Offset}
-use Rattle.ft_query.specs.declared.standing.Steps.{Steps}
-use Rattle.ft_query.specs.declared.walk.places.Places.{Places}
-use Rattle.ft_query.specs.declared.walk.joint.By.{By}
-use Rattle.ft_query.specs.declared.walk.joint.By.TheVariants as by
-use Rattle.ft_query.specs.declared.walk.joint.Joint.{Joint}
-use Rattle.ft_query.specs.declared.walk.visit.Found.{Found}
-use Rattle.ft_query.specs.declared.walk.visit.Wanted.{Wanted}
-use Rattle.ft_query.specs.declared.walk.visit.Wanted.TheVariants.{Docids, Offsets}
-use Rattle.ft_query.specs.Trees.{Tree, phrase, chain, both, either, without, tree_of}
-use Rattle.ft_query.specs.Work.{terms_in, node_count, width}
-use Rattle.ft_query.specs.Taken.{more_steps, TakesAtMost}
-use Rattle.ft_query.specs.Spines.{joined_sides, joined_answer, joined_marks, whole}
-use Rattle.ft_query.specs.Visit.{is_accepted, marks_of, numbered_offsets, if_wanted, plain_lists, visit_cost}
-use Rattle.ft_query.specs.Marked.{own_lists, lists_after, HaveLists, Evaluates, Joins}
-use Rattle.ft_query.proofs.Marks.{numbered_more}
+use Rattle.std.proofs.Common.{◌≡◌, ℕ, ◌+◌, ◌-◌, ◌≤◌, ◌<◌, ◌^◌, Bool, List, [], ◌∷◌, ◌++◌, length, take, drop, refl, sym, ap, ◌∙◌, subst, append-nil, append_assoc, add_assoc, arith, Ok, length-append, length-take-le, take-append-drop}
+use Rattle.ft_query.proofs.Common.{nil_from_length, take-append-le, drop-append-le, Place, Offset, Steps, Places, By, Joint, Found, Wanted, Docids, Offsets, Tree, phrase, chain, both, either, without, tree_of, terms_in, node_count, width, more_steps, TakesAtMost, joined_sides, joined_answer, joined_marks, whole, is_accepted, marks_of, numbered_offsets, if_wanted, plain_lists, visit_cost, own_lists, lists_after, HaveLists, Evaluates, Joins}
+use Rattle.ft_query.proofs.Passes.{numbered_more, lists_front, lists_back}
 use Rattle.ft_query.proofs.Spines.{joined_terms, part_terms, right_width, whole_last}
+use Rattle.ft_query.specs.declared.walk.joint.By.TheVariants as by
 
 -- ---- a left side and a right one
 
@@ -41,15 +25,6 @@ joined_cost p by.And q ls = refl
 joined_cost p by.Or q ls = refl
 joined_cost p by.Not q ls = refl
 
--- the lists of a left side, and after them those of a right one
-lists_front : (front own : List Places) (n : ℕ) → length front ≡ n → take n (plain_lists (front ++ own)) ≡ plain_lists front
-lists_front front own n same = ap (take n) (map-append (λ (l : Places). l.places.now) front own)
-    ∙ take_at (plain_lists front) (plain_lists own) n (length-map front (λ l. l.places.now) ∙ same)
-
-lists_back : (front own : List Places) (n : ℕ) → length front ≡ n → drop n (plain_lists (front ++ own)) ≡ plain_lists own
-lists_back front own n same = ap (drop n) (map-append (λ (l : Places). l.places.now) front own)
-    ∙ drop_at (plain_lists front) (plain_lists own) n (length-map front (λ l. l.places.now) ∙ same)
-
 told : (wanted : Wanted) (old : List Offset) (n : ℕ) (ms more : List (List Place))
     → old ++ numbered_offsets n (if_wanted wanted ms) ++ numbered_offsets (n + length (if_wanted wanted ms)) (if_wanted wanted more)
     ≡ old ++ numbered_offsets n (if_wanted wanted (ms ++ more))
@@ -68,49 +43,32 @@ joined_evaluates b p q front own left all old mid new same one two =
     let ls = plain_lists (front ++ own) in
     let is_front = lists_front front own n same in
     let is_back = lists_back front own n same in
-    let marks = joined_marked p b q ls in
-    let split = ap (λ l. marks_of p l ++ joined_marks b (marks_of q (drop n ls))) (sym is_front) ∙ marks in
     let ms = marks_of p (plain_lists front) in
     let more = joined_marks b (marks_of q (plain_lists own)) in
     let are : ms ++ more ≡ marks_of (joined_sides p b q) ls =
-    ap (λ l. ms ++ joined_marks b (marks_of q l)) (sym is_back) ∙ ap (λ l. marks_of p l ++ joined_marks b (marks_of q (drop n ls))) (sym is_front) ∙ marks in
+    simp (← joined_marked p b q ls, is_front, is_back) in
     let sum = length-append front own in
     record {
-      accepted =
-          two.both
-          ∙ ap (λ a. joined_answer b a (is_accepted q (plain_lists own))) one.accepted
-          ∙ ap (λ l. joined_answer b (is_accepted p l) (is_accepted q (plain_lists own))) (sym is_front)
-          ∙ ap (λ l. joined_answer b (is_accepted p (take n ls)) (is_accepted q l)) (sym is_back)
-          ∙ sym (joined_accepts p b q ls);
+      accepted = simp (two.both, one.accepted, joined_accepts p b q ls, is_front, is_back);
       wanted = two.wanted ∙ one.wanted;
       offsets =
-          two.offsets
-          ∙ ap (λ os. os ++ numbered_offsets mid.next (if_wanted mid.wanted more)) one.offsets
-          ∙ ap (λ w. old.offsets.items ++ numbered_offsets old.next (if_wanted old.wanted ms) ++ numbered_offsets mid.next (if_wanted w more)) one.wanted
-          ∙ ap (λ k. old.offsets.items ++ numbered_offsets old.next (if_wanted old.wanted ms) ++ numbered_offsets k (if_wanted old.wanted more)) one.next
-          ∙ told old.wanted old.offsets.items old.next ms more
-          ∙ ap (λ m. old.offsets.items ++ numbered_offsets old.next (if_wanted old.wanted m)) are;
+          simp (two.offsets, one.offsets, one.wanted, one.next)
+          (told old.wanted old.offsets.items old.next ms more
+          ∙ ap (λ m. old.offsets.items ++ numbered_offsets old.next (if_wanted old.wanted m)) are);
       next =
-          two.next
-          ∙ ap (λ w. mid.next + length (if_wanted w more)) one.wanted
-          ∙ ap (λ k. k + length (if_wanted old.wanted more)) one.next
-          ∙ add_assoc old.next (length (if_wanted old.wanted ms)) (length (if_wanted old.wanted more))
-          ∙ ap (λ k. old.next + k) (told_count old.wanted ms more ∙ ap (λ m. length (if_wanted old.wanted m)) are);
+          simp (two.next, one.wanted, one.next)
+          (add_assoc old.next (length (if_wanted old.wanted ms)) (length (if_wanted old.wanted more))
+          ∙ ap (λ k. old.next + k) (told_count old.wanted ms more ∙ ap (λ m. length (if_wanted old.wanted m)) are));
       room = omega (arith, one.room, two.room, sum);
     }
-
-pub parted : (n : ℕ) (own rest lists : List Places) → own ≡ take n lists → rest ≡ drop n lists → own ++ rest ≡ lists
-parted n own rest lists front back = ap (λ l. l ++ rest) front ∙ ap (λ l. take n lists ++ l) back ∙ take-append-drop n lists
 
 -- ---- the steps
 
 cost_front : (p : Tree) (front own : List Places) → length front ≡ length (terms_in p) → (b : By) (q : Tree)
     → visit_cost (joined_sides p b q) (plain_lists (front ++ own)) ≡ 1 + (visit_cost p (plain_lists front) + visit_cost q (plain_lists own))
 cost_front p front own same b q =
-    joined_cost p b q (plain_lists (front ++ own))
-    ∙ ap (λ l. 1 + (visit_cost p l + visit_cost q (drop (length (terms_in p)) (plain_lists (front ++ own))))) (lists_front front own
-    (length (terms_in p)) same)
-    ∙ ap (λ l. 1 + (visit_cost p (plain_lists front) + visit_cost q l)) (lists_back front own (length (terms_in p)) same)
+    let n = length (terms_in p) in
+    simp (joined_cost p b q (plain_lists (front ++ own)), lists_front front own n same, lists_back front own n same)
 
 -- each node is a step
 pub nodes_cost : (t : Tree) (ls : List (List Place)) → node_count t ≤ visit_cost t ls
@@ -129,16 +87,9 @@ joined_nodes p by.Or q = refl
 joined_nodes p by.Not q = refl
 
 takes_then : (m n : ℕ) (a b c : Steps) → TakesAtMost m a b → TakesAtMost n b c → TakesAtMost (m + n) a c
-takes_then m n a b c one two = record {
-  at_least = omega (arith, one.at_least, two.at_least);
-  at_most = omega (arith, one.at_most, two.at_most);
-}
+takes_then m n a b c one two = record { at_least = omega arith; at_most = omega arith }
 
 -- ---- a part and what is joined to it
-
-nothing : {X : Type 0} (xs : List X) → length xs ≡ 0 → xs ≡ []
-nothing [] none = refl
-nothing (x ∷ xs) none = absurd (omega arith)
 
 -- a part's steps are among those of the whole
 part_cost : (js : List Joint) (p : Tree) (front rest : List Places) → length front ≡ length (terms_in p)
@@ -146,7 +97,7 @@ part_cost : (js : List Joint) (p : Tree) (front rest : List Places) → length f
     → visit_cost p (plain_lists front) ≤ visit_cost (whole js p) (plain_lists (front ++ rest))
 part_cost [] p front rest same all =
     let sum = length-append front rest in
-    let none = nothing rest (omega (arith, sum, same, all)) in
+    let none = nil_from_length rest (omega (arith, sum, same, all)) in
     let is : front ++ rest ≡ front = ap (λ l. front ++ l) none ∙ append-nil front in
     subst (λ l. visit_cost p (plain_lists front) ≤ visit_cost p (plain_lists l)) (sym is) (omega arith)
 part_cost (j ∷ js) p front rest same all =
@@ -424,7 +375,7 @@ climbed {query} {lists} {left} {accepted} {old} {now} {begun} {steps} at enough 
     let long = length-take-le (length (terms_in query)) lists enough in
     let split = sym (ap length at.climbs.split) ∙ length-append at.climbs.front at.rest in
     let terms = ap (λ t. length (terms_in t)) at.climbs.all in
-    let none = nothing at.rest (omega (arith, split, long, terms, at.climbs.each)) in
+    let none = nil_from_length at.rest (omega (arith, split, long, terms, at.climbs.each)) in
     let front : at.climbs.front ≡ own_lists query lists =
     sym (append-nil at.climbs.front) ∙ ap (λ l. at.climbs.front ++ l) (sym none) ∙ at.climbs.split in
     let is = at.climbs.all in
@@ -447,10 +398,6 @@ pub record ClimbingOver (query : Tree) (lists left : List Places) (around joints
   pub behind : joints ≡ around ++ own
   pub climbs : Climbing query lists left own accepted old now begun steps
 
-abbrev first_or : Joint → List Joint → Joint
-first_or j [] = j
-first_or j (i ∷ js) = i
-
 -- the last one is the part's own
 record IsOwn (around own joints : List Joint) (j : Joint) : Type 0 where
   rest : List Joint
@@ -462,12 +409,8 @@ own_last : (around own joints : List Joint) (j : Joint) → around ++ own ≡ jo
 own_last [] own joints j same more = record { rest = joints; own_is = same; behind = refl }
 own_last (i ∷ around) own [] j same more = absurd (omega arith)
 own_last (i ∷ around) own (k ∷ joints) j same more =
-    let is = own_last around own joints j (ap (drop 1) same) (omega arith) in
-    record {
-      rest = is.rest;
-      own_is = is.own_is;
-      behind = ap (λ l. k ∷ l) is.behind ∙ ap (λ x. x ∷ around ++ is.rest) (sym (ap (first_or i) same));
-    }
+    let is = own_last around own joints j (cc same) (omega arith) in
+    record { rest = is.rest; own_is = is.own_is; behind = cc (same, is.behind) }
 
 pub record ClimbingNext (query : Tree) (lists left : List Places) (around joints : List Joint) (j : Joint)
     (accepted : Bool) (old now : Found) (begun steps : Steps) : Type 0 where
@@ -489,5 +432,5 @@ pub no_joint : {query : Tree} {lists left : List Places} {around all : List Join
     → (all ≡ around) × Climbing query lists left [] accepted old now begun steps
 no_joint {query} {lists} {left} {around} {all} {accepted} {old} {now} {begun} {steps} at few =
     let sum = ap length at.behind ∙ length-append around at.own in
-    let none = nothing at.own (omega (arith, sum, few)) in
+    let none = nil_from_length at.own (omega (arith, sum, few)) in
     (at.behind ∙ ap (λ l. around ++ l) none ∙ append-nil around, with_joints none at.climbs)

@@ -1,31 +1,10 @@
 -- What considering one document does to a walk.
-use Rattle.std.proofs.Common.{◌≡◌, ◌≢◌, ℕ, suc, ◌+◌, ◌-◌, ◌*◌, ◌^◌, ◌<◌, ◌≤◌, ◌⊎◌, inl, inr, ℤ, ◌<ℤ◌, min, Bool, true, false, cond, List, [], ◌∷◌, ◌++◌, length, map, refl, sym, ap, subst, ◌∙◌, arith, true≢false, Option, Some, None, ⊎_elim}
-use Rattle.std.specs.Prelude.{AllPairs, sum_by, int_lt, if◌then◌else◌, option_map, IfSome}
-use Rattle.std.specs.Ordering.{int_eq}
-use Rattle.std.proofs.Math.Nat.{mul-suc}
+use Rattle.std.proofs.Common.{◌≡◌, ◌≢◌, ℕ, ◌+◌, ◌-◌, ◌*◌, ◌^◌, ◌<◌, ◌≤◌, ◌⊎◌, inl, inr, ℤ, ◌<ℤ◌, min, Bool, true, false, cond, List, [], ◌∷◌, ◌++◌, length, map, refl, sym, ap, subst, ◌∙◌, arith, Option, Some, None, ⊎_elim, AllPairs, sum_by, int_lt, if◌then◌else◌, option_map, IfSome, int_eq, mul-suc}
 use Rattle.std.proofs.lemmas.Simd.{map-map}
+use Rattle.ft_query.proofs.Common.{recursion_from_All, All-nil, All-head, Decides-int_eq, sum_by-cons, Query, Place, Offset, Cursor, Wanted, Posting, Document, AreDocuments, IsBefore, PlaceList, place_count, Tree, tree_of, PlainHit, accepts, offsets_of, hits_of, terms_in, lists_of, node_count, width, entry_count, candidate_count, lists_left, places_at, passed, least_of, least_from, listed_for, listed_places, if_wanted, Walk, StandsBefore, steps_to_come, Went, hit_at, walk_at, Finds, Steps, more_steps, TakesSteps, TakesAtMost}
 use Rattle.ft_query.proofs.Spines.{some_nodes}
-use Rattle.ft_query.proofs.Widths.{all_terms}
-use Rattle.std.proofs.lemmas.List.Elements.{recursion_from_All, All-nil, All-head}
-use Rattle.std.proofs.lemmas.Bool.Decides.{Decides-int_eq}
-use Rattle.std.proofs.lemmas.List.Sums.{sum_by-cons}
+use Rattle.ft_query.proofs.Costs.{terms_width}
 use Rattle.ft_query.proofs.TokenOnce.{pairs_head}
-use Rattle.ft_query.specs.declared.query.Query.{Query}
-use Rattle.ft_query.specs.declared.lists.place.Place.{Place}
-use Rattle.ft_query.specs.declared.walk.Offset.{Offset}
-use Rattle.ft_query.specs.declared.walk.cursor.Cursor.{Cursor}
-use Rattle.ft_query.specs.declared.walk.visit.Wanted.{Wanted}
-use Rattle.ft_query.specs.declared.walk.search.Considered.TheVariants.{NoDocument}
-use Rattle.ft_query.specs.Documents.{Posting, Document, AreDocuments, IsBefore, PlaceList, place_count}
-use Rattle.ft_query.specs.Trees.{Tree, tree_of}
-use Rattle.ft_query.specs.Occurs.{PlainHit, accepts, offsets_of, hits_of}
-use Rattle.ft_query.specs.Work.{terms_in, lists_of, node_count, width, entry_count, candidate_count}
-use Rattle.ft_query.specs.Cursors.{lists_left, places_at, passed, least_of, least_from, listed_for}
-use Rattle.ft_query.specs.Visit.{listed_places, if_wanted}
-use Rattle.ft_query.specs.Walk.{Walk, StandsBefore, steps_to_come, Went, hit_at}
-use Rattle.ft_query.specs.Search.{walk_at, Considers}
-use Rattle.ft_query.specs.declared.standing.Steps.{Steps}
-use Rattle.ft_query.specs.Taken.{more_steps, TakesSteps, TakesAtMost}
 use Rattle.ft_query.proofs.Nexts.{Next, Nothing, First, next_of, are_more, all_places, all_passed, all_counted, without_it, with_it}
 
 no_documents : AreDocuments []
@@ -35,21 +14,15 @@ no_documents = record {
   ordered = All-nil (λ (e : Document). AllPairs IsBefore e.postings);
 }
 
-not_found : (docid : ℤ) → (Some docid ≡ None) → ⊥
-not_found docid same = true≢false (ap (λ (o : Option ℤ). elim o [ Some _ ↦ true | None ↦ false ]) same)
-
-one_docid : (a b : ℤ) → (Some a ≡ Some b) → a ≡ b
-one_docid a b same = ap (λ (o : Option ℤ). elim o [ Some c ↦ c | None ↦ a ]) same
-
 -- where no list has a document left
 pub nothing_left : (wanted : Wanted) (q : Query) (ls : List (List PlaceList)) (s t : ℕ) (documents : List Document)
     → AreDocuments documents × (ls ≡ lists_of (tree_of q) documents) → least_from None ls ≡ None → t ≡ s →
-    Considers wanted (record { query = q; lists = ls; steps = s }) (record { query = q; lists = ls; steps = t }) NoDocument documents
+    Finds wanted (record { query = q; lists = ls; steps = s }) (record { query = q; lists = ls; steps = t }) None documents
 nothing_left wanted q ls s t documents stands none same_steps = by (next_of (tree_of q) documents stands.0)
   where
     by : Next (tree_of q) documents
-        → Considers wanted (record { query = q; lists = ls; steps = s }) (record { query = q; lists = ls; steps = t }) NoDocument documents
-    by (First d ds are least same hits count) = absurd (not_found d.docid (sym least ∙ ap (least_from None) (sym stands.1) ∙ none))
+        → Finds wanted (record { query = q; lists = ls; steps = s }) (record { query = q; lists = ls; steps = t }) None documents
+    by (First d ds are least same hits count) = let never : Some d.docid ≡ None = sym least ∙ ap (least_from None) (sym stands.1) ∙ none in cc
     by (Nothing least same hits count) =
         let tree = tree_of q in
         let entries : entry_count tree documents ≡ entry_count tree [] = ap (sum_by place_count) same in
@@ -67,9 +40,6 @@ nothing_left wanted q ls s t documents stands none same_steps = by (next_of (tre
           told = tt;
           ended = λ _. refl;
         }
-
-one_more : (n : ℕ) → 1 + n ≡ suc n
-one_more n = omega arith
 
 -- What an answer of offsets for the document of this docid adds: its hit, if there is one, of whose
 -- offsets the wanted ones are told.
@@ -115,10 +85,10 @@ one_left wanted q ls s t docid offsets documents stands least given at_most at_l
   where
     by : Next (tree_of q) documents
         → Adds wanted (record { query = q; lists = ls; steps = s }) (record { query = q; lists = map (passed docid) ls; steps = t }) docid offsets documents
-    by (Nothing none same hits count) = absurd (not_found docid (sym least ∙ ap (least_from None) stands.1 ∙ none))
+    by (Nothing none same hits count) = let never : Some docid ≡ None = sym least ∙ ap (least_from None) stands.1 ∙ none in cc
     by (First d ds are first same hits count) =
         let tree = tree_of q in
-        let one : d.docid ≡ docid = one_docid d.docid docid (sym first ∙ ap (least_from None) (sym stands.1) ∙ least) in
+        let one : d.docid ≡ docid = cc (sym first ∙ ap (least_from None) (sym stands.1) ∙ least) in
         let later = recursion_from_All (λ (e : Document). d.docid <ℤ e.docid) ds (pairs_head (λ (a b : Document). a.docid <ℤ b.docid) d ds are.rising) in
         let lists : ls ≡ map (listed_for (d ∷ ds)) (terms_in tree) = stands.1 ∙ same in
         let places : map (places_at docid) ls ≡ map (listed_places d.postings) (terms_in tree) =
@@ -130,7 +100,7 @@ one_left wanted q ls s t docid offsets documents stands least given at_most at_l
         let entries : entry_count tree documents ≡ sum_by length (map (places_at docid) ls) + entry_count tree ds =
         ap (sum_by place_count) same ∙ all_counted d ds later (terms_in tree) ∙ ap (λ ps. sum_by length ps + entry_count tree ds) (sym places) in
         let product : 8 * width tree * candidate_count tree documents ≡ 8 * width tree * candidate_count tree ds + 8 * width tree =
-        ap (λ n. 8 * width tree * n) (count ∙ one_more (candidate_count tree ds)) ∙ mul-suc (8 * width tree) (candidate_count tree ds) in
+        ap (λ n. 8 * width tree * n) (count ∙ omega arith) ∙ mul-suc (8 * width tree) (candidate_count tree ds) in
         record {
           offsets = offsets_of d.postings tree;
           went = record {
@@ -161,7 +131,7 @@ went_on wanted q cursors passed_by s a b t docid offsets documents stands least 
     let same : map (places_at docid) ls ≡ map (λ c. places_at docid (lists_left c)) cursors = map-map (places_at docid) lists_left cursors in
     let sum : sum_by length (map (places_at docid) ls) ≡ sum_by (λ c. length (places_at docid (lists_left c))) cursors =
     ap (sum_by length) same ∙ sum_mapped (λ c. places_at docid (lists_left c)) cursors in
-    let terms = all_terms (tree_of q) in
+    let terms = terms_width (tree_of q) in
     let went =
     one_left wanted q ls s.taken t.taken docid offsets documents stands least (λ postings ordered here. given postings ordered (sym same ∙ here)) (omega arith)
     (omega arith) in
@@ -206,7 +176,7 @@ less_left docid so_far (l ∷ ls) least = ⊎_elim
     same_docid : (x : PlaceList) (xs : List PlaceList) → (Some x.docid ≡ Some docid)
         → sum_by length (map (passed docid) ((x ∷ xs) ∷ ls)) < sum_by length ((x ∷ xs) ∷ ls)
     same_docid x xs same =
-        let is : int_eq x.docid docid ≡ true = (Decides-int_eq x.docid docid).1 (one_docid x.docid docid same) in
+        let is : int_eq x.docid docid ≡ true = (Decides-int_eq x.docid docid).1 (cc same) in
         let passes : length (passed docid (x ∷ xs)) ≡ length xs = ap (λ v. length (cond v xs (x ∷ xs))) is in
         let rest = none_more docid ls in
         let a = sum_by-cons length (passed docid (x ∷ xs)) (map (passed docid) ls) in
@@ -230,7 +200,7 @@ less_left docid so_far (l ∷ ls) least = ⊎_elim
 
 passes_one : (docid : ℤ) (ls : List (List PlaceList)) → least_from None ls ≡ Some docid → sum_by length (map (passed docid) ls) < sum_by length ls
 passes_one docid ls least = ⊎_elim
-    (λ (never : None ≡ Some docid). absurd (not_found docid (sym never)))
+    (λ (never : None ≡ Some docid). cc)
     (λ (less : sum_by length (map (passed docid) ls) < sum_by length ls). less)
     (less_left docid None ls least)
 

@@ -1,17 +1,6 @@
 -- The steps for one document are few for each place of its lists and each term of the query.
-use Rattle.std.proofs.Common.{◌≡◌, ℕ, ◌+◌, ◌*◌, ◌≤◌, Bool, true, false, cond, List, [], ◌∷◌, ◌++◌, length, take, drop, zero, suc, refl, sym, ap, ◌∙◌, subst, arith, max, ℤ}
-use Rattle.std.specs.Prelude.{filter, flat_map, sum_by, Option}
-use Rattle.std.proofs.Math.Nat.{mul-le-mul_left}
-use Rattle.std.proofs.lemmas.List.{length-append, length-take-le, length-drop, length-map, take_all}
-use Rattle.std.proofs.lemmas.List.Sums.{sum_by-cons}
-use Rattle.ft_query.specs.declared.lists.place.Place.{Place}
-use Rattle.ft_query.specs.declared.walk.cursor.Cursor.{Cursor}
-use Rattle.ft_query.specs.declared.walk.places.Places.{Places}
-use Rattle.ft_query.specs.Marked.{own_lists}
-use Rattle.ft_query.specs.Trees.{PlainTerm, PlainPhrase, PlainLink, Tree, phrase, chain, both, either, without}
-use Rattle.ft_query.specs.Work.{terms_in, width}
-use Rattle.ft_query.specs.Cursors.{lists_left, places_at}
-use Rattle.ft_query.specs.Visit.{among, may_begin, followed, starts_from, starts_of, near_those, head_of, linked, total, linked_cost, link_cost, visit_cost, plain_lists, places_in}
+use Rattle.std.proofs.Common.{◌≡◌, ℕ, ◌+◌, ◌*◌, ◌≤◌, Bool, true, false, cond, List, [], ◌∷◌, ◌++◌, length, take, drop, zero, suc, refl, sym, ap, ◌∙◌, subst, arith, max, ℤ, filter, flat_map, sum_by, Option, mul-le-mul_left, length-append, length-take-le, length-drop, take_all}
+use Rattle.ft_query.proofs.Common.{length-map, sum_by-cons, Place, Cursor, Steps, TakesAtMost, Places, own_lists, PlainTerm, PlainPhrase, PlainLink, Tree, phrase, chain, both, either, without, terms_in, width, lists_left, places_at, among, may_begin, followed, starts_from, starts_of, near_those, head_of, linked, total, linked_cost, link_cost, visit_cost, plain_lists, places_in}
 use Rattle.ft_query.proofs.Passes.{among_short, followed_few, near_short, filter_short}
 
 total_split : (n : ℕ) (ls : List (List Place)) → total (take n ls) + total (drop n ls) ≡ total ls
@@ -182,7 +171,7 @@ links_width (link ∷ links) =
     let all = sum_by-cons (λ (l : PlainLink). max 1 (length l.to.terms)) link links in
     omega (arith, rest, sum, all)
 
-terms_width : (tree : Tree) → length (terms_in tree) ≤ width tree
+pub terms_width : (tree : Tree) → length (terms_in tree) ≤ width tree
 terms_width (phrase p) = omega arith
 terms_width (chain p links) = let sum = length-append p.terms (link_terms links) in let rest = links_width links in omega (arith, sum, rest)
 terms_width (both p q) =
@@ -214,5 +203,15 @@ pub own_are : (tree : Tree) (docid : ℤ) (cursors : List Cursor) (lists : List 
     → plain_lists lists ≡ places_in docid cursors → plain_lists (own_lists tree lists) ≡ places_in docid cursors
 own_are tree docid cursors lists same is =
     let many : length lists ≡ length (terms_in tree) =
-    sym (length-map lists (λ l. l.places.now)) ∙ ap length is ∙ length-map cursors (λ c. places_at docid (lists_left c)) ∙ same in
+    sym (length-map lists (λ l. l.now)) ∙ ap length is ∙ length-map cursors (λ c. places_at docid (lists_left c)) ∙ same in
     ap plain_lists (take_all (length (terms_in tree)) lists (omega (arith, many))) ∙ is
+
+-- what the evaluation of a document takes, after the looks for its lists
+pub document_takes : (tree : Tree) (docid : ℤ) (cursors : List Cursor) (lists : List Places) {begun mid new : Steps}
+    → length cursors ≡ length (terms_in tree) → plain_lists lists ≡ places_in docid cursors
+    → begun.taken ≤ mid.taken → mid.taken ≤ begun.taken + length cursors
+    → TakesAtMost (visit_cost tree (plain_lists (own_lists tree lists))) mid new
+    → TakesAtMost (12 * sum_by (λ c. length (places_at docid (lists_left c))) cursors + 3 * width tree) begun new
+document_takes tree docid cursors lists same is first most taken =
+    let bound = document_bound tree docid cursors (plain_lists (own_lists tree lists)) same (own_are tree docid cursors lists same is) in
+    record { at_least = omega (arith, first, taken.at_least); at_most = omega (arith, bound, most, taken.at_most) }

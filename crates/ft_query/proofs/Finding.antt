@@ -1,26 +1,14 @@
 -- What a search answers, as callers of a walk are told it.
-use Rattle.std.proofs.Common.{◌≡◌, ℕ, ◌<◌, map, true, false, true≢false, [], ◌∷◌, refl, sym, ap, subst, Option, Some, None, Result, Ok, Err, IfOk}
-use Rattle.std.specs.Prelude.{List, option_map, IfSome}
+use Rattle.std.proofs.Common.{◌≡◌, ℕ, ◌<◌, map, [], ◌∷◌, refl, sym, subst, Option, Some, None, Result, Ok, Err, IfOk, List, option_map, IfSome}
 use Rattle.std.specs.declared.alloc.AllocError.{AllocError}
-use Rattle.ft_query.specs.declared.query.Query.{Query}
-use Rattle.ft_query.specs.declared.walk.Hit.{Hit}
-use Rattle.ft_query.specs.declared.walk.cursor.Cursor.{Cursor}
-use Rattle.ft_query.specs.declared.walk.visit.Wanted.{Wanted}
-use Rattle.ft_query.specs.declared.walk.visit.Wanted.TheVariants.{Docids, Offsets}
-use Rattle.ft_query.specs.Documents.{Document}
-use Rattle.ft_query.specs.Walk.{Walk, StandsBefore, Went, Walked, WalkedTo, lists_to_come}
-use Rattle.ft_query.specs.Cursors.{lists_left, lists_kept}
-use Rattle.ft_query.specs.Search.{walk_at, stands_at, Finds, FindsNext}
-
-there_is : {X : Type 0} {x : X} → Some x ≡ None → ⊥
-there_is same = true≢false (ap (λ o. elim o [ Some _ ↦ true | None ↦ false ]) same)
+use Rattle.ft_query.proofs.Common.{Query, Hit, Cursor, Wanted, Docids, Offsets, Document, Walk, StandsBefore, Went, Walked, WalkedTo, lists_to_come, lists_left, lists_kept, walk_at, stands_at, Finds, FindsNext}
 
 -- with offsets
 pub found_hit : (old new : Walk) (hit : Option Hit) (documents : List Document) → Finds Offsets old new hit documents → Walked old new hit documents
 found_hit old new None documents found = record { went = found.went; ended = found.ended }
 found_hit old new (Some hit) documents found = record {
   went = subst (λ offsets. Went old new (record { docid = hit.docid; offsets = offsets } ∷ []) documents) (sym found.told) found.went;
-  ended = λ never. absurd (there_is never);
+  ended = λ never. cc;
 }
 
 pub hits_found : (result : Result (Option Hit) AllocError) (old new : Walk) → IfOk result (FindsNext Offsets old new)
@@ -37,7 +25,7 @@ passes_on wanted (Err error) old new found = tt
 pub found_docid : (old new : Walk) (hit : Option Hit) (documents : List Document) → Finds Docids old new hit documents
     → WalkedTo old new (option_map (λ h. h.docid) hit) documents
 found_docid old new None documents found = record { offsets = found.offsets; went = found.went; ended = λ _. found.ended refl }
-found_docid old new (Some hit) documents found = record { offsets = found.offsets; went = found.went; ended = λ never. absurd (there_is never) }
+found_docid old new (Some hit) documents found = record { offsets = found.offsets; went = found.went; ended = λ never. cc }
 
 -- a search begins where the walk stands, which is kept where the search ends
 pub kept_on : {wanted : Wanted} {q : Query} (old begun found kept : List Cursor) {from to : ℕ} {hit : Option Hit}

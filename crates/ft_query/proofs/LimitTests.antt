@@ -1,13 +1,7 @@
 -- The tests on lexemes, over lexemes as the parser holds them.
-use Rattle.std.proofs.Common.{◌≡◌, ℕ, ◌+◌, ◌-◌, ◌<◌, true, List, [], ◌∷◌, map, refl, ap, arith}
-use Rattle.std.specs.Prelude.{◌||◌, nat_lt, sum_by}
-use Rattle.std.specs.List.{list_any}
-use Rattle.std.proofs.lemmas.Bool.{lt-ltb, or_left}
-use Rattle.std.proofs.lemmas.List.Folds.{fold-map}
+use Rattle.std.proofs.Common.{◌≡◌, ℕ, ◌+◌, ◌-◌, ◌<◌, true, List, [], ◌∷◌, map, refl, ap, arith, ◌||◌, nat_lt, sum_by, lt-ltb}
+use Rattle.ft_query.proofs.Common.{list_any, or_left, fold-map, Lexeme, term_count, is_far, nests_deep, open_after, plain_lexeme}
 use Rattle.ft_query.specs.declared.lexeme.Lexeme.{Lexeme as CodeLexeme}
-use Rattle.ft_query.specs.Lexemes.{Lexeme}
-use Rattle.ft_query.specs.Reads.{term_count, is_far, nests_deep, open_after}
-use Rattle.ft_query.specs.Machine.{plain_lexeme}
 
 -- where the parentheses nest too deep already, what is left changes nothing
 pub deep_already : (opens closes : ℕ) (ls : List Lexeme) → 32 < opens - closes → nests_deep (opens, closes) ls ≡ true

@@ -1,19 +1,7 @@
 -- The terms of a query, and the cursors of their lists.
-use Rattle.std.proofs.Common.{◌≡◌, ◌++◌, ◌∷◌, [], ◌<◌, ◌+◌, ℕ, zero, suc, List, map, take, length, subst, ap, ap₂, sym, ◌∙◌, append_assoc, arith}
-use Rattle.std.specs.Prelude.{slice_index_or}
-use Rattle.std.specs.Borrow.{Bor}
-use Rattle.std.proofs.lemmas.List.{map-append, map_more, length-append, take_all}
-use Rattle.std.proofs.lemmas.List.Sums.{sum_by-append}
+use Rattle.std.proofs.Common.{◌≡◌, ◌++◌, ◌∷◌, [], ◌<◌, ◌+◌, ℕ, zero, suc, List, map, take, length, subst, ap, ap₂, sym, ◌∙◌, append_assoc, arith, slice_index_or, Bor, length-append, take_all}
 use Rattle.std.proofs.lemmas.Simd.{map-map}
-use Rattle.ft_query.specs.declared.query.QueryTerm.{QueryTerm}
-use Rattle.ft_query.specs.declared.walk.cursor.Cursor.{Cursor}
-use Rattle.ft_query.specs.declared.walk.joint.Joint.{Joint}
-use Rattle.ft_query.specs.Documents.{Document, place_count}
-use Rattle.ft_query.specs.Trees.{PlainTerm, Tree, plain_term, tree_of}
-use Rattle.ft_query.specs.Work.{terms_in}
-use Rattle.ft_query.specs.Spines.{joined_sides, whole}
-use Rattle.ft_query.specs.Cursors.{lists_kept, places_left, listed_for}
-use Rattle.ft_query.specs.Loaded.{plain_terms, AreCursorsOf}
+use Rattle.ft_query.proofs.Common.{map-append, map_more, sum_by-append, QueryTerm, Cursor, Joint, Document, place_count, PlainTerm, Tree, plain_term, tree_of, terms_in, joined_sides, whole, lists_kept, places_left, listed_for, plain_terms, AreCursorsOf}
 use Rattle.ft_query.proofs.Spines.{joined_terms, whole_last}
 
 -- A part of the query with its joints is the query, and its terms are added.
@@ -42,9 +30,9 @@ pub same_at : {A B X : Type 0} (f : A → X) (g : B → X) (xs : List A) (ys : L
     → i < length xs → f (slice_index_or xs i d) ≡ g (slice_index_or ys i e)
 same_at f g [] ys i d e same within = absurd (omega arith)
 same_at f g (x ∷ xs) [] i d e same within = let n = ap length same in absurd (omega arith)
-same_at {A} {B} {X} f g (x ∷ xs) (y ∷ ys) zero d e same within = ap (λ (zs : List X). elim zs as (λ _. X) [ [] ↦ f x | z ∷ _ ↦ z ]) same
+same_at {A} {B} {X} f g (x ∷ xs) (y ∷ ys) zero d e same within = cc same
 same_at {A} {B} {X} f g (x ∷ xs) (y ∷ ys) (suc i) d e same within =
-    same_at f g xs ys i d e (ap (λ (zs : List X). elim zs as (λ _. List X) [ [] ↦ map f xs | _ ∷ ws ↦ ws ]) same) (omega arith)
+    same_at f g xs ys i d e (cc same) (omega arith)
 
 -- the cursor of the next term
 pub cursors_on : (documents : List Document) (terms : List (Bor QueryTerm)) (cursors : List Cursor) (i : ℕ) (c : Cursor) (d : Bor QueryTerm)

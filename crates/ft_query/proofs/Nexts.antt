@@ -1,22 +1,9 @@
 -- Which document a walk comes to next.
-use Rattle.std.proofs.Common.{◌≡◌, ◌≢◌, ◌+◌, ◌||◌, ℤ, pos, negsuc, ◌<ℤ◌, Bool, true, false, cond, List, [], ◌∷◌, length, map, refl, sym, ap, ◌∙◌, arith, true≢false, Option, Some, None}
-use Rattle.std.specs.Prelude.{filter, AllPairs, int_lt, sum_by}
-use Rattle.std.specs.Ordering.{int_eq, is_eq}
-use Rattle.std.proofs.Common.{Less, Equal, Greater}
+use Rattle.std.proofs.Common.{◌≡◌, ◌≢◌, ◌+◌, ◌||◌, ℤ, pos, negsuc, ◌<ℤ◌, Bool, true, false, cond, List, [], ◌∷◌, length, map, refl, sym, ap, ◌∙◌, arith, true≢false, Option, Some, None, filter, AllPairs, int_lt, sum_by, int_eq, is_eq, Less, Equal, Greater}
 use Rattle.std.proofs.lemmas.Cmp.{tied_itself, int_cmp_total}
-use Rattle.std.proofs.lemmas.List.Sums.{sum_by-cons}
-use Rattle.std.specs.List.{list_any, AllByRecursion}
-use Rattle.std.proofs.lemmas.Bool.Decides.{nat_tests}
-use Rattle.std.proofs.lemmas.List.Elements.{recursion_from_All, All-tail}
+use Rattle.ft_query.proofs.Common.{or_parts, sum_by-cons, list_any, AllByRecursion, nat_tests, recursion_from_All, All-tail, Place, Posting, Document, AreDocuments, IsBefore, PlaceList, is_filled, has_places, places_with, place_count, PlainTerm, Tree, PlainHit, is_listed, accepts, offsets_of, hits_of, terms_in, lists_of, candidate_count, places_at, passed, least_of, least_from, listed_for, listed_places}
 use Rattle.ft_query.proofs.TokenOnce.{pairs_head, pairs_tail}
-use Rattle.ft_query.specs.declared.lists.place.Place.{Place}
-use Rattle.ft_query.specs.Documents.{Posting, Document, AreDocuments, IsBefore, PlaceList, is_filled, has_places, places_with, place_count}
-use Rattle.ft_query.specs.Trees.{PlainTerm, Tree}
-use Rattle.ft_query.specs.Occurs.{PlainHit, is_listed, accepts, offsets_of, hits_of}
-use Rattle.ft_query.specs.Work.{terms_in, lists_of, candidate_count}
-use Rattle.ft_query.specs.Cursors.{places_at, passed, least_of, least_from, listed_for}
-use Rattle.ft_query.specs.Visit.{listed_places}
-use Rattle.ft_query.proofs.NotListed.{has_term, or_left, or_right, accepts_none}
+use Rattle.ft_query.proofs.NotListed.{has_term, accepts_none}
 
 -- ---- docids
 
@@ -110,14 +97,11 @@ module _ (d : Document) (ds : List Document) (later : AllByRecursion (λ e. d.do
 module _ (d : Document) (ds : List Document) (later : AllByRecursion (λ e. d.docid <ℤ e.docid) ds) where
   pub all_places : (ts : List PlainTerm) → map (places_at d.docid) (map (listed_for (d ∷ ds)) ts) ≡ map (listed_places d.postings) ts
   all_places [] = refl
-  all_places (t ∷ ts) =
-      ap (λ p. p ∷ map (places_at d.docid) (map (listed_for (d ∷ ds)) ts)) (one_places d ds later t)
-      ∙ ap (λ ps. listed_places d.postings t ∷ ps) (all_places ts)
+  all_places (t ∷ ts) = simp (one_places d ds later t, all_places ts)
 
   pub all_passed : (ts : List PlainTerm) → map (passed d.docid) (map (listed_for (d ∷ ds)) ts) ≡ map (listed_for ds) ts
   all_passed [] = refl
-  all_passed (t ∷ ts) =
-      ap (λ p. p ∷ map (passed d.docid) (map (listed_for (d ∷ ds)) ts)) (one_passed d ds later t) ∙ ap (λ ps. listed_for ds t ∷ ps) (all_passed ts)
+  all_passed (t ∷ ts) = simp (one_passed d ds later t, all_passed ts)
 
   pub all_counted : (ts : List PlainTerm)
       → sum_by place_count (map (listed_for (d ∷ ds)) ts) ≡ sum_by length (map (listed_places d.postings) ts) + sum_by place_count (map (listed_for ds) ts)
@@ -177,23 +161,17 @@ module _ (d : Document) (ds : List Document) (later : AllByRecursion (λ e. d.do
           → (list_any (has_term d.postings) ts ≡ true → least_from (least_of so_far (listed_for ds t)) (map (listed_for (d ∷ ds)) ts) ≡ Some d.docid) →
           least_from (least_of so_far (listed_for (d ∷ ds) t)) (map (listed_for (d ∷ ds)) ts) ≡ Some d.docid
       by true is rest =
-          ap (λ v. least_from (least_of so_far (cond v (places_with (is_listed t) d ∷ listed_for ds t) (listed_for ds t))) (map (listed_for (d ∷ ds)) ts))
-          (filled t d.postings ∙ is)
-          ∙ ap (λ o. least_from o (map (listed_for (d ∷ ds)) ts)) (found so_far (listed_places d.postings t) (listed_for ds t) behind)
-          ∙ stays_all ts
+          rw (filled t d.postings ∙ is, found so_far (listed_places d.postings t) (listed_for ds t) behind) (stays_all ts)
       by false is rest =
-          ap (λ v. least_from (least_of so_far (cond v (places_with (is_listed t) d ∷ listed_for ds t) (listed_for ds t))) (map (listed_for (d ∷ ds)) ts))
-          (filled t d.postings ∙ is)
-          ∙ rest (ap (λ b. b || list_any (has_term d.postings) ts) (sym is) ∙ some)
+          rw (filled t d.postings ∙ is) (rest (ap (λ b. b || list_any (has_term d.postings) ts) (sym is) ∙ some))
 
 -- a document that has none of the terms is in none of their lists
 pub unlisted : (d : Document) (ds : List Document) (ts : List PlainTerm) → list_any (has_term d.postings) ts ≡ false
     → map (listed_for (d ∷ ds)) ts ≡ map (listed_for ds) ts
 unlisted d ds [] none = refl
 unlisted d ds (t ∷ ts) none =
-    ap (λ v. cond v (places_with (is_listed t) d ∷ listed_for ds t) (listed_for ds t) ∷ map (listed_for (d ∷ ds)) ts)
-    (filled t d.postings ∙ or_left (has_term d.postings t) (list_any (has_term d.postings) ts) none)
-    ∙ ap (λ ls. listed_for ds t ∷ ls) (unlisted d ds ts (or_right (has_term d.postings t) (list_any (has_term d.postings) ts) none))
+    let both = or_parts (has_term d.postings t) (list_any (has_term d.postings) ts) none in
+    simp (filled t d.postings ∙ both.0, unlisted d ds ts both.1)
 
 none_left : (ts : List PlainTerm) → least_from None (map (listed_for []) ts) ≡ None
 none_left [] = refl

@@ -1,9 +1,6 @@
 -- The text of offsets, one offset after the other.
-use Rattle.std.proofs.Common.{◌≡◌, ℕ, List, [], ◌∷◌, ◌++◌, map, sym, append_assoc, append-nil}
-use Rattle.std.specs.Prelude.{decimal}
-use Rattle.std.specs.List.{join_with_byte}
-use Rattle.ft_query.specs.declared.walk.Offset.{Offset}
-use Rattle.ft_query.specs.Occurs.{offset_numbers, offsets_text}
+use Rattle.std.proofs.Common.{◌≡◌, ℕ, List, [], ◌∷◌, ◌++◌, map, sym, append_assoc, append-nil, decimal}
+use Rattle.ft_query.proofs.Common.{join_with_byte, Offset, offset_numbers, offsets_text}
 
 abbrev pub offset_text : Offset → List ℕ
 offset_text o = join_with_byte 32 (map decimal (offset_numbers o))

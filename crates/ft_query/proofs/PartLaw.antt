@@ -1,14 +1,6 @@
 -- The computed parts of a text are its one reading by forms, and those that are found byte by byte.
-use Rattle.std.proofs.Common.{◌≡◌, ℕ, zero, suc, ◌+◌, ◌<◌, ◌≤◌, Bool, true, false, cond, List, [], ◌∷◌, ◌++◌, length, drop, get_or, refl, sym, ap, ◌∙◌, subst, arith, append_assoc, append-nil, length-drop, take-append-drop}
-use Rattle.std.specs.Prelude.{◌==◌, ◌||◌, not, All}
-use Rattle.std.specs.List.{list_any, AllByRecursion, position_or_len, before_first, after_first}
-use Rattle.std.proofs.lemmas.Bool.{eqb-true, ne_eqb, ltb-true, or_parts}
-use Rattle.std.proofs.lemmas.Bool.Decides.{nat_tests}
-use Rattle.std.proofs.lemmas.Grind.{common_steps}
-use Rattle.std.proofs.lemmas.List.Elements.{All-nil, All-cons, recursion_from_All}
-use Rattle.std.proofs.lemmas.List.Sums.{split_at_first, fails_before_first, passes_at_first}
-use Rattle.ft_query.specs.Lexemes.{Part, open_part, close_part, quoted_part, chunk_part, unclosed_part, is_query_space, is_quote, stops_chunk, ends_chunk, IsPart, opens, closes, in_quotes, not_closed, longest_run, AreParts, no_part, white_space, next_part, parts_within, parts_of}
-use Rattle.ft_query.specs.Machine.{ByteMark, quote, paren, space, plain, byte_mark, in_chunk, in_quote, begun_after, parts_ended, parts_from, begun_part, ends_begun}
+use Rattle.std.proofs.Common.{◌≡◌, ℕ, zero, suc, ◌+◌, ◌<◌, ◌≤◌, Bool, true, false, cond, List, [], ◌∷◌, ◌++◌, length, drop, get_or, refl, sym, ap, ◌∙◌, subst, arith, append_assoc, append-nil, length-drop, take-append-drop, ◌==◌, ◌||◌, not, All, eqb-true, ne_eqb, ltb-true}
+use Rattle.ft_query.proofs.Common.{list_any, AllByRecursion, position_or_len, before_first, after_first, or_parts, nat_tests, common_steps, All-nil, All-cons, recursion_from_All, split_at_first, fails_before_first, passes_at_first, Part, open_part, close_part, quoted_part, chunk_part, unclosed_part, is_query_space, is_quote, stops_chunk, ends_chunk, IsPart, opens, closes, in_quotes, not_closed, longest_run, AreParts, no_part, white_space, next_part, parts_within, parts_of, ByteMark, quote, paren, space, plain, byte_mark, in_chunk, in_quote, begun_after, parts_ended, parts_from, begun_part, ends_begun}
 use Rattle.ft_query.proofs.Filters.{any_place}
 
 -- a byte has its mark by four tests
@@ -19,33 +11,27 @@ mark_by is_quote is_open is_close is_query_space = cond is_quote quote (cond is_
 
 pub inside_ends : (q : Bool) (bytes : List ℕ) (m : ByteMark) → ends_begun q m ≡ false → parts_ended (begun_part q bytes) m ≡ []
 inside_ends true bytes quote e = cc
-inside_ends true bytes (paren part) e = refl
-inside_ends true bytes space e = refl
-inside_ends true bytes plain e = refl
-inside_ends false bytes quote e = cc
-inside_ends false bytes (paren part) e = cc
-inside_ends false bytes space e = cc
+inside_ends true bytes _ e = refl
 inside_ends false bytes plain e = refl
+inside_ends false bytes _ e = cc
 
 pub inside_grows : (q : Bool) (bytes : List ℕ) (m : ByteMark) (b : ℕ) → ends_begun q m ≡ false
     → begun_after (begun_part q bytes) m b ≡ begun_part q (bytes ++ b ∷ [])
 inside_grows true bytes quote b e = cc
-inside_grows true bytes (paren part) b e = refl
-inside_grows true bytes space b e = refl
-inside_grows true bytes plain b e = refl
-inside_grows false bytes quote b e = cc
-inside_grows false bytes (paren part) b e = cc
-inside_grows false bytes space b e = cc
+inside_grows true bytes _ b e = refl
 inside_grows false bytes plain b e = refl
+inside_grows false bytes _ b e = cc
 
 inside_on : (q : Bool) (bytes more rest : List ℕ) → AllByRecursion (λ b. ends_begun q (byte_mark b) ≡ false) more
     → parts_from (begun_part q bytes) (more ++ rest) ≡ parts_from (begun_part q (bytes ++ more)) rest
 inside_on q bytes [] rest none = ap (λ bs. parts_from (begun_part q bs) rest) (sym (append-nil bytes))
 inside_on q bytes (b ∷ more) rest none =
-    ap (λ parts. parts ++ parts_from (begun_after (begun_part q bytes) (byte_mark b) b) (more ++ rest)) (inside_ends q bytes (byte_mark b) none.0)
-    ∙ ap (λ after. parts_from after (more ++ rest)) (inside_grows q bytes (byte_mark b) b none.0)
-    ∙ inside_on q (bytes ++ b ∷ []) more rest none.1
-    ∙ ap (λ bs. parts_from (begun_part q bs) rest) (append_assoc bytes (b ∷ []) more)
+    simp (
+      append_assoc,
+      inside_ends q bytes (byte_mark b) none.0,
+      inside_grows q bytes (byte_mark b) b none.0,
+      inside_on q (bytes ++ b ∷ []) more rest none.1,
+    )
 
 -- ---- which bytes end a chunk or a quoted part
 
@@ -97,10 +83,8 @@ space_read b text is = ap (λ m. parts_ended (in_chunk []) m ++ parts_from (begu
 ended_by : (b c : ℕ) (more rest : List ℕ) (m : ByteMark) → ends_begun false m ≡ true
     → parts_ended (in_chunk (b ∷ more)) m ++ parts_from (begun_after (in_chunk (b ∷ more)) m c) rest
     ≡ chunk_part (b ∷ more) ∷ (parts_ended (in_chunk []) m ++ parts_from (begun_after (in_chunk []) m c) rest)
-ended_by b c more rest quote e = refl
-ended_by b c more rest (paren part) e = refl
-ended_by b c more rest space e = refl
 ended_by b c more rest plain e = cc
+ended_by b c more rest _ e = refl
 
 chunk_ended : (b : ℕ) (more behind : List ℕ) → ends_chunk behind ≡ true
     → parts_from (in_chunk (b ∷ more)) behind ≡ chunk_part (b ∷ more) ∷ by_bytes behind

@@ -1,7 +1,6 @@
 -- Worked examples of how a text falls into parts.
-use Rattle.std.proofs.Common.{◌≡◌, [], ◌∷◌, ◌++◌, refl}
-use Rattle.std.specs.Prelude.{codes}
-use Rattle.ft_query.specs.Lexemes.{open_part, close_part, quoted_part, chunk_part, unclosed_part, parts_of}
+use Rattle.std.proofs.Common.{◌≡◌, [], ◌∷◌, ◌++◌, refl, codes}
+use Rattle.ft_query.proofs.Common.{open_part, close_part, quoted_part, chunk_part, unclosed_part, parts_of}
 
 no_parts : parts_of (codes " ") ≡ []
 no_parts = refl

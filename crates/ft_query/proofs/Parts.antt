@@ -1,17 +1,8 @@
 -- How the parts of what is left of a text change by one byte.
-use Rattle.std.proofs.Common.{◌≡◌, ℕ, ◌+◌, ◌-◌, ◌<◌, ◌≤◌, Bool, true, false, List, [], ◌∷◌, ◌++◌, length, map, take, drop, get_or, refl, sym, ap, ◌∙◌, subst, arith, append_assoc, length-drop, get_or-drop, IsUtf8, IsCharBoundary, ⊎_elim}
-use Rattle.std.specs.Prelude.{◌==◌, ◌&&◌, ◌||◌, not, slice_range, flat_map}
-use Rattle.std.specs.List.{list_any}
+use Rattle.std.proofs.Common.{◌≡◌, ℕ, ◌+◌, ◌-◌, ◌<◌, ◌≤◌, Bool, true, false, List, [], ◌∷◌, ◌++◌, length, map, take, drop, get_or, refl, sym, ap, ◌∙◌, subst, arith, append_assoc, length-drop, get_or-drop, IsUtf8, IsCharBoundary, ⊎_elim, ◌==◌, ◌&&◌, not, slice_range, flat_map, ne_eqb}
 use Rattle.std.specs.Int.{is_in_range}
-use Rattle.std.proofs.lemmas.Bool.{ne_eqb, and_right, lt-leb, or_from, false≢true}
-use Rattle.std.proofs.lemmas.List.{map-append, take_more}
 use Rattle.std.proofs.lemmas.List.Concat.{flat_map-append}
-use Rattle.std.proofs.lemmas.List.Folds.{list_any-append}
-use Rattle.std.proofs.lemmas.Str.{IsCharBoundary-start, IsCharBoundary-after_ascii}
-use Rattle.std.proofs.str.Laws.{order}
-use Rattle.ft_query.specs.Lexemes.{Lexeme, Part, open_part, close_part, is_query_space, parts_of, lexemes_of_part}
-use Rattle.ft_query.specs.Reads.{is_unclosed_part}
-use Rattle.ft_query.specs.Machine.{capped, plain, byte_mark, chunk_parts, begun_after, parts_ended, parts_from, begun_part, ends_begun}
+use Rattle.ft_query.proofs.Common.{list_any, and_right, lt-leb, or_from, false≢true, map-append, take_more, list_any-append, IsCharBoundary-start, IsCharBoundary-after_ascii, order, Lexeme, Part, open_part, close_part, is_query_space, parts_of, lexemes_of_part, is_unclosed_part, capped, plain, byte_mark, chunk_parts, begun_after, parts_ended, parts_from, begun_part, ends_begun}
 use Rattle.ft_query.proofs.TokenSteps.{rest_at}
 use Rattle.ft_query.proofs.PartLaw.{mark_by, inside_ends, inside_grows, parts_by_bytes}
 
@@ -22,9 +13,7 @@ range_more text start place before h =
     let more : place + 1 - start ≡ place - start + 1 = omega arith in
     let inside : place - start < length (drop start text) = omega (arith, length-drop start text) in
     let there : start + (place - start) ≡ place = omega arith in
-    ap (λ n. take n (drop start text)) more
-    ∙ take_more (drop start text) (place - start) 0 inside
-    ∙ ap (λ b. slice_range text start place ++ b ∷ []) (get_or-drop start text (place - start) 0 ∙ ap (λ i. get_or text i 0) there)
+    simp (more, take_more (drop start text) (place - start) 0 inside, get_or-drop, there)
 
 pub range_empty : (text : List ℕ) (place : ℕ) → slice_range text place place ≡ []
 range_empty text place =
@@ -110,9 +99,7 @@ left_inside : (text : List ℕ) (q : Bool) (start place : ℕ) → start ≤ pla
 left_inside text q start place before h e =
     let b = get_or text place 0 in
     let bytes = slice_range text start place in
-    ap (parts_from (begun_part q bytes)) (rest_at text place h)
-    ∙ ap (λ parts. parts ++ parts_from (begun_after (begun_part q bytes) (byte_mark b) b) (drop (place + 1) text)) (inside_ends q bytes (byte_mark b) e)
-    ∙ ap (λ after. parts_from after (drop (place + 1) text)) (inside_grows q bytes (byte_mark b) b e ∙ ap (begun_part q) (sym (range_more text start place before h)))
+    simp (rest_at text place h, inside_ends q bytes (byte_mark b) e, inside_grows q bytes (byte_mark b) b e, range_more text start place before h)
 
 left_ended : (text : List ℕ) (q : Bool) (start place : ℕ) → place < length text → ends_begun q (byte_mark (get_or text place 0)) ≡ true
     → parts_left text q start place
@@ -121,18 +108,14 @@ left_ended : (text : List ℕ) (q : Bool) (start place : ℕ) → place < length
 left_ended text q start place h e =
     let b = get_or text place 0 in
     let bytes = slice_range text start place in
-    ap (parts_from (begun_part q bytes)) (rest_at text place h)
-    ∙ ap (λ after. parts_ended (begun_part q bytes) (byte_mark b) ++ parts_from after (drop (place + 1) text))
-    (ends_after q bytes b e ∙ ap (begun_part (not q && b == 34)) (sym (range_empty text (place + 1))))
+    simp (rest_at text place h, ends_after q bytes b e, range_empty)
 
 -- the lexemes of some parts, as the parser holds them
 abbrev pub held : List (List ℕ) → List Part → List Lexeme
 held columns parts = map capped (flat_map (lexemes_of_part columns) parts)
 
 held-append : (columns : List (List ℕ)) (xs ys : List Part) → held columns (xs ++ ys) ≡ held columns xs ++ held columns ys
-held-append columns xs ys =
-    ap (map capped) (flat_map-append (lexemes_of_part columns) xs ys)
-    ∙ map-append capped (flat_map (lexemes_of_part columns) xs) (flat_map (lexemes_of_part columns) ys)
+held-append columns xs ys = simp (flat_map-append, map-append)
 
 -- Before place these lexemes ended, and a quoted part or a chunk began at start: they and those of
 -- what is left are the text's.
@@ -174,17 +157,8 @@ lexed_ended {columns} {text} {found} {found'} {q} {start} {place} so_far utf8 h 
     record {
       before = omega arith;
       cut = IsCharBoundary-after_ascii text place utf8 h (ends_ascii q b e);
-      told =
-          ap (λ ls. ls ++ held columns rest) grown
-          ∙ append_assoc found (held columns ended) (held columns rest)
-          ∙ ap (λ ls. found ++ ls) (sym (held-append columns ended rest))
-          ∙ ap (λ parts. found ++ held columns parts) (sym split)
-          ∙ so_far.told;
-      open_left =
-          ap (λ before. before || list_any is_unclosed_part rest) (sym (ended_closed q (slice_range text start place) b))
-          ∙ sym (list_any-append is_unclosed_part ended rest)
-          ∙ ap (list_any is_unclosed_part) (sym split)
-          ∙ so_far.open_left;
+      told = rw (grown, append_assoc) (rw (split, held-append columns ended rest) at so_far.told);
+      open_left = rw (split, list_any-append is_unclosed_part ended rest, ended_closed q (slice_range text start place) b) at so_far.open_left;
     }
 
 -- ---- the same as the loop over the text's bytes meets it
@@ -194,10 +168,7 @@ pub step_inside : {columns : List (List ℕ)} {text bytes : List ℕ} {found fou
     → bytes ≡ text → place < length bytes → ends_begun q (byte_mark (get_or bytes place 0)) ≡ false → found' ≡ found → q' ≡ q → start' ≡ start
     → Lexed columns text found' q' start' (place + 1)
 step_inside {columns} {text} {bytes} {found} {found'} {q} {q'} {start} {start'} {place} so_far is_text h e same_found same_q same_start =
-    let after = lexed_inside so_far (subst (λ bs. place < length bs) is_text h) (ap (λ bs. ends_begun q (byte_mark (get_or bs place 0))) (sym is_text) ∙ e) in
-    subst (λ ls. Lexed columns text ls q' start' (place + 1)) (sym same_found)
-    (subst (λ p. Lexed columns text found p start' (place + 1)) (sym same_q)
-    (subst (λ n. Lexed columns text found q n (place + 1)) (sym same_start) after))
+    rw (same_found, same_q, same_start) (lexed_inside so_far (rw is_text at h) (rw is_text at e))
 
 pub step_ended : {columns : List (List ℕ)} {text bytes part : List ℕ} {found found' : List Lexeme} {q q' : Bool} {start start' place : ℕ}
     → Lexed columns text found q start place → IsUtf8 text
@@ -206,10 +177,4 @@ pub step_ended : {columns : List (List ℕ)} {text bytes part : List ℕ} {found
     → q' ≡ (not q && get_or bytes place 0 == 34) → start' ≡ place + 1
     → Lexed columns text found' q' start' (place + 1)
 step_ended {columns} {text} {bytes} {part} {found} {found'} {q} {q'} {start} {start'} {place} so_far utf8 is_text h e cut grown is_q is_start =
-    let kind = ap (λ bs. ends_begun q (byte_mark (get_or bs place 0))) (sym is_text) ∙ e in
-    let grows =
-    grown ∙ ap (λ p. found ++ held columns (parts_ended (begun_part q p) (byte_mark (get_or bytes place 0)))) cut
-    ∙ ap (λ bs. found ++ held columns (parts_ended (begun_part q (slice_range text start place)) (byte_mark (get_or bs place 0)))) is_text in
-    let after = lexed_ended so_far utf8 (subst (λ bs. place < length bs) is_text h) kind grows in
-    subst (λ p. Lexed columns text found' p start' (place + 1)) (sym (is_q ∙ ap (λ bs. not q && get_or bs place 0 == 34) is_text))
-    (subst (λ n. Lexed columns text found' (not q && get_or text place 0 == 34) n (place + 1)) (sym is_start) after)
+    rw (is_q, is_start, is_text) (lexed_ended so_far utf8 (rw is_text at h) (rw is_text at e) (rw (cut, is_text) at grown))

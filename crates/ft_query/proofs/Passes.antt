@@ -1,19 +1,6 @@
 -- How many places the passes keep.
-use Rattle.std.proofs.Common.{◌≡◌, ℕ, ◌+◌, ◌*◌, ◌<◌, ◌≤◌, Bool, true, false, cond, List, [], ◌∷◌, ◌++◌, length, get_or, map, take, drop, reverse, zero, suc, add-zero, refl, ap, sym, ◌∙◌, arith}
-use Rattle.std.specs.Prelude.{filter, None}
-use Rattle.std.specs.Ordering.{match_ordering}
-use Rattle.std.specs.declared.cmp.Ordering.{Ordering}
-use Rattle.std.specs.declared.cmp.Ordering.TheVariants.{Less, Equal, Greater}
-use Rattle.ft_query.specs.declared.walk.places.Places.{Places}
-use Rattle.ft_query.specs.declared.lists.place.Place.{Place}
-use Rattle.std.proofs.lemmas.List.{drop_more, reverse-append, reverse-reverse, append_assoc, length-map}
-use Rattle.ft_query.specs.declared.query.QueryTerm.{QueryTerm}
-use Rattle.ft_query.specs.declared.query.Link.{Link}
-use Rattle.ft_query.specs.declared.query.Phrase.{Phrase}
-use Rattle.ft_query.specs.declared.walk.Offset.{Offset}
-use Rattle.ft_query.specs.Trees.{PlainPhrase, PlainLink, plain_term, plain_phrase, plain_link, chain}
-use Rattle.ft_query.specs.Visit.{place_order, seek, among, skip_behind, begin_near, near_those, may_begin, followed, head_of, linked, link_marks, marks_from, marks_of, numbered_offsets, offset_at, plain_starts, total, plain_lists, linked_cost, link_cost, visit_cost}
-use Rattle.ft_query.specs.declared.walk.places.Starts.{Starts}
+use Rattle.std.proofs.Common.{◌≡◌, ℕ, ◌+◌, ◌<◌, List, [], ◌∷◌, ◌++◌, length, map, take, drop, get_or, ap, sym, ◌∙◌, arith, flat_map, append_assoc, length-append, length-drop, length-take-le, ◌*◌, ◌≤◌, Bool, true, false, cond, reverse, suc, add-zero, refl, take_at, drop_at, filter, None, Ordering, Less, Equal, Greater}
+use Rattle.ft_query.proofs.Common.{length-map, drop_more, Places, Place, Offset, Link, PlainPhrase, PlainLink, chain, plain_link, plain_term, terms_in, marks_from, head_of, linked, link_marks, near_those, marks_of, numbered_offsets, plain_lists, match_ordering, map-append, take-map, drop-map, Chain, chain_tree, AreLinked, last_of, reverse-append, reverse-reverse, QueryTerm, Phrase, plain_phrase, place_order, seek, among, skip_behind, begin_near, may_begin, followed, offset_at, plain_starts, total, linked_cost, link_cost, visit_cost, Starts}
 
 -- what is left of a list, with the one that was found
 abbrev left_over : Bool × List Place → ℕ
@@ -72,7 +59,7 @@ all_may_begin (x ∷ xs) = ap (λ ys. x ∷ ys) (all_may_begin xs)
 -- ---- the lists of a phrase's terms, one after the other
 
 pub total_more : (lists : List Places) (i : ℕ) (l : Places) → i < length lists
-    → total (plain_lists (drop i lists)) ≡ length (get_or lists i l).places.now + total (plain_lists (drop (i + 1) lists))
+    → total (plain_lists (drop i lists)) ≡ length (get_or lists i l).now + total (plain_lists (drop (i + 1) lists))
 total_more lists i l h = ap (λ ls. total (plain_lists ls)) (drop_more lists i l h)
 
 -- the first term of those that are left, with its list
@@ -80,23 +67,19 @@ pub follow_more : (i : ℕ) (terms : List QueryTerm) (lists : List Places) (star
     → length lists ≡ length terms → t ≡ get_or terms i t
     → followed (i + 1) (map plain_term (drop i terms)) (plain_lists (drop i lists)) starts
     ≡ followed (i + 1 + 1) (map plain_term (drop (i + 1) terms)) (plain_lists (drop (i + 1) lists))
-    (cond t.first [] (among (i + 1) 0 starts (get_or lists i l).places.now))
+    (cond t.first [] (among (i + 1) 0 starts (get_or lists i l).now))
 follow_more i terms lists starts t l h same is =
     let inside : i < length lists = omega arith in
     ap (λ ts. followed (i + 1) (map plain_term ts) (plain_lists (drop i lists)) starts) (drop_more terms i t h)
     ∙ ap (λ ls. followed (i + 1) (map plain_term (get_or terms i t ∷ drop (i + 1) terms)) (plain_lists ls) starts) (drop_more lists i l inside)
     ∙ ap (λ (u : QueryTerm). followed (i + 1 + 1) (map plain_term (drop (i + 1) terms)) (plain_lists (drop (i + 1) lists))
-    (cond u.first [] (among (i + 1) 0 starts (get_or lists i l).places.now))) (sym is)
+    (cond u.first [] (among (i + 1) 0 starts (get_or lists i l).now))) (sym is)
 
 pub followed_few : (first : Bool) (i : ℕ) (starts list : List Place) → length (cond first [] (among i 0 starts list)) ≤ length list
 followed_few true i starts list = omega arith
 followed_few false i starts list = among_few i 0 starts list
 
 -- ---- chains
-
-starts_push : (all : List Starts) (s : Starts) → plain_starts (all ++ s ∷ []) ≡ plain_starts all ++ s.places.items ∷ []
-starts_push [] s = refl
-starts_push (x ∷ all) s = ap (λ ls. x.places.items ∷ ls) (starts_push all s)
 
 -- a chain has a first phrase
 linked_first : (p : PlainPhrase) (links : List PlainLink) (lists : List (List Place))
@@ -105,13 +88,16 @@ linked_first p [] lists = refl
 linked_first p (link ∷ links) lists = refl
 
 pub linked_push : (p : PlainPhrase) (links : List PlainLink) (lists : List (List Place)) (rest : List Starts) (next : Starts)
-    → next.places.items ≡ head_of (linked p links lists) → plain_starts rest ≡ reverse (drop 1 (linked p links lists))
+    → next.items ≡ head_of (linked p links lists) → plain_starts rest ≡ reverse (drop 1 (linked p links lists))
     → plain_starts (rest ++ next ∷ []) ≡ reverse (linked p links lists)
 linked_push p links lists rest next first later =
-    starts_push rest next
-    ∙ ap (λ ls. ls ++ next.places.items ∷ []) later
-    ∙ ap (λ l. reverse (drop 1 (linked p links lists)) ++ l ∷ []) first
-    ∙ sym (ap reverse (linked_first p links lists) ∙ reverse-append (head_of (linked p links lists) ∷ []) (drop 1 (linked p links lists)))
+    simp (map-append, later, first)
+    (sym (ap reverse (linked_first p links lists) ∙ reverse-append (head_of (linked p links lists) ∷ []) (drop 1 (linked p links lists))))
+
+-- the last phrase of a chain with one link more
+pub last_push : (first : Phrase) (links : List Link) (link : Link) → last_of first (links ++ link ∷ []) ≡ link.to
+last_push first [] link = refl
+last_push first (l ∷ links) link = last_push l.to links link
 
 pub numbered-append : (n : ℕ) (ms more : List (List Place)) → numbered_offsets n (ms ++ more) ≡ numbered_offsets n ms ++ numbered_offsets (n + length ms) more
 numbered-append n [] more = ap (λ m. numbered_offsets m more) (sym (add-zero n))
@@ -125,56 +111,24 @@ pub marks_length : (i : ℕ) (lists : List (List Place)) (starts : List Place) �
 marks_length i [] starts = refl
 marks_length i (l ∷ ls) starts = ap (λ n. suc n) (marks_length (i + 1) ls starts)
 
--- what the lists of a phrase's terms add before the terms after it
-pub numbered_marks : (old : List Offset) (n : ℕ) (lists : List Places) (starts : List Place) (more : List (List Place))
-    → old ++ numbered_offsets n (marks_from 0 (plain_lists lists) starts) ++ numbered_offsets (n + length lists) more
-    ≡ old ++ numbered_offsets n (marks_from 0 (plain_lists lists) starts ++ more)
-numbered_marks old n lists starts more =
-    let ms = marks_from 0 (plain_lists lists) starts in
-    let many : length ms ≡ length lists = marks_length 0 (plain_lists lists) starts ∙ length-map lists (λ l. l.places.now) in
-    append_assoc old (numbered_offsets n ms) (numbered_offsets (n + length lists) more)
-    ∙ ap (λ k. old ++ (numbered_offsets n ms ++ numbered_offsets (n + k) more)) (sym many)
-    ∙ sym (ap (λ os. old ++ os) (numbered-append n ms more))
-
 -- ---- the lists of a phrase's terms, and those after them
 
-pub map-drop : (n : ℕ) (lists : List Places) → drop n (plain_lists lists) ≡ plain_lists (drop n lists)
-map-drop zero lists = refl
-map-drop (suc n) [] = refl
-map-drop (suc n) (l ∷ lists) = map-drop n lists
+pub lists_front : (front own : List Places) (n : ℕ) → length front ≡ n → take n (plain_lists (front ++ own)) ≡ plain_lists front
+lists_front front own n same = ap (take n) (map-append (λ (l : Places). l.now) front own)
+    ∙ take_at (plain_lists front) (plain_lists own) n (length-map front (λ l. l.now) ∙ same)
 
-pub map-take : (n : ℕ) (lists : List Places) → take n (plain_lists lists) ≡ plain_lists (take n lists)
-map-take zero lists = refl
-map-take (suc n) [] = refl
-map-take (suc n) (l ∷ lists) = ap (λ ls. l.places.now ∷ ls) (map-take n lists)
-
-pub back_lists : (terms : List QueryTerm) (lists back : List Places) (n : ℕ) → n ≡ length terms → back ≡ drop n lists
-    → drop (length (map plain_term terms)) (plain_lists lists) ≡ plain_lists back
-back_lists terms lists back n size is =
-    ap (λ k. drop k (plain_lists lists)) (length-map terms plain_term ∙ sym size) ∙ map-drop n lists ∙ ap plain_lists (sym is)
-
-front_lists : (terms : List QueryTerm) (lists front : List Places) (n : ℕ) → n ≡ length terms → front ≡ take n lists
-    → take (length (map plain_term terms)) (plain_lists lists) ≡ plain_lists front
-front_lists terms lists front n size is =
-    ap (λ k. take k (plain_lists lists)) (length-map terms plain_term ∙ sym size) ∙ map-take n lists ∙ ap plain_lists (sym is)
+pub lists_back : (front own : List Places) (n : ℕ) → length front ≡ n → drop n (plain_lists (front ++ own)) ≡ plain_lists own
+lists_back front own n same = ap (drop n) (map-append (λ (l : Places). l.now) front own)
+    ∙ drop_at (plain_lists front) (plain_lists own) n (length-map front (λ l. l.now) ∙ same)
 
 -- the marks of one link, and those of the links after it
 pub link_marks_one : (k : ℕ) (starts : List Place) (link : Link) (links : List Link) (lists own behind : List Places) (others : Starts) (all : List Starts)
     (size : ℕ) (next : List Place)
-    → size ≡ length link.to.terms.items → own ≡ take size lists → behind ≡ drop size lists → next ≡ near_those link.most k starts size others.places.items
+    → size ≡ length link.to.terms.items → own ≡ take size lists → behind ≡ drop size lists → next ≡ near_those link.most k starts size others.items
     → marks_from 0 (plain_lists own) next ++ link_marks size next (map plain_link links) (plain_lists behind) (plain_starts all)
     ≡ link_marks k starts (map plain_link (link ∷ links)) (plain_lists lists) (plain_starts (others ∷ all))
 link_marks_one k starts link links lists own behind others all size next is_size is_own is_behind is_next =
-    let terms = link.to.terms.items in
-    let n = length (map plain_term terms) in
-    let same : size ≡ n = is_size ∙ sym (length-map terms plain_term) in
-    let marked : ℕ → List Place → List (List Place) → List (List Place) → List (List Place) =
-    λ m s front back. marks_from 0 front s ++ link_marks m s (map plain_link links) back (plain_starts all) in
-    ap (λ s. marked size s (plain_lists own) (plain_lists behind)) is_next
-    ∙ ap (λ m. marked m (near_those link.most k starts m others.places.items) (plain_lists own) (plain_lists behind)) same
-    ∙ ap (λ ls. marked n (near_those link.most k starts n others.places.items) ls (plain_lists behind)) (sym (front_lists terms lists own size is_size is_own))
-    ∙ ap (λ ls. marked n (near_those link.most k starts n others.places.items) (take n (plain_lists lists)) ls)
-    (sym (back_lists terms lists behind size is_size is_behind))
+    simp (is_next, is_own, is_behind, is_size, take-map, drop-map, length-map)
 
 pub linked_length : (p : PlainPhrase) (links : List PlainLink) (lists : List (List Place)) → length (drop 1 (linked p links lists)) ≡ length links
 linked_length p [] lists = refl
@@ -186,56 +140,103 @@ starts-reverse : (all : List Starts) → plain_starts (reverse all) ≡ reverse 
 starts-reverse [] = refl
 starts-reverse (x ∷ all) =
     ap plain_starts (reverse-append (x ∷ []) all)
-    ∙ starts_push (reverse all) x
-    ∙ ap (λ ls. ls ++ x.places.items ∷ []) (starts-reverse all)
-    ∙ sym (reverse-append (x.places.items ∷ []) (plain_starts all))
+    ∙ simp (map-append, starts-reverse all) (sym (reverse-append (x.items ∷ []) (plain_starts all)))
 
 pub starts_forward : (all : List Starts) (lists : List (List Place)) → plain_starts all ≡ reverse lists → plain_starts (reverse all) ≡ lists
 starts_forward all lists is = starts-reverse all ∙ ap reverse is ∙ reverse-reverse lists
 
 pub starts_many : (all : List Starts) (lists : List (List Place)) → plain_starts all ≡ lists → length all ≡ length lists
-starts_many all lists is = sym (length-map all (λ s. s.places.items)) ∙ ap length is
+starts_many all lists is = sym (length-map all (λ s. s.items)) ∙ ap length is
+
+-- The lists of a chain's first phrase and of the others, and the occurrences of each phrase.
+pub record Parted (near : Chain) (lists own behind : List Places) (starts : List Place) (all : List Starts) : Type 0 where
+  pub own_is : own ≡ take (length near.first.terms.items) lists
+  pub behind_is : behind ≡ drop (length near.first.terms.items) lists
+  pub starts_are : starts ≡ head_of (linked (plain_phrase near.first) (map plain_link near.links.items) (plain_lists lists))
+  pub all_are : plain_starts all ≡ drop 1 (linked (plain_phrase near.first) (map plain_link near.links.items) (plain_lists lists))
+
+pub parted : (near : Chain) (lists : List Places) {own behind : List Places} (starts : Starts) (rest all : List Starts) (size : ℕ)
+    → size ≡ length near.first.terms.items → own ≡ take size lists → behind ≡ drop size lists → all ≡ reverse rest
+    → AreLinked starts rest (linked (plain_phrase near.first) (map plain_link near.links.items) (plain_lists lists))
+    → Parted near lists own behind starts.items all
+parted near lists starts rest all size is own behind same are = record {
+  own_is = own ∙ ap (λ n. take n lists) is;
+  behind_is = behind ∙ ap (λ n. drop n lists) is;
+  starts_are = are.first;
+  all_are = ap plain_starts same ∙ starts_forward rest _ are.rest;
+}
 
 -- the marks of a chain's first phrase, and those of its links
-pub chain_marks : (first : Phrase) (links : List Link) (lists own behind : List Places) (starts : List Place) (all : List (List Place)) (size : ℕ)
-    → size ≡ length first.terms.items → own ≡ take size lists → behind ≡ drop size lists
-    → starts ≡ head_of (linked (plain_phrase first) (map plain_link links) (plain_lists lists))
-    → all ≡ drop 1 (linked (plain_phrase first) (map plain_link links) (plain_lists lists))
-    → marks_from 0 (plain_lists own) starts ++ link_marks size starts (map plain_link links) (plain_lists behind) all
-    ≡ marks_of (chain (plain_phrase first) (map plain_link links)) (plain_lists lists)
-chain_marks first links lists own behind starts all size is_size is_own is_behind is_starts is_all =
-    let terms = first.terms.items in
-    let n = length (map plain_term terms) in
-    let same : size ≡ n = is_size ∙ sym (length-map terms plain_term) in
-    let begun = head_of (linked (plain_phrase first) (map plain_link links) (plain_lists lists)) in
-    let later = drop 1 (linked (plain_phrase first) (map plain_link links) (plain_lists lists)) in
-    let marked : ℕ → List Place → List (List Place) → List (List Place) → List (List Place) → List (List Place) =
-    λ m s ss front back. marks_from 0 front s ++ link_marks m s (map plain_link links) back ss in
-    ap (λ s. marked size s all (plain_lists own) (plain_lists behind)) is_starts
-    ∙ ap (λ ss. marked size begun ss (plain_lists own) (plain_lists behind)) is_all
-    ∙ ap (λ m. marked m begun later (plain_lists own) (plain_lists behind)) same
-    ∙ ap (λ ls. marked n begun later ls (plain_lists behind)) (sym (front_lists terms lists own size is_size is_own))
-    ∙ ap (λ ls. marked n begun later (take n (plain_lists lists)) ls) (sym (back_lists terms lists behind size is_size is_behind))
+pub chain_marks : {near : Chain} {lists own behind : List Places} {starts : List Place} {all : List Starts} → Parted near lists own behind starts all
+    → marks_from 0 (plain_lists own) starts
+    ++ link_marks (length near.first.terms.items) starts (map plain_link near.links.items) (plain_lists behind) (plain_starts all)
+    ≡ marks_of (chain_tree near) (plain_lists lists)
+chain_marks p = simp (p.own_is, p.behind_is, p.starts_are, p.all_are, take-map, drop-map, length-map)
 
 -- the steps for a chain: back to its first phrase, for that one's marks, and for those of its links
-pub chain_cost : (first : Phrase) (links : List Link) (lists own behind : List Places) (starts : List Place) (all : List (List Place)) (size : ℕ)
-    → size ≡ length first.terms.items → own ≡ take size lists → behind ≡ drop size lists
-    → starts ≡ head_of (linked (plain_phrase first) (map plain_link links) (plain_lists lists))
-    → all ≡ drop 1 (linked (plain_phrase first) (map plain_link links) (plain_lists lists))
-    → 1 + length (map plain_link links)
-    + (linked_cost (plain_phrase first) (map plain_link links) (plain_lists lists) + total (plain_lists own) + size * length starts + link_cost size starts
-    (map plain_link links) (plain_lists behind) all) ≡ visit_cost (chain (plain_phrase first) (map plain_link links)) (plain_lists lists)
-chain_cost first links lists own behind starts all size is_size is_own is_behind is_starts is_all =
-    let terms = first.terms.items in
-    let n = length (map plain_term terms) in
-    let same : size ≡ n = is_size ∙ sym (length-map terms plain_term) in
-    let begun = head_of (linked (plain_phrase first) (map plain_link links) (plain_lists lists)) in
-    let later = drop 1 (linked (plain_phrase first) (map plain_link links) (plain_lists lists)) in
-    let back = linked_cost (plain_phrase first) (map plain_link links) (plain_lists lists) in
-    let cost : ℕ → List Place → List (List Place) → List (List Place) → List (List Place) → ℕ =
-    λ m s ss front rest. 1 + length (map plain_link links) + (back + total front + m * length s + link_cost m s (map plain_link links) rest ss) in
-    ap (λ s. cost size s all (plain_lists own) (plain_lists behind)) is_starts
-    ∙ ap (λ ss. cost size begun ss (plain_lists own) (plain_lists behind)) is_all
-    ∙ ap (λ m. cost m begun later (plain_lists own) (plain_lists behind)) same
-    ∙ ap (λ ls. cost n begun later ls (plain_lists behind)) (sym (front_lists terms lists own size is_size is_own))
-    ∙ ap (λ ls. cost n begun later (take n (plain_lists lists)) ls) (sym (back_lists terms lists behind size is_size is_behind))
+pub chain_cost : {near : Chain} {lists own behind : List Places} {starts : List Place} {all : List Starts} → Parted near lists own behind starts all
+    → 1 + length (map plain_link near.links.items)
+    + (linked_cost (plain_phrase near.first) (map plain_link near.links.items) (plain_lists lists) + total (plain_lists own)
+    + length near.first.terms.items * length starts
+    + link_cost (length near.first.terms.items) starts (map plain_link near.links.items) (plain_lists behind) (plain_starts all))
+    ≡ visit_cost (chain_tree near) (plain_lists lists)
+chain_cost p = simp (p.own_is, p.behind_is, p.starts_are, p.all_are, take-map, drop-map, length-map)
+
+-- ---- how many marks a query has, and their offsets one after the other
+
+link_marks_length : (k : ℕ) (starts : List Place) (links : List PlainLink) (lists : List (List Place)) (all : List (List Place))
+    → length lists ≡ length (flat_map (λ link. link.to.terms) links) → length (link_marks k starts links lists all) ≡ length lists
+link_marks_length k starts [] lists all same = sym same
+link_marks_length k starts (link ∷ links) lists all same =
+    let n = length link.to.terms in
+    let next = near_those link.most k starts n (head_of all) in
+    let sum = length-append link.to.terms (flat_map (λ l. l.to.terms) links) in
+    let back = length-drop n lists in
+    let rest = link_marks_length n next links (drop n lists) (drop 1 all) (omega (arith, sum, back, same)) in
+    let front = marks_length 0 (take n lists) next in
+    let short = length-take-le n lists (omega (arith, sum, same)) in
+    length-append (marks_from 0 (take n lists) next) (link_marks n next links (drop n lists) (drop 1 all)) ∙ omega (arith, sum, back, rest, front, short, same)
+
+-- each term of a chain has marks
+chain_marks_length : (p : PlainPhrase) (links : List PlainLink) (lists : List (List Place)) → length lists ≡ length (terms_in (chain p links))
+    → length (marks_of (chain p links) lists) ≡ length lists
+chain_marks_length p links lists same =
+    let n = length p.terms in
+    let all = linked p links lists in
+    let sum = length-append p.terms (flat_map (λ l. l.to.terms) links) in
+    let back = length-drop n lists in
+    let rest = link_marks_length n (head_of all) links (drop n lists) (drop 1 all) (omega (arith, sum, back, same)) in
+    let front = marks_length 0 (take n lists) (head_of all) in
+    let short = length-take-le n lists (omega (arith, sum, same)) in
+    length-append (marks_from 0 (take n lists) (head_of all)) (link_marks n (head_of all) links (drop n lists) (drop 1 all))
+    ∙ omega (arith, sum, back, rest, front, short, same)
+
+-- what a query's left side adds before its right one
+pub numbered_more : (old : List Offset) (n : ℕ) (ms more : List (List Place))
+    → old ++ numbered_offsets n ms ++ numbered_offsets (n + length ms) more ≡ old ++ numbered_offsets n (ms ++ more)
+numbered_more old n ms more = append_assoc old (numbered_offsets n ms) (numbered_offsets (n + length ms) more) ∙ sym (ap (λ os. old ++ os) (numbered-append n ms more))
+
+pub phrase_marks_count : (lists : List Places) (starts : List Place) → length (marks_from 0 (plain_lists lists) starts) ≡ length lists
+phrase_marks_count lists starts = marks_length 0 (plain_lists lists) starts ∙ length-map lists (λ l. l.now)
+
+-- what the lists of a phrase's terms add before the terms after it
+pub numbered_marks : (old : List Offset) (n : ℕ) (lists : List Places) (starts : List Place) (more : List (List Place))
+    → old ++ numbered_offsets n (marks_from 0 (plain_lists lists) starts) ++ numbered_offsets (n + length lists) more
+    ≡ old ++ numbered_offsets n (marks_from 0 (plain_lists lists) starts ++ more)
+numbered_marks old n lists starts more =
+    rw (← phrase_marks_count lists starts) (numbered_more old n (marks_from 0 (plain_lists lists) starts) more)
+
+-- the terms of the first link of those that are left
+pub count_more : (links : List Link) (i : ℕ) (d : Link) → i < length links
+    → length (flat_map (λ l. l.to.terms) (map plain_link (drop i links)))
+    ≡ length (get_or links i d).to.terms.items + length (flat_map (λ l. l.to.terms) (map plain_link (drop (i + 1) links)))
+count_more links i d h =
+    let link = get_or links i d in
+    ap (λ ls. length (flat_map (λ l. l.to.terms) (map plain_link ls))) (drop_more links i d h)
+    ∙ length-append (map plain_term link.to.terms.items) (flat_map (λ l. l.to.terms) (map plain_link (drop (i + 1) links)))
+    ∙ ap (λ n. n + length (flat_map (λ l. l.to.terms) (map plain_link (drop (i + 1) links)))) (length-map link.to.terms.items plain_term)
+
+pub chain_marks_count : (p : PlainPhrase) (links : List PlainLink) (lists : List Places) → length lists ≡ length (terms_in (chain p links))
+    → length (marks_of (chain p links) (plain_lists lists)) ≡ length lists
+chain_marks_count p links lists same =
+    chain_marks_length p links (plain_lists lists) (length-map lists (λ l. l.now) ∙ same) ∙ length-map lists (λ l. l.now)

@@ -1,18 +1,293 @@
 -- The passes over the lists of a phrase's terms give its occurrences, and the places of its terms
 -- in them.
-use Rattle.std.proofs.Common.{◌≡◌, ℕ, ◌+◌, ◌<◌, ◌==◌, ◌&&◌, ◌||◌, Bool, true, false, not, cond, List, [], ◌∷◌, inl, inr, map, refl, sym, ap, ◌∙◌, arith, add-zero}
-use Rattle.std.specs.Prelude.{filter, AllPairs, Option}
-use Rattle.std.specs.List.{list_any, AllByRecursion}
-use Rattle.std.proofs.lemmas.Bool.Decides.{nat_tests}
-use Rattle.std.proofs.lemmas.List.Elements.{recursion_from_All}
+use Rattle.std.proofs.Common.{◌≡◌, ℕ, ◌+◌, ◌<◌, ◌==◌, ◌&&◌, ◌||◌, Bool, true, false, cond, List, [], ◌∷◌, ◌⊎◌, inl, inr, refl, sym, ap, ◌∙◌, arith, filter, nat_lt, nat_cmp, Ordering, Less, Equal, Greater, not, map, ⊎_elim, AllPairs, Option, subst, add-zero}
+use Rattle.std.proofs.Math.Bool.{and-true, and-false, or-false}
+use Rattle.std.proofs.lemmas.Bool.{and_parts}
+use Rattle.ft_query.proofs.Common.{list_any, AllByRecursion, ordering_then, match_ordering, nat_tests, Place, place_order, seek, among, recursion_from_All, Posting, IsBefore, PlainTerm, listed_places, is_listed, fits, takes, take_row, is_within, places_of, occurs, occurrences, PlainPhrase, shifted, taken_in, marks_from, may_begin, followed, starts_from}
 use Rattle.ft_query.proofs.TokenOnce.{pairs_head, pairs_tail}
-use Rattle.ft_query.specs.declared.lists.place.Place.{Place}
-use Rattle.ft_query.specs.Documents.{Posting, IsBefore}
-use Rattle.ft_query.specs.Trees.{PlainTerm, PlainPhrase}
-use Rattle.ft_query.specs.Occurs.{is_listed, is_within, places_of, occurs, occurrences}
-use Rattle.ft_query.specs.Visit.{listed_places, among, may_begin, followed, starts_from}
-use Rattle.ft_query.proofs.ByLists.{term_places, may_take, places_by_list, stands, follow, occurrences_by_lists}
-use Rattle.ft_query.proofs.Merges.{Before, Rising, meets, among_is}
+
+-- ---- what the passes over rising places keep
+
+-- an earlier column, or an earlier position of one column, where a is moved by i and b by j
+abbrev Earlier : ℕ → Place → ℕ → Place → Type 0
+Earlier i a j b = (a.column < b.column) ⊎ ((a.column ≡ b.column) × (a.pos + i < b.pos + j))
+
+abbrev pub Before : Place → Place → Type 0
+Before a b = (a.column < b.column) ⊎ ((a.column ≡ b.column) × (a.pos < b.pos))
+
+abbrev pub Rising : List Place → Type 0
+Rising [] = Unit {0}
+Rising (x ∷ xs) = AllByRecursion (Before x) xs × Rising xs
+
+-- the same place, where y is moved by j and x by i
+abbrev pub meets : ℕ → ℕ → Place → Place → Bool
+meets i j x y = y.column == x.column && y.pos + j == x.pos + i
+
+-- ---- the order of two places
+
+abbrev pub Compared : ℕ → ℕ → Ordering → Type 0
+Compared a b Less = a < b
+Compared a b Equal = a ≡ b
+Compared a b Greater = b < a
+
+compared_by : (a b : ℕ) (less same : Bool) → nat_lt a b ≡ less → (a == b) ≡ same → Compared a b (cond less Less (cond same Equal Greater))
+compared_by a b true same l s = grind (arith, nat_tests)
+compared_by a b false true l s = grind (arith, nat_tests)
+compared_by a b false false l s = grind (arith, nat_tests)
+
+pub compared : (a b : ℕ) → Compared a b (nat_cmp a b)
+compared a b = compared_by a b (nat_lt a b) (a == b) refl refl
+
+abbrev Ordered : ℕ → Place → ℕ → Place → Ordering → Type 0
+Ordered j y i x Less = Earlier j y i x
+Ordered j y i x Equal = meets i j x y ≡ true
+Ordered j y i x Greater = Earlier i x j y
+
+ordered_by : (j : ℕ) (y : Place) (i : ℕ) (x : Place) (columns places : Ordering) → Compared y.column x.column columns → Compared (y.pos + j) (x.pos + i) places
+    → Ordered j y i x (ordering_then columns places)
+ordered_by j y i x Less places c p = inl c
+ordered_by j y i x Greater places c p = inl c
+ordered_by j y i x Equal Less c p = inr (c, p)
+ordered_by j y i x Equal Equal c p = grind (arith, nat_tests)
+ordered_by j y i x Equal Greater c p = inr (sym c, p)
+
+ordered : (j : ℕ) (y : Place) (i : ℕ) (x : Place) → Ordered j y i x (place_order j y i x)
+ordered j y i x =
+    ordered_by j y i x (nat_cmp y.column x.column) (nat_cmp (y.pos + j) (x.pos + i)) (compared y.column x.column) (compared (y.pos + j) (x.pos + i))
+
+earlier_apart : (j : ℕ) (y : Place) (i : ℕ) (x : Place) → Earlier j y i x → meets i j x y ≡ false
+earlier_apart j y i x earlier = grind (arith, nat_tests)
+
+later_apart : (j : ℕ) (y : Place) (i : ℕ) (x : Place) → Earlier i x j y → meets i j x y ≡ false
+later_apart j y i x later = grind (arith, nat_tests)
+
+earlier_before : (j : ℕ) (y : Place) (i : ℕ) (x z : Place) → Earlier j y i x → Before x z → Earlier j y i z
+earlier_before j y i x z earlier before = grind arith
+
+met_before : (j : ℕ) (y : Place) (i : ℕ) (x z : Place) → meets i j x y ≡ true → Before x z → meets i j z y ≡ false
+met_before j y i x z e before = grind (arith, nat_tests)
+
+-- ---- the places that are among others
+
+none_met : (i j : ℕ) (x : Place) (ys : List Place) → AllByRecursion (Earlier i x j) ys → list_any (meets i j x) ys ≡ false
+none_met i j x [] all = refl
+none_met i j x (y ∷ ys) all = ap (λ b. b || list_any (meets i j x) ys) (later_apart j y i x all.0) ∙ none_met i j x ys all.1
+
+all_earlier : (i j : ℕ) (x y : Place) (ys : List Place) → Earlier i x j y → AllByRecursion (Before y) ys → AllByRecursion (Earlier i x j) ys
+all_earlier i j x y [] h all = tt
+all_earlier i j x y (z ∷ zs) h all = (earlier_before i x j y z h all.0, all_earlier i j x y zs h all.1)
+
+-- what a pass up to a place leaves
+record Left (i j : ℕ) (x : Place) (ys : List Place) (r : Bool × List Place) : Type 0 where
+  found : r.0 ≡ list_any (meets i j x) ys
+  rising : Rising r.1
+  later : (z : Place) → Before x z → list_any (meets i j z) r.1 ≡ list_any (meets i j z) ys
+
+left_one : (i j : ℕ) (x y : Place) (ys : List Place) (more : Bool × List Place) (o : Ordering) → Ordered j y i x o → AllByRecursion (Before y) ys → Rising ys
+    → Left i j x ys more → Left i j x (y ∷ ys) (match_ordering o more (true, ys) (false, y ∷ ys))
+left_one i j x y ys more Less is first rising rest = record {
+  found = rest.found ∙ sym (ap (λ b. b || list_any (meets i j x) ys) (earlier_apart j y i x is));
+  rising = rest.rising;
+  later = λ z h. rest.later z h ∙ sym (ap (λ b. b || list_any (meets i j z) ys) (earlier_apart j y i z (earlier_before j y i x z is h)));
+}
+left_one i j x y ys more Equal is first rising rest = record {
+  found = sym (ap (λ b. b || list_any (meets i j x) ys) is);
+  rising = rising;
+  later = λ z h. sym (ap (λ b. b || list_any (meets i j z) ys) (met_before j y i x z is h));
+}
+left_one i j x y ys more Greater is first rising rest = record {
+  found = sym (ap (λ b. b || list_any (meets i j x) ys) (later_apart j y i x is) ∙ none_met i j x ys (all_earlier i j x y ys is first));
+  rising = (first, rising);
+  later = λ z h. refl;
+}
+
+left_by : (i j : ℕ) (x : Place) (ys : List Place) → Rising ys → Left i j x ys (seek i x j ys)
+left_by i j x [] rising = record { found = refl; rising = tt; later = λ z h. refl }
+left_by i j x (y ∷ ys) rising = left_one i j x y ys (seek i x j ys) (place_order j y i x) (ordered j y i x) rising.0 rising.1 (left_by i j x ys rising.1)
+
+-- two tests that agree on the elements keep the same ones
+pub filter_same : {X : Type 0} (p q : X → Bool) (xs : List X) → AllByRecursion (λ x. p x ≡ q x) xs → filter p xs ≡ filter q xs
+filter_same p q [] all = refl
+filter_same p q (x ∷ xs) all = ap (λ b. cond b (x ∷ filter p xs) (filter p xs)) all.0 ∙ ap (λ rest. cond (q x) (x ∷ rest) rest) (filter_same p q xs all.1)
+
+pub all_weaker : {X : Type 0} (P Q : X → Type 0) (xs : List X) → ((x : X) → P x → Q x) → AllByRecursion P xs → AllByRecursion Q xs
+all_weaker P Q [] f all = tt
+all_weaker P Q (x ∷ xs) f all = (f x all.0, all_weaker P Q xs f all.1)
+
+-- of rising places those that are among others are kept
+pub among_is : (i j : ℕ) (xs ys : List Place) → Rising xs → Rising ys → among i j xs ys ≡ filter (λ x. list_any (meets i j x) ys) xs
+among_is i j [] ys first second = refl
+among_is i j (x ∷ xs) ys first second =
+    let r = seek i x j ys in
+    let left = left_by i j x ys second in
+    let rest =
+    among_is i j xs r.1 first.1 left.rising
+    ∙ filter_same (λ z. list_any (meets i j z) r.1) (λ z. list_any (meets i j z) ys) xs
+    (all_weaker (Before x) (λ z. list_any (meets i j z) r.1 ≡ list_any (meets i j z) ys) xs left.later first.0) in
+    simp (left.found, rest)
+
+-- ---- occurrences from the lists of places of a phrase's terms
+
+-- the places that a term takes
+abbrev pub term_places : List Posting → PlainTerm → List Place
+term_places postings t = map (λ p. p.place) (filter (λ p. fits t p.term p.place.pos) postings)
+
+-- a first term takes position 0 alone
+abbrev pub may_take : PlainTerm → Place → Bool
+may_take t at = not t.first || at.pos == 0
+
+-- what a term takes is what its list answers, of which a first term keeps position 0
+pub places_by_list : (postings : List Posting) (t : PlainTerm) → filter (may_take t) (listed_places postings t) ≡ term_places postings t
+places_by_list [] t = refl
+places_by_list (p ∷ ps) t =
+    let more = places_by_list ps t in
+    let listed = filter (λ q. is_listed t q.term) ps in
+    let rest = filter (λ q. fits t q.term q.place.pos) ps in
+    elim (is_listed t p.term) as (λ v. filter (may_take t) (map (λ q. q.place) (cond v (p ∷ listed) listed)) ≡ map (λ q. q.place)
+    (cond (v && may_take t p.place) (p ∷ rest) rest)) [
+      | true ↦ elim (may_take t p.place) as (λ v. cond v (p.place ∷ filter (may_take t) (map (λ q. q.place) listed))
+          (filter (may_take t) (map (λ q. q.place) listed)) ≡ map (λ q. q.place) (cond v (p ∷ rest) rest)) [
+            | true ↦ ap (λ ls. p.place ∷ ls) more
+            | false ↦ more
+          ]
+      | false ↦ more
+    ]
+
+abbrev pub stands : ℕ → ℕ → Place → Bool
+stands column pos at = at.column == column && at.pos == pos
+
+-- each list has the place, one position after the other
+abbrev pub follow : List (List Place) → ℕ → ℕ → Bool
+follow [] column pos = true
+follow (l ∷ ls) column pos = list_any (stands column pos) l && follow ls column (pos + 1)
+
+-- the occurrences of a phrase with this filter, whose terms have these places
+abbrev pub joined : Option ℕ → List (List Place) → List Place
+joined only [] = []
+joined only (l ∷ ls) = filter (λ at. is_within only at.column && follow ls at.column (at.pos + 1)) l
+
+-- a term takes a token exactly where its list has the place
+pub takes_by_list : (postings : List Posting) (t : PlainTerm) (column pos : ℕ)
+    → list_any (stands column pos) (term_places postings t) ≡ takes postings t column pos
+takes_by_list [] t column pos = refl
+takes_by_list (p ∷ ps) t column pos =
+    let here = stands column pos p.place in
+    let rest = filter (λ q. fits t q.term q.place.pos) ps in
+    let more = takes_by_list ps t column pos in
+    elim (fits t p.term p.place.pos) as (λ v. list_any (stands column pos) (map (λ q. q.place) (cond v (p ∷ rest) rest))
+    ≡ (here && v) || takes ps t column pos) [
+      | true ↦ ap (λ b. here || b) more ∙ ap (λ b. b || takes ps t column pos) (sym (and-true here))
+      | false ↦ more ∙ ap (λ b. b || takes ps t column pos) (sym (and-false here))
+    ]
+
+-- terms one after the other take tokens exactly where their lists follow one another
+pub row_by_lists : (postings : List Posting) (ts : List PlainTerm) (column pos : ℕ)
+    → follow (map (term_places postings) ts) column pos ≡ take_row postings ts column pos
+row_by_lists postings [] column pos = refl
+row_by_lists postings (t ∷ ts) column pos =
+    simp (takes_by_list postings t column pos, row_by_lists postings ts column (pos + 1))
+
+-- ---- one posting at a place
+
+-- two postings of which one is before the other stand at two places
+apart : (p q : Posting) (f : Bool) → IsBefore p q ⊎ IsBefore q p → (p.place.column == q.place.column && p.place.pos == q.place.pos && f) ≡ false
+apart p q f order =
+    let columns : Type 0 = (p.place.column == q.place.column) ≡ false in
+    let positions : Type 0 = (p.place.pos == q.place.pos) ≡ false in
+    let by_column : columns → (p.place.column == q.place.column && p.place.pos == q.place.pos && f) ≡ false =
+    λ e. ap (λ b. b && p.place.pos == q.place.pos && f) e in
+    let by_position : positions → (p.place.column == q.place.column && p.place.pos == q.place.pos && f) ≡ false =
+    λ e. ap (λ b. p.place.column == q.place.column && b && f) e ∙ ap (λ b. b && f) (and-false (p.place.column == q.place.column)) in
+    ⊎_elim
+    (λ (before : IsBefore p q). ⊎_elim
+    (λ (less : p.place.column < q.place.column). by_column (grind (arith, nat_tests)))
+    (λ (less : (p.place.column ≡ q.place.column) × (p.place.pos < q.place.pos) × (p.place.start < q.place.start)). let h = less.1 in by_position
+    (grind (arith, nat_tests)))
+    before)
+    (λ (after : IsBefore q p). ⊎_elim
+    (λ (less : q.place.column < p.place.column). by_column (grind (arith, nat_tests)))
+    (λ (less : (q.place.column ≡ p.place.column) × (q.place.pos < p.place.pos) × (q.place.start < p.place.start)). let h = less.1 in by_position
+    (grind (arith, nat_tests)))
+    after)
+    order
+
+none_takes : (p : Posting) (ps : List Posting) (t : PlainTerm) → AllByRecursion (IsBefore p) ps → takes ps t p.place.column p.place.pos ≡ false
+none_takes p [] t later = refl
+none_takes p (q ∷ qs) t later =
+    ap (λ b. b || takes qs t p.place.column p.place.pos) (apart q p (fits t q.term q.place.pos) (inr later.0)) ∙ none_takes p qs t later.1
+
+-- at the place of a posting a term takes that posting or none
+unfoldable pub TakesHere : List Posting → PlainTerm → Posting → Type 0
+TakesHere postings t q = takes postings t q.place.column q.place.pos ≡ fits t q.term q.place.pos
+
+one_more : (p : Posting) (ps qs : List Posting) (t : PlainTerm) → AllByRecursion (IsBefore p) qs → AllByRecursion (TakesHere ps t) qs
+    → AllByRecursion (TakesHere (p ∷ ps) t) qs
+unfolding TakesHere
+one_more p ps [] t later here = tt
+one_more p ps (q ∷ qs) t later here =
+    (ap (λ b. b || takes ps t q.place.column q.place.pos) (apart p q (fits t p.term p.place.pos) (inl later.0)) ∙ here.0, one_more p ps qs t later.1 here.1)
+
+same_place : (p : Posting) (f : Bool) → (p.place.column == p.place.column && p.place.pos == p.place.pos && f) ≡ f
+same_place p f =
+    let column : (p.place.column == p.place.column) ≡ true = grind (arith, nat_tests) in
+    let position : (p.place.pos == p.place.pos) ≡ true = grind (arith, nat_tests) in
+    simp (column, position)
+
+pub takes_here : (postings : List Posting) (t : PlainTerm) → AllPairs IsBefore postings → AllByRecursion (TakesHere postings t) postings
+unfolding TakesHere
+takes_here [] t ordered = tt
+takes_here (p ∷ ps) t ordered =
+    let later = recursion_from_All (IsBefore p) ps (pairs_head IsBefore p ps ordered) in (
+      ap (λ b. b || takes ps t p.place.column p.place.pos) (same_place p (fits t p.term p.place.pos))
+          ∙ ap (λ b. fits t p.term p.place.pos || b) (none_takes p ps t later) ∙ or-false (fits t p.term p.place.pos),
+      one_more p ps ps t later (takes_here ps t (pairs_tail IsBefore p ps ordered)),
+    )
+
+-- ---- joined lists
+
+abbrev occurs_at : List Posting → Option ℕ → PlainTerm → List PlainTerm → Place → Bool
+occurs_at postings only t ts at = occurs postings (record { filter = only; terms = t ∷ ts }) at.column at.pos
+
+abbrev joins_at : List Posting → Option ℕ → List PlainTerm → Place → Bool
+joins_at postings only ts at = is_within only at.column && follow (map (term_places postings) ts) at.column (at.pos + 1)
+
+joined_part : (postings : List Posting) (only : Option ℕ) (t : PlainTerm) (ts : List PlainTerm) (ps : List Posting)
+    → AllByRecursion (λ q. takes postings t q.place.column q.place.pos ≡ fits t q.term q.place.pos) ps →
+    filter (joins_at postings only ts) (map (λ q. q.place) (filter (λ q. fits t q.term q.place.pos) ps)) ≡ filter (occurs_at postings only t ts) (places_of ps)
+joined_part postings only t ts [] here = refl
+joined_part postings only t ts (p ∷ ps) here =
+    let within = is_within only p.place.column in
+    let row = take_row postings ts p.place.column (p.place.pos + 1) in
+    let rest = filter (λ q. fits t q.term q.place.pos) ps in
+    let left = filter (joins_at postings only ts) (map (λ q. q.place) rest) in
+    let right = filter (occurs_at postings only t ts) (places_of ps) in
+    let same : left ≡ right = joined_part postings only t ts ps here.1 in
+    let by_row : joins_at postings only ts p.place ≡ (within && row) = ap (λ b. within && b) (row_by_lists postings ts p.place.column (p.place.pos + 1)) in
+    let cases : filter (joins_at postings only ts) (map (λ q. q.place) (cond (fits t p.term p.place.pos) (p ∷ rest) rest))
+    ≡ cond ((within && true) && (fits t p.term p.place.pos && row)) (p.place ∷ right) right =
+    elim (fits t p.term p.place.pos) as (λ v. filter (joins_at postings only ts) (map (λ q. q.place) (cond v (p ∷ rest) rest)) ≡ cond
+    ((within && true) && (v && row)) (p.place ∷ right) right) [
+      | true ↦ ap (λ b. cond b (p.place ∷ left) left) by_row ∙ ap (λ ls. cond (within && row) (p.place ∷ ls) ls) same ∙ ap
+          (λ b. cond (b && row) (p.place ∷ right) right) (sym (and-true within))
+      | false ↦ same ∙ ap (λ b. cond b (p.place ∷ right) right) (sym (and-false (within && true)))
+    ] in
+    cases ∙ ap (λ b. cond ((within && true) && (b && row)) (p.place ∷ right) right) (sym here.0)
+
+-- a phrase without terms occurs nowhere
+none_occurs : (postings ps : List Posting) (only : Option ℕ)
+    → filter (λ at. occurs postings (record { filter = only; terms = [] }) at.column at.pos) (places_of ps) ≡ []
+none_occurs postings [] only = refl
+none_occurs postings (p ∷ ps) only =
+    let right = filter (λ at. occurs postings (record { filter = only; terms = [] }) at.column at.pos) (places_of ps) in
+    let within = is_within only p.place.column in
+    ap (λ b. cond (b && true) (p.place ∷ right) right) (and-false within) ∙ none_occurs postings ps only
+
+-- a phrase's occurrences are its terms' lists joined
+pub occurrences_by_lists : (postings : List Posting) (only : Option ℕ) (terms : List PlainTerm) → AllPairs IsBefore postings
+    → joined only (map (term_places postings) terms) ≡ occurrences postings (record { filter = only; terms = terms })
+unfolding TakesHere
+occurrences_by_lists postings only [] ordered = sym (none_occurs postings postings only)
+occurrences_by_lists postings only (t ∷ ts) ordered = joined_part postings only t ts postings (takes_here postings t ordered)
 
 -- ---- rising places
 
@@ -31,8 +306,7 @@ rising_filter p (x ∷ xs) rising = elim (p x) as (λ b. Rising (cond b (x ∷ f
 ]
 
 before_place : (p q : Posting) → IsBefore p q → Before p.place q.place
-before_place p q (inl h) = inl h
-before_place p q (inr h) = inr (h.0, h.1)
+before_place p q before = grind arith
 
 listed_later : (p : Posting) (t : PlainTerm) (ps : List Posting) → AllByRecursion (IsBefore p) ps → AllByRecursion (Before p.place) (listed_places ps t)
 listed_later p t [] all = tt
@@ -161,3 +435,105 @@ starts_are postings only (t ∷ ts) ordered =
     ∙ sym (filter_filter (λ at. is_within only at.column && after at) (may_take t) list)
     ∙ ap (filter (λ at. is_within only at.column && after at)) (places_by_list postings t)
     ∙ occurrences_by_lists postings only (t ∷ ts) ordered
+
+-- ---- the places of the terms in the occurrences that count
+
+-- the same members, as tests see it
+abbrev pub Alike : List Place → List Place → Type 0
+Alike xs ys = (p : Place → Bool) → list_any p xs ≡ list_any p ys
+
+witness : {X : Type 0} (p : X → Bool) (Q : X → Type 0) (xs : List X) → AllByRecursion Q xs → list_any p xs ≡ true → (x : X) × (p x ≡ true) × Q x
+witness p Q [] all e = cc
+witness p Q (x ∷ xs) all e = by (p x) refl e (witness p Q xs all.1)
+  where
+    by : (b : Bool) → p x ≡ b → (b || list_any p xs) ≡ true → (list_any p xs ≡ true → (y : _) × (p y ≡ true) × Q y) → (y : _) × (p y ≡ true) × Q y
+    by true is f rest = (x, is, all.0)
+    by false is f rest = rest f
+
+abbrev follows : ℕ → Place → Place → Bool
+follows i at start = start.column == at.column && start.pos + i == at.pos
+
+-- the terms from this one on take the tokens from here on
+abbrev pub Takes : List Posting → ℕ → List PlainTerm → Place → Type 0
+Takes postings i ts s = take_row postings ts s.column (s.pos + i) ≡ true
+
+at_place : (i : ℕ) (at start : Place) → follows i at start ≡ true → (start.column ≡ at.column) × (start.pos + i ≡ at.pos)
+at_place i at start e = (grind (arith, nat_tests), grind (arith, nat_tests))
+
+-- a place after an occurrence is in the term's list
+listed_here : (postings : List Posting) (i : ℕ) (t : PlainTerm) (ts : List PlainTerm) (starts : List Place) (q : Posting)
+    → AllByRecursion (Takes postings i (t ∷ ts)) starts
+    → takes postings t q.place.column q.place.pos ≡ fits t q.term q.place.pos → list_any (follows i q.place) starts ≡ true → is_listed t q.term ≡ true
+listed_here postings i t ts starts q all here some =
+    let one = witness (follows i q.place) (Takes postings i (t ∷ ts)) starts all some in
+    let start = one.0 in
+    let where_is = at_place i q.place start one.1 in
+    let taken : takes postings t start.column (start.pos + i) ≡ true =
+    (and_parts (takes postings t start.column (start.pos + i)) (take_row postings ts start.column (start.pos + i + 1)) one.2).0 in
+    let there : takes postings t q.place.column q.place.pos ≡ true =
+    subst (λ n. takes postings t q.place.column n ≡ true) where_is.1 (subst (λ n. takes postings t n (start.pos + i) ≡ true) where_is.0 taken) in
+    (and_parts (is_listed t q.term) (not t.first || q.place.pos == 0) (sym here ∙ there)).0
+
+-- a test that passes only where the term is listed keeps the same of its list as of all places
+kept_of_list : (t : PlainTerm) (p : Place → Bool) (ps : List Posting) → AllByRecursion (λ q. p q.place ≡ true → is_listed t q.term ≡ true) ps
+    → filter p (listed_places ps t) ≡ filter p (places_of ps)
+kept_of_list t p [] all = refl
+kept_of_list t p (q ∷ qs) all =
+    let rest = kept_of_list t p qs all.1 in
+    by (is_listed t q.term) refl (p q.place) refl rest
+  where
+    by : (listed : Bool) → is_listed t q.term ≡ listed → (passes : Bool) → p q.place ≡ passes → filter p (listed_places qs t) ≡ filter p (places_of qs)
+        → filter p (map (λ (u : Posting). u.place) (cond listed (q ∷ filter (λ u. is_listed t u.term) qs) (filter (λ u. is_listed t u.term) qs)))
+        ≡ cond (p q.place) (q.place ∷ filter p (places_of qs)) (filter p (places_of qs))
+    by true is passes here rest = ap (λ ls. cond (p q.place) (q.place ∷ ls) ls) rest
+    by false is true here rest = let no : false ≡ true = sym is ∙ all.0 here in cc
+    by false is false here rest = rest ∙ sym (ap (λ b. cond b (q.place ∷ filter p (places_of qs)) (filter p (places_of qs))) here)
+
+all_listed : (postings : List Posting) (i : ℕ) (t : PlainTerm) (ts : List PlainTerm) (starts : List Place) (ps : List Posting)
+    → AllByRecursion (Takes postings i (t ∷ ts)) starts
+    → AllByRecursion (TakesHere postings t) ps → AllByRecursion (λ q. list_any (follows i q.place) starts ≡ true → is_listed t q.term ≡ true) ps
+unfolding TakesHere
+all_listed postings i t ts starts [] all here = tt
+all_listed postings i t ts starts (q ∷ qs) all here = (listed_here postings i t ts starts q all here.0, all_listed postings i t ts starts qs all here.1)
+
+next_takes : (postings : List Posting) (i : ℕ) (t : PlainTerm) (ts : List PlainTerm) (starts : List Place) → AllByRecursion (Takes postings i (t ∷ ts)) starts
+    → AllByRecursion (Takes postings (i + 1) ts) starts
+next_takes postings i t ts [] all = tt
+next_takes postings i t ts (s ∷ ss) all =
+    let behind : s.pos + i + 1 ≡ s.pos + (i + 1) = omega arith in (
+      subst (λ n. take_row postings ts s.column n ≡ true) behind
+          (and_parts (takes postings t s.column (s.pos + i)) (take_row postings ts s.column (s.pos + i + 1)) all.0).1,
+      next_takes postings i t ts ss all.1,
+    )
+
+-- the places of each term's list in the occurrences are those that the term takes
+pub marks_are : (postings : List Posting) (i : ℕ) (ts : List PlainTerm) (starts counted : List Place) → AllPairs IsBefore postings → Rising starts
+    → AllByRecursion (Takes postings i ts) starts → Alike starts counted
+    → marks_from i (map (listed_places postings) ts) starts ≡ taken_in postings i ts counted
+marks_are postings i [] starts counted ordered rising all alike = refl
+marks_are postings i (t ∷ ts) starts counted ordered rising all alike =
+    let list = listed_places postings t in
+    let one : among 0 i list starts ≡ shifted postings i counted =
+    among_is 0 i list starts (listed_rising postings t ordered) rising
+    ∙ filter_alike (λ at. list_any (meets 0 i at) starts) (λ at. list_any (follows i at) starts) list
+    (λ at. any_same (meets 0 i at) (follows i at) starts (λ s. ap (λ n. s.column == at.column && s.pos + i == n) (add-zero at.pos)))
+    ∙ kept_of_list t (λ at. list_any (follows i at) starts) postings (all_listed postings i t ts starts postings all (takes_here postings t ordered))
+    ∙ filter_alike (λ at. list_any (follows i at) starts) (λ at. list_any (follows i at) counted) (places_of postings) (λ at. alike (follows i at)) in
+    ap (λ l. l ∷ marks_from (i + 1) (map (listed_places postings) ts) starts) one
+    ∙ ap (λ ls. shifted postings i counted ∷ ls) (marks_are postings (i + 1) ts starts counted ordered rising (next_takes postings i t ts starts all) alike)
+
+-- the terms of an occurrence take the tokens from it on
+pub occurrences_take : (postings : List Posting) (p : PlainPhrase) (ps : List Place)
+    → AllByRecursion (Takes postings 0 p.terms) (filter (λ at. occurs postings p at.column at.pos) ps)
+occurrences_take postings p [] = tt
+occurrences_take postings p (s ∷ ss) = by (occurs postings p s.column s.pos) refl (occurrences_take postings p ss)
+  where
+    by : (b : Bool) → occurs postings p s.column s.pos ≡ b → AllByRecursion (Takes postings 0 p.terms) (filter (λ at. occurs postings p at.column at.pos) ss)
+        → AllByRecursion (Takes postings 0 p.terms) (cond b (s ∷ filter (λ at. occurs postings p at.column at.pos) ss)
+        (filter (λ at. occurs postings p at.column at.pos) ss))
+    by true is rest = (
+      subst (λ n. take_row postings p.terms s.column n ≡ true) (sym (add-zero s.pos))
+          (and_parts _ (take_row postings p.terms s.column s.pos) is).1,
+      rest,
+    )
+    by false is rest = rest

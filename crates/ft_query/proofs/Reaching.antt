@@ -1,6 +1,6 @@
 -- Calls one after another.
 use Rattle.std.proofs.Common.{Bool, true, false}
-use Rattle.ft_query.specs.Lists.{Reaches, Stays, Goes, Ends}
+use Rattle.ft_query.proofs.Common.{Reaches, Stays, Goes, Ends}
 
 pub no_call : {X : Type 0} (Becomes : X → Bool → X → Type 0) (x : X) (all : Bool) → Reaches Becomes x all x
 no_call Becomes x all = Stays x all

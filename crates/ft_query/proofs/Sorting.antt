@@ -1,27 +1,13 @@
 -- The marks of a query's terms, sorted, are the offsets of the document.
-use Rattle.std.proofs.Common.{◌≡◌, ℕ, ◌+◌, ◌<◌, ◌==◌, ◌&&◌, Bool, true, false, cond, List, [], ◌∷◌, ◌++◌, ◌⊎◌, inl, inr, length, map, drop, get_or, suc, refl, sym, ap, ◌∙◌, subst, arith, ⊎_elim}
-use Rattle.std.specs.Prelude.{AllPairs, Contains, Some, None, filter, filter_map}
-use Rattle.std.specs.List.{AllByRecursion, IsDistinct, list_any, enumerate_from, cons_option}
-use Rattle.std.specs.List.Sorted.{IsPermutation, IsSortedBy}
-use Rattle.std.specs.Ordering.{nat_cmp, ordering_then, is_lt}
-use Rattle.std.specs.declared.cmp.Ordering.{Ordering}
-use Rattle.std.specs.declared.cmp.Ordering.TheVariants.{Less, Equal, Greater}
-use Rattle.std.proofs.lemmas.Bool.Decides.{nat_tests}
-use Rattle.std.proofs.lemmas.List.Elements.{All-nil, All-cons, All-weaker, All-contains, All-from_recursion, recursion_from_All, Contains-append_left, Contains-append_right, Contains-append_cases}
-use Rattle.std.proofs.lemmas.List.Kept.{AllPairs-cons}
+use Rattle.std.proofs.Common.{◌≡◌, ℕ, ◌+◌, ◌<◌, ◌==◌, ◌&&◌, Bool, true, false, cond, List, [], ◌∷◌, ◌++◌, ◌⊎◌, inl, inr, length, map, drop, get_or, suc, refl, sym, ◌∙◌, subst, arith, ⊎_elim, AllPairs, Contains, Some, None, filter, filter_map, IsPermutation, IsSortedBy, nat_cmp, is_lt, Ordering, Less, Equal, Greater}
+use Rattle.std.specs.List.{IsDistinct}
 use Rattle.std.proofs.lemmas.List.Sorted.{Contains-permutation, IsPermutation-sym}
 use Rattle.std.proofs.lemmas.Map.Keys.{IsDistinct-cons, IsDistinct-head, IsDistinct-tail, IsDistinct-IsPermutation}
-use Rattle.ft_query.specs.declared.lists.place.Place.{Place}
-use Rattle.ft_query.specs.declared.walk.Offset.{Offset}
-use Rattle.ft_query.specs.Documents.{Posting, IsBefore}
-use Rattle.ft_query.specs.Trees.{PlainTerm, PlainLink, Tree, phrase, chain, both, either, without}
-use Rattle.ft_query.specs.Occurs.{is_at, offsets_at, offsets_of, taken, taken_in, taken_links, places_of, heads, choices, occurrences}
-use Rattle.ft_query.specs.Visit.{offset_at, numbered_offsets, precedes}
+use Rattle.ft_query.proofs.Common.{AllByRecursion, list_any, enumerate_from, cons_option, ordering_then, nat_tests, All-nil, All-cons, All-weaker, All-contains, All-from_recursion, recursion_from_All, Contains-append_left, Contains-append_right, Contains-append_cases, AllPairs-cons, Place, Offset, Posting, IsBefore, PlainTerm, PlainLink, Tree, phrase, chain, both, either, without, is_at, offsets_at, offsets_of, taken, taken_in, taken_links, places_of, heads, choices, occurrences, offset_at, numbered_offsets, precedes}
 use Rattle.ft_query.proofs.TokenOnce.{pairs_head, pairs_tail}
 use Rattle.ft_query.proofs.OffsetOrder.{Rises, contains_cases, contains_head, contains_tail, only_offsets}
 use Rattle.ft_query.proofs.Choices.{contains_nothing, map_from, map_to, filter_from, flat_from, flat_to}
-use Rattle.ft_query.proofs.Merges.{Before, Rising, Compared, compared, all_weaker}
-use Rattle.ft_query.proofs.PhrasePasses.{all_filter, places_rising}
+use Rattle.ft_query.proofs.PhrasePasses.{Before, Rising, Compared, compared, all_weaker, all_filter, places_rising}
 use Rattle.ft_query.proofs.ChainPasses.{any_to, any_from}
 
 -- ---- sorted offsets that differ rise
@@ -30,10 +16,7 @@ abbrev same_key : Offset → Offset → Bool
 same_key a b = a.column == b.column && a.place == b.place && a.term == b.term
 
 key_flips : (a b : Offset) → same_key a b ≡ same_key b a
-key_flips a b =
-    ap (λ t. t && a.place == b.place && a.term == b.term) (flips a.column b.column)
-    ∙ ap (λ t. b.column == a.column && t && a.term == b.term) (flips a.place b.place)
-    ∙ ap (λ t. b.column == a.column && b.place == a.place && t) (flips a.term b.term)
+key_flips a b = rw (flips a.column b.column, flips a.place b.place, flips a.term b.term) refl
   where
     flips : (x y : ℕ) → (x == y) ≡ (y == x)
     flips x y = grind (arith, nat_tests)
@@ -57,15 +40,7 @@ rises_after a b not_before differ =
     (compared b.term a.term) not_before differ
 
 rises_on : (a b c : Offset) → Rises a b → Rises b c → Rises a c
-rises_on a b c (inl h) (inl k) = inl (omega arith)
-rises_on a b c (inl h) (inr (inl k)) = let e = k.0 in inl (omega arith)
-rises_on a b c (inl h) (inr (inr k)) = let e = k.0 in inl (omega arith)
-rises_on a b c (inr (inl h)) (inl k) = let e = h.0 in inl (omega arith)
-rises_on a b c (inr (inl h)) (inr (inl k)) = let e = h.1 in let f = k.1 in inr (inl (h.0 ∙ k.0, omega arith))
-rises_on a b c (inr (inl h)) (inr (inr k)) = let e = h.1 in let f = k.1 in inr (inl (h.0 ∙ k.0, omega arith))
-rises_on a b c (inr (inr h)) (inl k) = let e = h.0 in inl (omega arith)
-rises_on a b c (inr (inr h)) (inr (inl k)) = let e = h.1 in let f = k.1 in inr (inl (h.0 ∙ k.0, omega arith))
-rises_on a b c (inr (inr h)) (inr (inr k)) = let e = h.2 in let f = k.2 in inr (inr (h.0 ∙ k.0, h.1 ∙ k.1, omega arith))
+rises_on a b c before after = grind arith
 
 -- each rises to the next
 abbrev NextRise : List Offset → Type 0
@@ -123,8 +98,7 @@ starts_rise (p ∷ ps) ordered =
     (all_start p ps (recursion_from_All (IsBefore p) ps (pairs_head IsBefore p ps ordered)), starts_rise ps (pairs_tail IsBefore p ps ordered))
 
 places_differ : (n : ℕ) (a b : Place) → StartsBefore a b → same_key (offset_at n a) (offset_at n b) ≡ false
-places_differ n a b (inl h) = grind (arith, nat_tests)
-places_differ n a b (inr h) = let x = h.0 in let y = h.1 in grind (arith, nat_tests)
+places_differ n a b before = grind (arith, nat_tests)
 
 terms_differ : (n : ℕ) (a : Place) (o : Offset) → n < o.term → same_key (offset_at n a) o ≡ false
 terms_differ n a o h = grind (arith, nat_tests)

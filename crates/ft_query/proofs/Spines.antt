@@ -1,12 +1,7 @@
 -- What is joined to the first operand of a query, one joint after the other.
-use Rattle.std.proofs.Common.{◌≡◌, ◌+◌, ◌≤◌, ◌<◌, List, [], ◌∷◌, ◌++◌, length, refl, sym, ap, subst, ◌∙◌, append-nil, append_assoc, arith}
-use Rattle.std.proofs.lemmas.List.{length-append}
-use Rattle.ft_query.specs.declared.walk.joint.By.{By}
+use Rattle.std.proofs.Common.{◌≡◌, ◌+◌, ◌≤◌, ◌<◌, List, [], ◌∷◌, ◌++◌, length, refl, sym, ap, subst, ◌∙◌, append_assoc, arith, length-append}
+use Rattle.ft_query.proofs.Common.{By, Joint, Tree, phrase, chain, both, either, without, tree_of, terms_in, node_count, width, joined_sides, whole, AddsSpine}
 use Rattle.ft_query.specs.declared.walk.joint.By.TheVariants as by
-use Rattle.ft_query.specs.declared.walk.joint.Joint.{Joint}
-use Rattle.ft_query.specs.Trees.{Tree, phrase, chain, both, either, without, tree_of}
-use Rattle.ft_query.specs.Work.{terms_in, node_count, width}
-use Rattle.ft_query.specs.Spines.{joined_sides, whole, AddsSpine}
 
 -- the last joint is joined first
 pub whole_last : (js : List Joint) (j : Joint) (p : Tree) → whole (js ++ j ∷ []) p ≡ whole js (joined_sides p j.by (tree_of j.right.now))
@@ -30,9 +25,6 @@ some_width (both p q) = let one = some_width p in omega (arith, one)
 some_width (either p q) = let one = some_width p in omega (arith, one)
 some_width (without p q) = let one = some_width p in omega (arith, one)
 
-pub spine_begun : (js : List Joint) (p : Tree) → AddsSpine js js p p
-spine_begun js p = record { own = []; added = sym (append-nil js); all = refl }
-
 -- a left side's joint more
 pub spine_on : (old now new : List Joint) (j : Joint) (left : Tree) {query : Tree} → AddsSpine old now (joined_sides left j.by (tree_of j.right.now)) query
     → new ≡ now ++ j ∷ [] → AddsSpine old new left query
@@ -47,10 +39,7 @@ spine_alone js {part} {query} at = subst (λ l. whole l part ≡ query) (sym at.
 
 pub some_nodes : (t : Tree) → 1 ≤ node_count t
 some_nodes (phrase p) = omega arith
-some_nodes (chain p links) = omega arith
-some_nodes (both p q) = omega arith
-some_nodes (either p q) = omega arith
-some_nodes (without p q) = omega arith
+some_nodes _ = omega arith
 
 pub part_terms : (js : List Joint) (p : Tree) → length (terms_in p) ≤ length (terms_in (whole js p))
 part_terms [] p = omega arith

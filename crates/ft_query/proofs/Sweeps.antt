@@ -1,7 +1,7 @@
 -- A loop that changes each element of a list, one after the other.
-use Rattle.std.proofs.Common.{◌≡◌, ℕ, ◌+◌, ◌<◌, ◌≤◌, zero, suc, List, [], ◌∷◌, length, map, refl, subst, ap, ◌∙◌, arith}
-use Rattle.std.proofs.lemmas.List.{length-map}
-use Rattle.std.specs.Prelude.{slice_set, slice_index_or}
+use Rattle.std.proofs.Common.{◌≡◌, ℕ, ◌≤◌, List, [], ◌∷◌, refl, length, map, sym, ap, ◌∙◌, ◌+◌, ◌<◌, zero, suc, subst, arith, slice_set, slice_index_or}
+use Rattle.std.proofs.lemmas.Simd.{map-map}
+use Rattle.ft_query.proofs.Common.{Cursor, PlaceList, lists_left, lists_kept, length-map}
 
 -- the first i elements changed
 abbrev pub swept : {B : Type 0} → (B → B) → ℕ → List B → List B
@@ -45,3 +45,31 @@ module _ {A B : Type 0} (f : A → B) (g : B → B) where
   sweep_end xs ys i so_far enough =
       let many : length (map f ys) ≤ i = rw length-map enough in
       so_far ∙ all_swept g (map f ys) i many
+
+-- ---- where a walk and its search stand in the lists
+
+-- what the search has still to pass, and what the walk has
+abbrev pub both_lists : Cursor → List PlaceList × List PlaceList
+both_lists c = (lists_left c, lists_kept c)
+
+abbrev pub as_kept : List PlaceList × List PlaceList → List PlaceList × List PlaceList
+as_kept p = (p.1, p.1)
+
+abbrev pub as_left : List PlaceList × List PlaceList → List PlaceList × List PlaceList
+as_left p = (p.0, p.0)
+
+module _ (f g : List PlaceList × List PlaceList → List PlaceList) (h : List PlaceList × List PlaceList → List PlaceList × List PlaceList)
+    (same : (p : List PlaceList × List PlaceList) → f (h p) ≡ g p) where
+  each : (xs : List Cursor) → map (λ c. f (h (both_lists c))) xs ≡ map (λ c. g (both_lists c)) xs
+  each [] = refl
+  each (x ∷ xs) = ap (λ l. l ∷ map (λ c. f (h (both_lists c))) xs) (same (both_lists x)) ∙ ap (λ ls. g (both_lists x) ∷ ls) (each xs)
+
+  -- of all cursors at the end of the sweep
+  pub swept_all : (new old : List Cursor) (i : ℕ) → map both_lists new ≡ swept h i (map both_lists old) → length old ≤ i
+      → map (λ c. f (both_lists c)) new ≡ map (λ c. g (both_lists c)) old
+  swept_all new old i so_far enough =
+      sym (map-map f both_lists new)
+      ∙ ap (map f) (sweep_end both_lists h new old i so_far enough)
+      ∙ map-map f h (map both_lists old)
+      ∙ map-map (λ p. f (h p)) both_lists old
+      ∙ each old

@@ -1,15 +1,9 @@
 -- The terms of a part, token by token, and the number of a NEAR, digit by digit.
-use Rattle.std.proofs.Common.{◌≡◌, ℕ, ◌+◌, ◌<◌, ◌≤◌, List, [], ◌∷◌, length, map, refl, ap, arith}
-use Rattle.std.specs.Prelude.{◌==◌, All, slice_index, Option, Some, None}
-use Rattle.std.specs.List.{list_all, after_first}
+use Rattle.std.proofs.Common.{◌≡◌, ℕ, ◌+◌, ◌<◌, ◌≤◌, List, [], ◌∷◌, length, map, refl, ap, arith, ◌==◌, All, slice_index, Option, Some, None}
 use Rattle.std.specs.Char.{is_ascii_digit}
 use Rattle.std.specs.Str.{byte}
-use Rattle.std.proofs.lemmas.List.Elements.{All-head, All-tail}
+use Rattle.ft_query.proofs.Common.{list_all, after_first, All-head, All-tail, PlainToken, AreTokens, plain_token, PlainTerm, word, filter_on, follows_caret, terms_of, is_colon, words_after, is_digit_run, capped}
 use Rattle.ft_query.specs.declared.text.Token.{Token}
-use Rattle.ft_query.specs.Tokens.{PlainToken, AreTokens, plain_token}
-use Rattle.ft_query.specs.Trees.{PlainTerm}
-use Rattle.ft_query.specs.Lexemes.{word, filter_on, follows_caret, terms_of, is_colon, words_after, is_digit_run}
-use Rattle.ft_query.specs.Machine.{capped}
 
 -- the term that a token of the part is
 abbrev pub term_in : List ℕ → PlainToken → PlainTerm

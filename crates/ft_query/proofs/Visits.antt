@@ -1,18 +1,8 @@
 -- What the evaluation of a document answers.
-use Rattle.std.proofs.Common.{◌≡◌, Bool, true, false, cond, List, [], ◌∷◌, length, map, refl, sym, ap, ◌∙◌, arith}
+use Rattle.std.proofs.Common.{◌≡◌, Bool, true, false, cond, List, length, map, sym, ap, ◌∙◌, AllPairs, Option, Some, None, IsPermutation, IsSortedBy}
 use Rattle.std.proofs.lemmas.List.Sorted.{length_permutation}
-use Rattle.std.specs.Prelude.{AllPairs, Option, Some, None}
-use Rattle.std.specs.List.Sorted.{IsPermutation, IsSortedBy}
-use Rattle.ft_query.specs.declared.lists.place.Place.{Place}
-use Rattle.ft_query.specs.declared.walk.Offset.{Offset}
-use Rattle.ft_query.specs.declared.walk.visit.Wanted.{Wanted}
-use Rattle.ft_query.specs.declared.walk.visit.Wanted.TheVariants.{Docids, Offsets}
-use Rattle.ft_query.specs.Documents.{Posting, IsBefore}
-use Rattle.ft_query.specs.Trees.{Tree}
-use Rattle.ft_query.specs.Work.{terms_in}
-use Rattle.ft_query.specs.Occurs.{accepts, offsets_of}
-use Rattle.ft_query.specs.Visit.{listed_places, is_accepted, marks_of, numbered_offsets, precedes, if_wanted}
-use Rattle.ft_query.proofs.QueryPasses.{accepted_is, marked_is}
+use Rattle.ft_query.proofs.Common.{nil_from_length, Place, Offset, Wanted, Docids, Offsets, Posting, IsBefore, Tree, terms_in, accepts, offsets_of, listed_places, is_accepted, marks_of, numbered_offsets, precedes, if_wanted}
+use Rattle.ft_query.proofs.ChainPasses.{accepted_is, marked_is}
 use Rattle.ft_query.proofs.Sorting.{sorted_are}
 
 abbrev pub answer_of : Wanted → List Posting → Tree → Option (List Offset)
@@ -32,11 +22,8 @@ sorted_is : (wanted : Wanted) (postings : List Posting) (tree : Tree) (lists : L
     → lists ≡ map (listed_places postings) (terms_in tree)
     → marks ≡ numbered_offsets 0 (if_wanted wanted (marks_of tree lists)) → IsPermutation marks out → IsSortedBy precedes out
     → out ≡ if_wanted wanted (offsets_of postings tree)
-sorted_is Docids postings tree lists marks out ordered is marked permutation sorted = nothing out (length_permutation marks out permutation ∙ ap length marked)
-  where
-    nothing : (xs : List Offset) → length xs ≡ 0 → xs ≡ []
-    nothing [] none = refl
-    nothing (x ∷ xs) none = absurd (omega arith)
+sorted_is Docids postings tree lists marks out ordered is marked permutation sorted =
+    nil_from_length out (length_permutation marks out permutation ∙ ap length marked)
 sorted_is Offsets postings tree lists marks out ordered is marked permutation sorted =
     let taken_are = marked ∙ ap (λ ls. numbered_offsets 0 (marks_of tree ls)) is ∙ ap (numbered_offsets 0) (marked_is postings tree ordered) in
     sorted_are postings tree marks out ordered taken_are permutation sorted

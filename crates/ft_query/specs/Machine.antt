@@ -129,4 +129,4 @@ plain_last (last.NearFiltered l most column) = near_filtered (plain_phrase l.fir
 plain_last (last.Whole q) = whole (tree_of q)
 
 abbrev pub plain_state : CodeState → State
-plain_state s = record { waiting = plain_waiting s.waiting; outer = plain_outer s.outer.items; last = plain_last s.last }
+plain_state s = record { waiting = plain_waiting s.around.waiting; outer = plain_outer s.around.outer.items; last = plain_last s.last }

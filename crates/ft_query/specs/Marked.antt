@@ -3,15 +3,13 @@ use Rattle.std.specs.Prelude.{◌≡◌, ℕ, ◌+◌, ◌^◌, ◌<◌, ◌≤�
 use Rattle.std.specs.declared.alloc.AllocError.{AllocError}
 use Rattle.ft_query.specs.declared.lists.place.Place.{Place}
 use Rattle.ft_query.specs.declared.query.Chain.{Chain}
-use Rattle.ft_query.specs.declared.walk.places.Places.{Places}
-use Rattle.ft_query.specs.declared.walk.places.Starts.{Starts}
 use Rattle.ft_query.specs.declared.walk.visit.Found.{Found}
 use Rattle.ft_query.specs.declared.walk.visit.Wanted.{Wanted}
 use Rattle.ft_query.specs.Trees.{PlainTerm, Tree, chain, plain_phrase, plain_link}
 use Rattle.ft_query.specs.declared.walk.joint.By.{By}
 use Rattle.ft_query.specs.Work.{terms_in}
 use Rattle.ft_query.specs.Spines.{joined_answer, joined_marks}
-use Rattle.ft_query.specs.Visit.{is_accepted, marks_of, numbered_offsets, if_wanted, plain_lists, plain_starts, head_of}
+use Rattle.ft_query.specs.Visit.{Places, Starts, is_accepted, marks_of, numbered_offsets, if_wanted, plain_lists, plain_starts, head_of}
 
 -- a chain as a query of its own
 abbrev pub chain_tree : Chain → Tree
@@ -71,5 +69,5 @@ pub record IsEmpty (found : Found) (asked : Wanted) : Type 0 where
 
 -- the occurrences of a chain's first phrase, and from the last one back those of its other phrases
 pub record AreLinked (head : Starts) (behind : List Starts) (all : List (List Place)) : Type 0 where
-  pub first : head.places.items ≡ head_of all
+  pub first : head.items ≡ head_of all
   pub rest : plain_starts behind ≡ reverse (drop 1 all)

@@ -1,14 +1,16 @@
 -- Steps. How one document is evaluated: by passes over the lists of places of the query's terms,
 -- each from front to back (own choices).
 use Rattle.std.specs.Prelude.{ℕ, ℤ, ◌+◌, ◌*◌, ◌==◌, ◌&&◌, ◌||◌, Bool, true, false, not, nat_lt, if◌then◌else◌, List, [], ◌∷◌}
-use Rattle.std.specs.Prelude.{◌++◌, length, take, drop, map, filter, Option}
+use Rattle.std.specs.Prelude.{◌++◌, length, take, drop, map, filter, Option, Vec}
+use Rattle.std.specs.Borrow.{Bor}
+use Rattle.std.specs.declared.alloc.Global.{Global}
 use Rattle.std.specs.Ordering.{ordering_then, nat_cmp, match_ordering, is_lt}
 use Rattle.std.specs.declared.cmp.Ordering.{Ordering}
 use Rattle.ft_query.specs.declared.lists.place.Place.{Place}
 use Rattle.ft_query.specs.declared.walk.Offset.{Offset}
+use Rattle.ft_query.specs.declared.query.Link.{Link}
+use Rattle.ft_query.specs.declared.query.Phrase.{Phrase}
 use Rattle.ft_query.specs.declared.walk.cursor.Cursor.{Cursor}
-use Rattle.ft_query.specs.declared.walk.places.Places.{Places}
-use Rattle.ft_query.specs.declared.walk.places.Starts.{Starts}
 use Rattle.ft_query.specs.declared.walk.visit.Wanted.{Wanted}
 use Rattle.ft_query.specs.declared.walk.visit.Wanted.TheVariants.{Docids, Offsets}
 use Rattle.ft_query.specs.Documents.{Posting, is_filled}
@@ -16,6 +18,13 @@ use Rattle.ft_query.specs.Trees.{PlainTerm, PlainPhrase, PlainLink, Tree, phrase
 use Rattle.ft_query.specs.Occurs.{is_listed, is_within, are_near}
 use Rattle.ft_query.specs.Work.{terms_in}
 use Rattle.ft_query.specs.Cursors.{lists_left, places_at}
+
+-- places that are referred to, and a phrase's occurrences, each by the place of its first token
+abbrev pub Places : Type 0
+Places = Bor (List Place)
+
+abbrev pub Starts : Type 0
+Starts = Vec Place Global
 
 -- ---- passes over places
 
@@ -86,6 +95,11 @@ marks_from i (l ∷ ls) starts = among 0 i l starts ∷ marks_from (i + 1) ls st
 
 -- ---- chains
 
+-- the last phrase of a chain
+abbrev pub last_of : Phrase → List Link → Phrase
+last_of first [] = first
+last_of first (link ∷ links) = last_of link.to links
+
 -- the first phrase's
 abbrev pub head_of : List (List Place) → List Place
 head_of [] = []
@@ -143,7 +157,7 @@ numbered_offsets n (m ∷ ms) = map (offset_at n) m ++ numbered_offsets (n + 1) 
 
 -- the occurrences of each of some phrases
 abbrev pub plain_starts : List Starts → List (List Place)
-plain_starts all = map (λ s. s.places.items) all
+plain_starts all = map (λ s. s.items) all
 
 -- by column, then by place, then by term number
 abbrev pub precedes : Offset → Offset → Bool
@@ -151,7 +165,7 @@ precedes a b = is_lt (ordering_then (ordering_then (nat_cmp a.column b.column) (
 
 -- the lists behind these references
 abbrev pub plain_lists : List Places → List (List Place)
-plain_lists lists = map (λ l. l.places.now) lists
+plain_lists lists = map (λ l. l.now) lists
 
 -- what a term's list answers for a document: its places in every position
 abbrev pub listed_places : List Posting → PlainTerm → List Place

@@ -101,19 +101,12 @@ fn operator_of(chunk: &str) -> Option<Lexeme>
         (λ l. (columns : List (List ℕ))
         → map capped (lexemes_of_chunk columns chunk.now) ≡ plain_lexeme l ∷ []) }
 {
-    if chunk == "AND" {
-        Some(Lexeme::And)
-    } else if chunk == "OR" {
-        Some(Lexeme::Or)
-    } else if chunk == "NOT" {
-        Some(Lexeme::Not)
-    } else if chunk == "NEAR" {
-        Some(Lexeme::Near(10))
-    } else {
-        match near_number(chunk) {
-            None => None,
-            Some(most) => Some(Lexeme::Near(most)),
-        }
+    match chunk {
+        "AND" => Some(Lexeme::And),
+        "OR" => Some(Lexeme::Or),
+        "NOT" => Some(Lexeme::Not),
+        "NEAR" => Some(Lexeme::Near(10)),
+        _ => near_number(chunk).map(Lexeme::Near),
     }
 }
 

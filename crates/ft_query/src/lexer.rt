@@ -71,14 +71,8 @@ pub fn lexemes_of(
     let mut in_quote = false;
     for (place, byte) in text.as_bytes().iter().enumerate() {
         if ends_part(in_quote, *byte) {
-            push_part(
-                alloc,
-                columns,
-                &mut found,
-                &text[start..place],
-                in_quote,
-                *byte,
-            )?;
+            let part = &text[start..place];
+            push_part(alloc, columns, &mut found, part, in_quote, *byte)?;
             in_quote = begins_quote(in_quote, *byte);
             start = place + 1;
         }

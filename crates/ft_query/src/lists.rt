@@ -8,6 +8,7 @@ mod doc_list;
 mod place;
 
 pub use doc_list::DocList;
+pub(crate) use place::Gap;
 pub use place::Place;
 use std::alloc::{AllocError, AllocFailed, Global};
 use thiserror::Error;

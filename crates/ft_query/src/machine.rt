@@ -1,11 +1,13 @@
 //! One pass over the lexemes, with a stack of what waits for a right side.
 ghost use Rattle.std.specs.Prelude.{◌≡◌, [], ◌∷◌, ◌++◌, map, option_map, IfOk};
-ghost use Rattle.ft_query.specs.Trees.{plain_phrase, plain_link, tree_of, tree_of_chain, both, either, without};
+ghost use Rattle.ft_query.specs.Trees.{plain_phrase, plain_link, tree_of, tree_of_chain};
+ghost use Rattle.ft_query.specs.Spines.{joined_sides};
 ghost use Rattle.ft_query.specs.Pass.{chained, operator, nothing_waits, last_state, join, or_whole, not_state, and_state, or_state, begin, close, after_operand, phrase_of, pass_step, finish, tree_from};
 ghost use Rattle.ft_query.specs.Machine.{plain_lexeme, plain_waiting, plain_outer, plain_last, plain_state};
 
 use crate::lexeme::Lexeme;
 use crate::query::{Chain, Link, Phrase, Query};
+use crate::walk::By;
 use std::alloc::{AllocError, Global};
 
 // The left sides that wait for a right one, at each level.
@@ -35,12 +37,17 @@ pub enum Last {
     Whole(Query),
 }
 
-// The left sides in this parenthesis, those in the parentheses around it, the outermost first, and
-// what was read last.
+// The left sides in this parenthesis, and those in the parentheses around it, the outermost first.
 #[derive(Drop)]
-pub struct State {
+pub struct Around {
     pub waiting: Waiting,
     pub outer: Vec<Waiting>,
+}
+
+// The left sides, and what was read last.
+#[derive(Drop)]
+pub struct State {
+    pub around: Around,
     pub last: Last,
 }
 
@@ -67,13 +74,13 @@ pub fn query_from(
 fn begun(outer: Vec<Waiting>) -> State
     ensures { plain_state result ≡ last_state nothing_waits (plain_outer outer.items) operator }
 {
+    let waiting = Waiting {
+        or_left: None,
+        and_left: None,
+        not_left: None,
+    };
     State {
-        waiting: Waiting {
-            or_left: None,
-            and_left: None,
-            not_left: None,
-        },
-        outer,
+        around: Around { waiting, outer },
         last: Last::Operator,
     }
 }
@@ -86,25 +93,19 @@ fn step(
     lexeme: Lexeme,
 ) -> Result<Option<State>, AllocError>
     ensures { IfOk result (λ next. option_map plain_state next
-        ≡ pass_step default (plain_waiting state.waiting) (plain_outer state.outer.items)
-        (plain_last state.last) (plain_lexeme lexeme)) }
+        ≡ pass_step default (plain_waiting state.around.waiting)
+        (plain_outer state.around.outer.items) (plain_last state.last) (plain_lexeme lexeme)) }
 {
-    let State {
-        waiting,
-        outer,
-        last,
-    } = state;
+    let State { around, last } = state;
     let last = match last {
-        Last::Operator => return begin(alloc, default, waiting, outer, lexeme),
-        Last::Whole(operand) => {
-            return after_operand(alloc, default, waiting, outer, operand, lexeme);
-        }
+        Last::Operator => return begin(alloc, default, around, lexeme),
+        Last::Whole(operand) => return after_operand(alloc, default, around, operand, lexeme),
         Last::Filtered(column) => first_phrase(alloc, Some(column), lexeme)?,
         Last::Chained(chain) => match lexeme {
             Lexeme::Near(most) => Some(Last::NearTo(chain, most)),
             other => {
                 let operand = query_of_chain(chain);
-                return after_operand(alloc, default, waiting, outer, operand, other);
+                return after_operand(alloc, default, around, operand, other);
             }
         },
         Last::NearTo(chain, most) => match lexeme {
@@ -115,24 +116,21 @@ fn step(
             next_phrase(alloc, chain, most, Some(column), lexeme)?
         }
     };
-    Ok(last.map(|last| State {
-        waiting,
-        outer,
-        last,
-    }))
+    Ok(last.map(|last| State { around, last }))
 }
 
 // An operand begins with this lexeme, if one can.
 fn begin(
     alloc: Global,
     default: Option<usize>,
-    waiting: Waiting,
-    mut outer: Vec<Waiting>,
+    around: Around,
     lexeme: Lexeme,
 ) -> Result<Option<State>, AllocError>
     ensures { IfOk result (λ next. option_map plain_state next
-        ≡ begin default (plain_waiting waiting) (plain_outer outer.items) (plain_lexeme lexeme)) }
+        ≡ begin default (plain_waiting around.waiting) (plain_outer around.outer.items)
+        (plain_lexeme lexeme)) }
 {
+    let Around { waiting, mut outer } = around;
     let last = match lexeme {
         Lexeme::Open => {
             outer.push(waiting)?;
@@ -141,11 +139,8 @@ fn begin(
         Lexeme::Filter(column) => Some(Last::Filtered(column)),
         other => first_phrase(alloc, default, other)?,
     };
-    Ok(last.map(|last| State {
-        waiting,
-        outer,
-        last,
-    }))
+    let around = Around { waiting, outer };
+    Ok(last.map(|last| State { around, last }))
 }
 
 // A chain begins with this lexeme, if it is a phrase.
@@ -157,50 +152,43 @@ fn first_phrase(
     ensures { IfOk result (λ last. option_map plain_last last
         ≡ option_map (λ p. chained p []) (phrase_of column (plain_lexeme lexeme))) }
 {
-    match phrase_of(alloc, column, lexeme)? {
-        None => Ok(None),
-        Some(first) => Ok(Some(Last::Chained(Linked {
-            first,
-            links: Vec::new(alloc),
-        }))),
-    }
+    let Some(first) = phrase_of(alloc, column, lexeme)? else {
+        return Ok(None);
+    };
+    let links = Vec::new(alloc);
+    Ok(Some(Last::Chained(Linked { first, links })))
 }
 
-// The phrase that a word or a quoted part is in this column.
+// The phrase that a word or a quoted part is, with this filter.
 fn phrase_of(
     alloc: Global,
-    column: Option<usize>,
+    filter: Option<usize>,
     lexeme: Lexeme,
 ) -> Result<Option<Phrase>, AllocError>
     ensures { IfOk result (λ p. option_map plain_phrase p
-        ≡ phrase_of column (plain_lexeme lexeme)) }
+        ≡ phrase_of filter (plain_lexeme lexeme)) }
 {
-    match lexeme {
-        Lexeme::Word(term) => Ok(Some(Phrase {
-            filter: column,
-            terms: vec![in alloc; term]?,
-        })),
-        Lexeme::Quoted(terms) => Ok(Some(Phrase {
-            filter: column,
-            terms,
-        })),
-        _ => Ok(None),
-    }
+    let terms = match lexeme {
+        Lexeme::Word(term) => vec![in alloc; term]?,
+        Lexeme::Quoted(terms) => terms,
+        _ => return Ok(None),
+    };
+    Ok(Some(Phrase { filter, terms }))
 }
 
 // A lexeme after an operand, where it isn't a NEAR that belongs to it.
 fn after_operand(
     alloc: Global,
     default: Option<usize>,
-    waiting: Waiting,
-    outer: Vec<Waiting>,
+    around: Around,
     operand: Query,
     lexeme: Lexeme,
 ) -> Result<Option<State>, AllocError>
     ensures { IfOk result (λ next. option_map plain_state next
-        ≡ after_operand default (plain_waiting waiting) (plain_outer outer.items) (tree_of operand)
-        (plain_lexeme lexeme)) }
+        ≡ after_operand default (plain_waiting around.waiting) (plain_outer around.outer.items)
+        (tree_of operand) (plain_lexeme lexeme)) }
 {
+    let Around { waiting, outer } = around;
     let waiting = match lexeme {
         Lexeme::Close => return Ok(close(outer, whole(alloc, waiting, operand)?)),
         Lexeme::And => after_and(alloc, waiting, operand)?,
@@ -208,14 +196,12 @@ fn after_operand(
         Lexeme::Not => after_not(alloc, waiting, operand)?,
         other => {
             let waiting = after_and(alloc, waiting, operand)?;
-            return begin(alloc, default, waiting, outer, other);
+            return begin(alloc, default, Around { waiting, outer }, other);
         }
     };
-    Ok(Some(State {
-        waiting,
-        outer,
-        last: Last::Operator,
-    }))
+    let around = Around { waiting, outer };
+    let last = Last::Operator;
+    Ok(Some(State { around, last }))
 }
 
 // The operand in a parenthesis is whole, and so is the parenthesis.
@@ -223,53 +209,35 @@ fn close(mut outer: Vec<Waiting>, operand: Query) -> Option<State>
     ensures { option_map plain_state result ≡ close (plain_outer outer.items) (tree_of operand) }
 {
     let waiting = outer.pop()?;
-    Some(State {
-        waiting,
-        outer,
-        last: Last::Whole(operand),
-    })
+    let around = Around { waiting, outer };
+    let last = Last::Whole(operand);
+    Some(State { around, last })
 }
 
 // The whole of what waits and the operand.
 fn whole(alloc: Global, waiting: Waiting, operand: Query) -> Result<Query, AllocError>
     ensures { IfOk result (λ q. tree_of q ≡ or_whole (plain_waiting waiting) (tree_of operand)) }
 {
-    let Waiting {
-        or_left,
-        and_left,
-        not_left,
-    } = waiting;
-    let right = joined_by_not(alloc, not_left, operand)?;
-    let right = joined_by_and(alloc, and_left, right)?;
-    joined_by_or(alloc, or_left, right)
+    let right = joined(alloc, By::Not, waiting.not_left, operand)?;
+    let both = joined(alloc, By::And, waiting.and_left, right)?;
+    joined(alloc, By::Or, waiting.or_left, both)
 }
 
-fn joined_by_not(alloc: Global, left: Option<Query>, right: Query) -> Result<Query, AllocError>
-    ensures { IfOk result (λ q. tree_of q ≡ join without (option_map tree_of left)
-        (tree_of right)) }
+// Both sides joined so, or the right one alone.
+fn joined(alloc: Global, by: By, left: Option<Query>, right: Query) -> Result<Query, AllocError>
+    ensures { IfOk result (λ q. tree_of q
+        ≡ join (λ l r. joined_sides l by r) (option_map tree_of left) (tree_of right)) }
 {
-    match left {
-        None => Ok(right),
-        Some(left) => Ok(Query::Not(Box::new(alloc, left)?, Box::new(alloc, right)?)),
-    }
-}
-
-fn joined_by_and(alloc: Global, left: Option<Query>, right: Query) -> Result<Query, AllocError>
-    ensures { IfOk result (λ q. tree_of q ≡ join both (option_map tree_of left) (tree_of right)) }
-{
-    match left {
-        None => Ok(right),
-        Some(left) => Ok(Query::And(Box::new(alloc, left)?, Box::new(alloc, right)?)),
-    }
-}
-
-fn joined_by_or(alloc: Global, left: Option<Query>, right: Query) -> Result<Query, AllocError>
-    ensures { IfOk result (λ q. tree_of q ≡ join either (option_map tree_of left) (tree_of right)) }
-{
-    match left {
-        None => Ok(right),
-        Some(left) => Ok(Query::Or(Box::new(alloc, left)?, Box::new(alloc, right)?)),
-    }
+    let Some(left) = left else {
+        return Ok(right);
+    };
+    let left = Box::new(alloc, left)?;
+    let right = Box::new(alloc, right)?;
+    Ok(match by {
+        By::And => Query::And(left, right),
+        By::Or => Query::Or(left, right),
+        By::Not => Query::Not(left, right),
+    })
 }
 
 // What waits after the operand and AND.
@@ -277,15 +245,10 @@ fn after_and(alloc: Global, waiting: Waiting, operand: Query) -> Result<Waiting,
     ensures { IfOk result (λ w. plain_waiting w
         ≡ (and_state (plain_waiting waiting) [] (tree_of operand)).waiting) }
 {
-    let Waiting {
-        or_left,
-        and_left,
-        not_left,
-    } = waiting;
-    let right = joined_by_not(alloc, not_left, operand)?;
-    let left = joined_by_and(alloc, and_left, right)?;
+    let right = joined(alloc, By::Not, waiting.not_left, operand)?;
+    let left = joined(alloc, By::And, waiting.and_left, right)?;
     Ok(Waiting {
-        or_left,
+        or_left: waiting.or_left,
         and_left: Some(left),
         not_left: None,
     })
@@ -309,16 +272,10 @@ fn after_not(alloc: Global, waiting: Waiting, operand: Query) -> Result<Waiting,
     ensures { IfOk result (λ w. plain_waiting w
         ≡ (not_state (plain_waiting waiting) [] (tree_of operand)).waiting) }
 {
-    let Waiting {
-        or_left,
-        and_left,
-        not_left,
-    } = waiting;
-    let left = joined_by_not(alloc, not_left, operand)?;
+    let left = joined(alloc, By::Not, waiting.not_left, operand)?;
     Ok(Waiting {
-        or_left,
-        and_left,
         not_left: Some(left),
+        ..waiting
     })
 }
 
@@ -348,28 +305,22 @@ fn next_phrase(
         (map plain_link chain.links.items ++ record { most = most; to = q } ∷ []))
         (phrase_of column (plain_lexeme lexeme))) }
 {
+    let Some(to) = phrase_of(alloc, column, lexeme)? else {
+        return Ok(None);
+    };
     let Linked { first, mut links } = chain;
-    match phrase_of(alloc, column, lexeme)? {
-        None => Ok(None),
-        Some(to) => {
-            links.push(Link { most, to })?;
-            Ok(Some(Last::Chained(Linked { first, links })))
-        }
-    }
+    links.push(Link { most, to })?;
+    Ok(Some(Last::Chained(Linked { first, links })))
 }
 
 // The query of a state after which nothing comes, if it has one.
 fn finish(alloc: Global, state: State) -> Result<Option<Query>, AllocError>
     ensures { IfOk result (λ q. option_map tree_of q
-        ≡ finish (plain_waiting state.waiting) (plain_outer state.outer.items)
+        ≡ finish (plain_waiting state.around.waiting) (plain_outer state.around.outer.items)
         (plain_last state.last)) }
 {
-    let State {
-        waiting,
-        outer,
-        last,
-    } = state;
-    if !outer.is_empty() {
+    let State { around, last } = state;
+    if !around.outer.is_empty() {
         return Ok(None);
     }
     let operand = match last {
@@ -377,5 +328,5 @@ fn finish(alloc: Global, state: State) -> Result<Option<Query>, AllocError>
         Last::Whole(operand) => operand,
         _ => return Ok(None),
     };
-    Ok(Some(whole(alloc, waiting, operand)?))
+    Ok(Some(whole(alloc, around.waiting, operand)?))
 }

@@ -17,6 +17,14 @@ pub struct Place {
     size: u32,
 }
 
+/// How near an occurrence of k terms and one of m have to be: with at most so many tokens between.
+#[derive(Clone, Copy)]
+pub(crate) struct Gap {
+    pub(crate) k: usize,
+    pub(crate) m: usize,
+    pub(crate) most: usize,
+}
+
 impl Place {
     pub fn new(column: u32, pos: u32, start: u32, size: u32) -> Place
         ensures { result ≡ record { column = column; pos = pos; start = start; size = size } }
@@ -49,35 +57,28 @@ impl Place {
     }
 
     /// This occurrence, of k terms, ends too far before the other one to be near it.
-    pub(crate) fn is_behind(&self, k: usize, other: &Place, most: usize, steps: &mut Steps) -> bool
-        ensures behind { result ≡ is_behind most k self.now other.now }
+    pub(crate) fn is_behind(&self, gap: Gap, other: &Place, steps: &mut Steps) -> bool
+        ensures behind { result ≡ is_behind gap.most gap.k self.now other.now }
         ensures step { TakesSteps 1 steps.old steps.new }
     {
-        let last = self.look(steps) as u128 + k as u128 + most as u128;
+        let last = self.look(steps) as u128 + gap.k as u128 + gap.most as u128;
         self.column < other.column || self.column == other.column && last < other.pos as u128
     }
 
     /// This occurrence, of k terms, and the other one, of m terms, are near: they stand in one
     /// column, don't end at the same token, and have at most so many tokens between them.
-    pub(crate) fn is_near(
-        &self,
-        k: usize,
-        other: &Place,
-        m: usize,
-        most: usize,
-        steps: &mut Steps,
-    ) -> bool
-        ensures near { result ≡ are_near most k self.now m other.now }
+    pub(crate) fn is_near(&self, gap: Gap, other: &Place, steps: &mut Steps) -> bool
+        ensures near { result ≡ are_near gap.most gap.k self.now gap.m other.now }
         ensures step { TakesSteps 1 steps.old steps.new }
     {
         let pos = self.look(steps) as u128;
-        let end = pos + k as u128;
+        let end = pos + gap.k as u128;
         let other_pos = other.pos as u128;
-        let other_end = other_pos + m as u128;
+        let other_end = other_pos + gap.m as u128;
         let between = other_pos
             .saturating_sub(end)
             .max(pos.saturating_sub(other_end));
-        self.column == other.column && end != other_end && between <= most as u128
+        self.column == other.column && end != other_end && between <= gap.most as u128
     }
 
     /// A phrase with this filter may begin here, where its first term may want position 0.

@@ -5,9 +5,8 @@ ghost use Rattle.ft_query.specs.Cursors.{lists_left, lists_kept, docid_ahead, is
 ghost use Rattle.ft_query.specs.Sought.{StandsAt, SearchesOn};
 ghost use Rattle.ft_query.specs.Taken.{TakesSteps, LooksForNext};
 
-use crate::lists::DocList;
+use crate::lists::{DocList, Place};
 use crate::walk::Steps;
-use crate::walk::places::Places;
 use std::alloc::{AllocError, Global};
 use std::rc::Rc;
 
@@ -80,12 +79,12 @@ impl Cursor {
     }
 
     /// The places in the next document, if there is one. No docid is looked at.
-    pub(super) fn here(&self) -> Places<'_>
-        ensures { result.places.now ≡ next_places (lists_left self.now) }
+    pub(super) fn here(&self) -> &[Place]
+        ensures { result.now ≡ next_places (lists_left self.now) }
     {
         match self.lists.get(self.at) {
-            Some(list) => Places::new(list.places()),
-            None => Places::new(&[]),
+            Some(list) => list.places(),
+            None => &[],
         }
     }
 

@@ -3,7 +3,7 @@ ghost use Rattle.std.specs.Prelude.{◌≡◌, ◌≤◌, None, map, length, IfO
 ghost use Rattle.ft_query.specs.Trees.{tree_of};
 ghost use Rattle.ft_query.specs.Work.{terms_in};
 ghost use Rattle.ft_query.specs.Cursors.{lists_left, lists_kept, passed, least_of, least_from};
-ghost use Rattle.ft_query.specs.Search.{walk_at, stands_at, ConsidersNext, FindsNext};
+ghost use Rattle.ft_query.specs.Search.{walk_at, stands_at, FindsNext};
 ghost use Rattle.ft_query.specs.Sought.{SearchesOn, AllSearchOn};
 ghost use Rattle.ft_query.specs.Taken.{TakesSteps, LooksForNext, LooksAtAll};
 
@@ -12,14 +12,6 @@ use crate::walk::cursor::Cursor;
 use crate::walk::visit::{Wanted, visit};
 use crate::walk::{Hit, Steps};
 use std::alloc::{AllocError, Global};
-
-/// What became of the next document.
-#[derive(Drop)]
-enum Considered {
-    NoDocument,
-    Passed,
-    Found(Hit),
-}
 
 impl Cursor {
     // The lesser of this docid and the next one here, which is looked at if there is one.
@@ -70,32 +62,6 @@ fn pass(cursors: &mut [Cursor], docid: i64, steps: &mut Steps)
     }
 }
 
-// Considers the next document that has one of the query's terms, and goes on past it.
-fn consider(
-    alloc: Global,
-    query: &Query,
-    cursors: &mut [Cursor],
-    wanted: Wanted,
-    steps: &mut Steps,
-) -> Result<Considered, AllocError>
-    requires { length cursors.old ≡ length (terms_in (tree_of query.now)) }
-    ensures kept { map lists_kept cursors.new ≡ map lists_kept cursors.old }
-    ensures considers { IfOk result
-        (ConsidersNext wanted (walk_at query.now cursors.old steps.old.taken)
-        (walk_at query.now cursors.new steps.new.taken)) }
-    ensures rise { steps.old.taken ≤ steps.new.taken }
-{
-    let Some(docid) = least(cursors, steps) else {
-        return Ok(Considered::NoDocument);
-    };
-    let offsets = visit(alloc, query, cursors, docid, wanted, steps)?;
-    pass(cursors, docid, steps);
-    match offsets {
-        Some(offsets) => Ok(Considered::Found(Hit { docid, offsets })),
-        None => Ok(Considered::Passed),
-    }
-}
-
 // Begins a search where the walk stands.
 fn begin(cursors: &mut [Cursor])
     ensures { AllSearchOn cursors.old cursors.new (map lists_kept cursors.old) }
@@ -114,8 +80,8 @@ fn keep(cursors: &mut [Cursor])
     }
 }
 
-// The next document that the query accepts, without offsets where they aren't wanted. The search
-// then stands after it.
+// Goes on past the documents that have one of the query's terms, in their order, up to the first one
+// that it accepts: that one, without offsets where they aren't wanted.
 fn search_on(
     alloc: Global,
     query: &Query,
@@ -130,13 +96,14 @@ fn search_on(
         (walk_at query.now cursors.new steps.new.taken)) }
     ensures rise { steps.old.taken ≤ steps.new.taken }
 {
-    loop {
-        match consider(alloc, query, cursors, wanted, steps)? {
-            Considered::NoDocument => return Ok(None),
-            Considered::Found(hit) => return Ok(Some(hit)),
-            Considered::Passed => {}
+    while let Some(docid) = least(cursors, steps) {
+        let offsets = visit(alloc, query, cursors, docid, wanted, steps)?;
+        pass(cursors, docid, steps);
+        if let Some(offsets) = offsets {
+            return Ok(Some(Hit { docid, offsets }));
         }
     }
+    Ok(None)
 }
 
 #[tactic(auto, using(crate::proofs::Finding::kept_on))]

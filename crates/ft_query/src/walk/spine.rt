@@ -55,7 +55,7 @@ pub(crate) fn spine_of<'q>(
     Ok((leaf, joints))
 }
 
-#[tactic(auto, using(crate::proofs::Marks::count_more))]
+#[tactic(auto, using(crate::proofs::Passes::count_more))]
 /// How many terms a chain has. Each of its phrases after the first one is a step.
 pub(crate) fn chain_count(near: &Chain, steps: &mut Steps) -> usize
     requires { length (terms_in (chain_tree near.now)) < 2 ^ 64 }

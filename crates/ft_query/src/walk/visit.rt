@@ -9,57 +9,35 @@ ghost use Rattle.ft_query.specs.Marked.{chain_tree, own_lists, lists_after, AreN
 ghost use Rattle.ft_query.specs.Spines.{leaf_tree};
 ghost use Rattle.ft_query.specs.Taken.{more_steps, TakesSteps, TakesAtMost, TakesOf, LooksForAll};
 ghost use Rattle.ft_query.specs.Work.{terms_in, node_count, width};
-ghost use Rattle.ft_query.specs.Visit.{among, followed, if_wanted, starts_of, marks_from, linked, link_marks, plain_starts, plain_lists, listed_places, precedes, places_in, total, linked_cost, link_cost, visit_cost};
+ghost use Rattle.ft_query.specs.Visit.{followed, last_of, if_wanted, starts_of, marks_from, linked, link_marks, plain_starts, plain_lists, listed_places, precedes, places_in, total, linked_cost, link_cost, visit_cost};
 
+use crate::lists::{Gap, Place};
 use crate::query::{Chain, Link, Phrase, Query, QueryTerm};
 use crate::walk::cursor::Cursor;
 use crate::walk::joint::{By, Joint};
-use crate::walk::places::{Places, Starts};
 use crate::walk::spine::{Leaf, add_spine, chain_count, term_count};
+use crate::walk::starts::{are_filled, begin, followed, mark, near_those};
 use crate::walk::{Offset, Steps};
 use std::alloc::{AllocError, Global};
-
-// Of these occurrences the ones that this term follows after i positions, which has this list. A
-// first term follows nothing.
-fn follow_one(
-    alloc: Global,
-    starts: &Starts,
-    i: usize,
-    term: &QueryTerm,
-    list: Places<'_>,
-    steps: &mut Steps,
-) -> Result<Starts, AllocError>
-    ensures starts { IfOk result (λ s. s.places.items
-        ≡ (if term.now.first then [] else among i 0 starts.now.places.items
-        list.entry.places.now)) }
-    ensures steps { TakesAtMost (length starts.now.places.items + length list.entry.places.now)
-        steps.old steps.new }
-{
-    if term.first {
-        Ok(Starts::none(alloc))
-    } else {
-        starts.followed(alloc, i, list, steps)
-    }
-}
 
 // Of these occurrences of a phrase's first term the ones that its other terms follow, which have
 // these lists.
 fn follow(
     alloc: Global,
-    first: Starts,
+    first: Vec<Place>,
     terms: &[QueryTerm],
-    lists: &[Places<'_>],
+    lists: &[&[Place]],
     steps: &mut Steps,
-) -> Result<Starts, AllocError>
+) -> Result<Vec<Place>, AllocError>
     requires { length lists.now ≡ length terms.now }
-    ensures starts { IfOk result (λ s. s.places.items
-        ≡ followed 1 (map plain_term terms.now) (plain_lists lists.now) first.places.items) }
-    ensures steps { TakesAtMost (length first.places.items + 2 * total (plain_lists lists.now))
+    ensures starts { IfOk result (λ s. s.items
+        ≡ followed 1 (map plain_term terms.now) (plain_lists lists.now) first.items) }
+    ensures steps { TakesAtMost (length first.items + 2 * total (plain_lists lists.now))
         steps.old steps.new }
 {
     let mut starts = first;
     for (i, term) in terms.iter().enumerate() {
-        starts = follow_one(alloc, &starts, i + 1, term, lists[i], steps)?;
+        starts = followed(alloc, &starts, i + 1, term, lists[i], steps)?;
     }
     Ok(starts)
 }
@@ -69,21 +47,21 @@ fn follow(
 fn starts_of(
     alloc: Global,
     phrase: &Phrase,
-    lists: &[Places<'_>],
+    lists: &[&[Place]],
     steps: &mut Steps,
-) -> Result<Starts, AllocError>
+) -> Result<Vec<Place>, AllocError>
     requires { length lists.now ≡ vec_len phrase.now.terms }
-    ensures starts { IfOk result (λ s. s.places.items
+    ensures starts { IfOk result (λ s. s.items
         ≡ starts_of (plain_phrase phrase.now) (plain_lists lists.now)) }
     ensures steps { TakesAtMost (2 * total (plain_lists lists.now)) steps.old steps.new }
 {
     let Some((term, terms)) = phrase.terms.split_first() else {
-        return Ok(Starts::none(alloc));
+        return Ok(Vec::new(alloc));
     };
     let Some((list, lists)) = lists.split_first() else {
-        return Ok(Starts::none(alloc));
+        return Ok(Vec::new(alloc));
     };
-    let first = Starts::begin(alloc, *list, phrase.filter, term.first, steps)?;
+    let first = begin(alloc, list, phrase.filter, term.first, steps)?;
     follow(alloc, first, terms, lists, steps)
 }
 
@@ -93,7 +71,7 @@ fn starts_of(
 fn occurs(
     alloc: Global,
     phrase: &Phrase,
-    lists: &[Places<'_>],
+    lists: &[&[Place]],
     steps: &mut Steps,
 ) -> Result<bool, AllocError>
     requires { length lists.now ≡ vec_len phrase.now.terms }
@@ -103,11 +81,11 @@ fn occurs(
 {
     if let ([term], [list]) = (phrase.terms.as_slice(), lists) {
         if phrase.filter.is_none() && !term.first {
-            return Ok(list.are_filled());
+            return Ok(are_filled(list));
         }
     }
     let starts = starts_of(alloc, phrase, lists, steps)?;
-    Ok(starts.are_filled())
+    Ok(are_filled(&starts))
 }
 
 /// What is asked of a document that is accepted: its docid alone, or also its offsets.
@@ -142,22 +120,32 @@ fn no_offsets(alloc: Global, wanted: Wanted) -> Found
 // Adds the offsets of a phrase's terms, which have these lists, in its occurrences.
 fn mark_phrase(
     found: &mut Found,
-    starts: &Starts,
-    lists: &[Places<'_>],
+    starts: &Vec<Place>,
+    lists: &[&[Place]],
     steps: &mut Steps,
 ) -> Result<(), AllocError>
     requires { found.old.next + length lists.now < 2 ^ 64 }
     ensures marks { Marks result found.old found.new
-        (marks_from 0 (plain_lists lists.now) starts.now.places.items) (length lists.now) }
+        (marks_from 0 (plain_lists lists.now) starts.now.items) (length lists.now) }
     ensures steps { TakesAtMost
-        (total (plain_lists lists.now) + length lists.now * length starts.now.places.items)
+        (total (plain_lists lists.now) + length lists.now * length starts.now.items)
         steps.old steps.new }
 {
     for (i, list) in lists.iter().enumerate() {
-        starts.mark(&mut found.offsets, found.next, i, *list, steps)?;
+        mark(&mut found.offsets, found.next, starts, i, list, steps)?;
         found.next += 1;
     }
     Ok(())
+}
+
+// The last phrase of a chain.
+fn last_of<'q>(first: &'q Phrase, links: &'q [Link]) -> &'q Phrase
+    ensures { result.now ≡ last_of first.now links.now }
+{
+    match links.split_last() {
+        Some((link, _)) => &link.to,
+        None => first,
+    }
 }
 
 // For each phrase of a chain its occurrences that are near one of the next phrase's here: those of
@@ -165,35 +153,31 @@ fn mark_phrase(
 // text can join more than a thousand phrases by NEAR.
 fn linked(
     alloc: Global,
-    first: &Phrase,
-    links: &[Link],
-    lists: &[Places<'_>],
+    near: &Chain,
+    lists: &[&[Place]],
     steps: &mut Steps,
-) -> Result<(Starts, Vec<Starts>), AllocError>
-    requires { length lists.now ≡ length (terms_in
-        (chain (plain_phrase first.now) (map plain_link links.now))) }
-    ensures starts { IfOk result (λ r. AreLinked r.0 r.1.items
-        (linked (plain_phrase first.now) (map plain_link links.now) (plain_lists lists.now))) }
-    ensures steps { TakesAtMost (linked_cost (plain_phrase first.now) (map plain_link links.now)
-        (plain_lists lists.now)) steps.old steps.new }
+) -> Result<(Vec<Place>, Vec<Vec<Place>>), AllocError>
+    requires { length lists.now ≡ length (terms_in (chain_tree near.now)) }
+    ensures starts { IfOk result (λ r. AreLinked r.0 r.1.items (linked
+        (plain_phrase near.now.first) (map plain_link near.now.links.items)
+        (plain_lists lists.now))) }
+    ensures steps { TakesAtMost (linked_cost (plain_phrase near.now.first)
+        (map plain_link near.now.links.items) (plain_lists lists.now)) steps.old steps.new }
 {
-    let last = match links.split_last() {
-        Some((link, _)) => &link.to,
-        None => first,
-    };
+    let mut left = near.links.as_slice();
+    let last = last_of(&near.first, left);
     let (mut front, own) = lists.split_at(lists.len() - last.terms.len());
     let mut next = starts_of(alloc, last, own, steps)?;
     let mut rest = Vec::new(alloc);
-    let mut left = links;
     while let Some((link, before)) = left.split_last() {
-        let phrase = match before.split_last() {
-            Some((link, _)) => &link.to,
-            None => first,
-        };
+        let phrase = last_of(&near.first, before);
         let size = phrase.terms.len();
         let (ahead, own) = front.split_at(front.len() - size);
         let starts = starts_of(alloc, phrase, own, steps)?;
-        let kept = next.near(alloc, link.to.terms.len(), &starts, size, link.most, steps)?;
+        let k = link.to.terms.len();
+        let most = link.most;
+        let gap = Gap { k, m: size, most };
+        let kept = near_those(alloc, gap, &next, &starts, steps)?;
         rest.push(next)?;
         next = kept;
         left = before;
@@ -202,35 +186,38 @@ fn linked(
     Ok((next, rest))
 }
 
-// Adds the offsets of these links' phrases, whose occurrences also have to be near one of the k
-// terms before them: for each phrase those that are near one of the next phrase's.
+// Adds the offsets of a chain's phrases after the first one, which has these occurrences: for each
+// phrase those that are near one of the phrase before and one of the next phrase's.
 fn mark_links(
     found: &mut Found,
-    k: usize,
-    starts: &Starts,
-    links: &[Link],
-    lists: &[Places<'_>],
-    all: &[Starts],
+    near: &Chain,
+    starts: &Vec<Place>,
+    lists: &[&[Place]],
+    all: &[Vec<Place>],
     steps: &mut Steps,
 ) -> Result<(), AllocError>
     requires lists { AreNumbered found.old
-        (flat_map (λ l. l.to.terms) (map plain_link links.now)) lists.now }
-    requires all { length all.now ≡ length links.now }
+        (flat_map (λ l. l.to.terms) (map plain_link near.now.links.items)) lists.now }
+    requires all { length all.now ≡ length near.now.links.items }
     ensures marks { Marks result found.old found.new
-        (link_marks k starts.now.places.items (map plain_link links.now) (plain_lists lists.now)
-        (plain_starts all.now)) (length lists.now) }
+        (link_marks (length near.now.first.terms.items) starts.now.items
+        (map plain_link near.now.links.items) (plain_lists lists.now) (plain_starts all.now))
+        (length lists.now) }
     ensures steps { TakesAtMost
-        (link_cost k starts.now.places.items (map plain_link links.now) (plain_lists lists.now)
-        (plain_starts all.now)) steps.old steps.new }
+        (link_cost (length near.now.first.terms.items) starts.now.items
+        (map plain_link near.now.links.items) (plain_lists lists.now) (plain_starts all.now))
+        steps.old steps.new }
 {
-    let mut k = k;
+    let mut k = near.first.terms.len();
     let mut at = 0;
-    let mut kept: Option<Starts> = None;
-    for (i, link) in links.iter().enumerate() {
+    let mut kept: Option<Vec<Place>> = None;
+    for (i, link) in near.links.iter().enumerate() {
         let size = link.to.terms.len();
         let own = &lists[at..at + size];
         let starts = kept.as_ref().unwrap_or(starts);
-        let next = starts.near(found.alloc, k, &all[i], size, link.most, steps)?;
+        let most = link.most;
+        let gap = Gap { k, m: size, most };
+        let next = near_those(found.alloc, gap, starts, &all[i], steps)?;
         mark_phrase(found, &next, own, steps)?;
         k = size;
         at += size;
@@ -239,11 +226,11 @@ fn mark_links(
     Ok(())
 }
 
-#[tactic(auto, using(crate::proofs::Marks::phrase_marks_count))]
+#[tactic(auto, using(crate::proofs::Passes::phrase_marks_count))]
 // Adds the offsets of a phrase, if they are wanted, and says whether it occurs.
 fn visit_phrase(
     words: &Phrase,
-    lists: &[Places<'_>],
+    lists: &[&[Place]],
     found: &mut Found,
     steps: &mut Steps,
 ) -> Result<bool, AllocError>
@@ -259,17 +246,17 @@ fn visit_phrase(
         Wanted::Offsets => {
             let starts = starts_of(found.alloc, words, lists, steps)?;
             mark_phrase(found, &starts, lists, steps)?;
-            Ok(starts.are_filled())
+            Ok(are_filled(&starts))
         }
     }
 }
 
-#[tactic(auto, using(crate::proofs::Marks::chain_marks_count))]
+#[tactic(auto, using(crate::proofs::Passes::chain_marks_count))]
 // Adds the offsets of a chain, if they are wanted, and says whether its phrases occur near one
 // another.
 fn visit_chain(
     near: &Chain,
-    lists: &[Places<'_>],
+    lists: &[&[Place]],
     found: &mut Found,
     steps: &mut Steps,
 ) -> Result<bool, AllocError>
@@ -278,28 +265,27 @@ fn visit_chain(
     ensures steps { TakesOf (visit_cost (chain_tree near.now) (plain_lists lists.now))
         (node_count (chain_tree near.now)) steps.old steps.new }
 {
-    let links = near.links.as_slice();
-    let (starts, mut all) = linked(found.alloc, &near.first, links, lists, steps)?;
+    let (starts, mut all) = linked(found.alloc, near, lists, steps)?;
     match found.wanted {
-        Wanted::Docids => Ok(starts.are_filled()),
+        Wanted::Docids => Ok(are_filled(&starts)),
         Wanted::Offsets => {
             all.reverse();
             let size = near.first.terms.len();
             let (own, lists) = lists.split_at(size);
             mark_phrase(found, &starts, own, steps)?;
-            mark_links(found, size, &starts, links, lists, &all, steps)?;
-            Ok(starts.are_filled())
+            mark_links(found, near, &starts, lists, &all, steps)?;
+            Ok(are_filled(&starts))
         }
     }
 }
 
 // The first so many of these lists, which are taken off.
-fn take_lists<'l, 'p>(lists: &mut &'l [Places<'p>], count: usize) -> &'l [Places<'p>]
+fn take_lists<'l, 'p>(lists: &mut &'l [&'p [Place]], count: usize) -> &'l [&'p [Place]]
     requires { count ≤ length lists.old.now }
     ensures taken { result.now ≡ take count lists.old.now }
     ensures left { lists.new.now ≡ drop count lists.old.now }
 {
-    let all: &'l [Places<'p>] = *lists;
+    let all: &'l [&'p [Place]] = *lists;
     *lists = &all[count..];
     &all[..count]
 }
@@ -308,7 +294,7 @@ fn take_lists<'l, 'p>(lists: &mut &'l [Places<'p>], count: usize) -> &'l [Places
 // document. Its lists are taken off, and each of its phrases is a step.
 fn visit_leaf(
     leaf: Leaf<'_>,
-    lists: &mut &[Places<'_>],
+    lists: &mut &[&[Place]],
     found: &mut Found,
     steps: &mut Steps,
 ) -> Result<bool, AllocError>
@@ -343,7 +329,7 @@ fn visit_joint<'q>(
     joint: Joint<'q>,
     accepted: bool,
     joints: &mut Vec<Joint<'q>>,
-    lists: &mut &[Places<'_>],
+    lists: &mut &[&[Place]],
     found: &mut Found,
     steps: &mut Steps,
 ) -> Result<bool, AllocError>
@@ -390,7 +376,7 @@ fn visit_joint<'q>(
 fn visit_part<'q>(
     query: &'q Query,
     joints: &mut Vec<Joint<'q>>,
-    lists: &mut &[Places<'_>],
+    lists: &mut &[&[Place]],
     found: &mut Found,
     steps: &mut Steps,
 ) -> Result<bool, AllocError>
@@ -427,14 +413,14 @@ fn sort_offsets(offsets: &mut Vec<Offset>)
 
 impl Cursor {
     // The places in this document, if it is the next one here.
-    fn places(&self, docid: i64, steps: &mut Steps) -> Places<'_>
-        ensures places { result.places.now ≡ places_at docid (lists_left self.now) }
+    fn places(&self, docid: i64, steps: &mut Steps) -> &[Place]
+        ensures places { result.now ≡ places_at docid (lists_left self.now) }
         ensures step { TakesSteps 1 steps.old steps.new }
     {
         if self.is_at(docid, steps) {
             self.here()
         } else {
-            Places::new(&[])
+            &[]
         }
     }
 }
@@ -445,7 +431,7 @@ fn lists_of<'a>(
     cursors: &'a [Cursor],
     docid: i64,
     steps: &mut Steps,
-) -> Result<Vec<Places<'a>>, AllocError>
+) -> Result<Vec<&'a [Place]>, AllocError>
     ensures lists { IfOk result (λ v. plain_lists v.items ≡ places_in docid cursors.now) }
     ensures steps { LooksForAll (length cursors.now) result steps.old steps.new }
 {

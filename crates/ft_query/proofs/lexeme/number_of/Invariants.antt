@@ -1,6 +1,5 @@
-use Rattle.std.proofs.Common.{◌≡◌, take}
-use Rattle.std.specs.Prelude.{min}
-use Rattle.ft_query.specs.Lexemes.{digits_number}
+use Rattle.std.proofs.Common.{◌≡◌, take, min}
+use Rattle.ft_query.proofs.Common.{digits_number}
 use Rattle.ft_query.proofs.lexeme.number_of.Given as goal
 
 abbrev pub invariant-loop-digit : goal.invariant-loop-digit

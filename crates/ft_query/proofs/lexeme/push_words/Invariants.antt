@@ -1,8 +1,6 @@
 use Rattle.std.proofs.Common.{◌≡◌, ◌++◌, map}
 use Rattle.std.specs.Vec.Iter.{into_iter_items}
-use Rattle.ft_query.specs.Trees.{plain_term}
-use Rattle.ft_query.specs.Lexemes.{word, terms_of}
-use Rattle.ft_query.specs.Machine.{plain_lexeme}
+use Rattle.ft_query.proofs.Common.{plain_term, word, terms_of, plain_lexeme}
 use Rattle.ft_query.proofs.lexeme.push_words.Given as goal
 
 -- the words so far, and those of the terms that are left

@@ -1,8 +1,6 @@
 use Rattle.std.proofs.Common.{◌≡◌, ◌++◌, map}
 use Rattle.std.specs.Vec.Iter.{into_iter_items}
-use Rattle.ft_query.specs.Tokens.{plain_token}
-use Rattle.ft_query.specs.Trees.{plain_term}
-use Rattle.ft_query.specs.Lexemes.{terms_of}
+use Rattle.ft_query.proofs.Common.{plain_token, plain_term, terms_of}
 use Rattle.ft_query.proofs.Terms.{AreWithin, term_in}
 use Rattle.ft_query.proofs.lexeme.terms_of.Given as goal
 

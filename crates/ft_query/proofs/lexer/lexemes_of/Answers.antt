@@ -1,9 +1,8 @@
-use Rattle.std.proofs.Common.{false, map, sym, ap, ◌∙◌, subst}
-use Rattle.std.specs.Prelude.{string_bytes}
-use Rattle.ft_query.specs.Machine.{plain_lexeme}
+use Rattle.std.proofs.Common.{false, map, sym, ap, ◌∙◌, subst, string_bytes}
+use Rattle.ft_query.proofs.Common.{plain_lexeme}
 use Rattle.ft_query.proofs.Parts.{Lexed, lexed_none, step_inside, step_ended}
-use Rattle.ft_query.proofs.lexer.lexemes_of.Goals as goal
 use Rattle.ft_query.proofs.lexer.lexemes_of.Goals.{then-ends_part+in_ok-push_part, else-ends_part}
+use Rattle.ft_query.proofs.lexer.lexemes_of.Goals as goal
 
 pub loop-place-init : goal.loop-place-init
 loop-place-init c =
@@ -17,7 +16,7 @@ loop-place-preserved c =
     let kind = sym c.ends_part.ensures in
     elim c.if-ends_part.branch [
       | then-ends_part+in_ok-push_part w ↦
-          step_ended c.loop-place.invariant c.utf8.text is_text inside (kind ∙ w.if-ends_part.true) w.range.ensures.value
+          step_ended c.loop-place.invariant c.utf8.text is_text inside (kind ∙ w.if-ends_part.true) w.range-part.ensures.value
           (ap (λ found. map plain_lexeme found.items) w.found-is ∙ w.in_ok-push_part.ensures)
           (w.in_quote-is ∙ w.begins_quote-in_quote.ensures) w.start-is
       | else-ends_part w ↦

@@ -1,6 +1,5 @@
-use Rattle.std.proofs.Common.{map}
-use Rattle.std.specs.Prelude.{string_bytes}
-use Rattle.ft_query.specs.Machine.{plain_lexeme}
+use Rattle.std.proofs.Common.{map, string_bytes}
+use Rattle.ft_query.proofs.Common.{plain_lexeme}
 use Rattle.ft_query.proofs.Parts.{Lexed}
 use Rattle.ft_query.proofs.lexer.lexemes_of.Given as goal
 

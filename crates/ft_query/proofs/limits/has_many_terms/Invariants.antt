@@ -1,7 +1,5 @@
-use Rattle.std.proofs.Common.{◌≡◌, ◌+◌, take}
-use Rattle.std.specs.Prelude.{sum_by}
-use Rattle.ft_query.specs.Reads.{term_count}
-use Rattle.ft_query.specs.Machine.{plain_lexeme}
+use Rattle.std.proofs.Common.{◌≡◌, ◌+◌, take, sum_by}
+use Rattle.ft_query.proofs.Common.{term_count, plain_lexeme}
 use Rattle.ft_query.proofs.limits.has_many_terms.Given as goal
 
 -- what is left of the limit after the terms so far

@@ -1,5 +1,5 @@
 use Rattle.std.proofs.Common.{arith}
-use Rattle.std.proofs.lemmas.Grind.{common_steps}
+use Rattle.ft_query.proofs.Common.{common_steps}
 use Rattle.ft_query.proofs.LimitTests.{deep_already}
 use Rattle.ft_query.proofs.limits.nests_deep.Goals as goal
 

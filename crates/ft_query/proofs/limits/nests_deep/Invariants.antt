@@ -1,6 +1,5 @@
 use Rattle.std.proofs.Common.{◌≡◌, ◌+◌, ◌≤◌, map, drop}
-use Rattle.ft_query.specs.Reads.{nests_deep}
-use Rattle.ft_query.specs.Machine.{plain_lexeme}
+use Rattle.ft_query.proofs.Common.{nests_deep, plain_lexeme}
 use Rattle.ft_query.proofs.limits.nests_deep.Given as goal
 
 -- what is left nests as all lexemes do, and nowhere before it did they nest too deep

@@ -1,6 +1,5 @@
 use Rattle.std.proofs.Common.{◌≡◌, map}
-use Rattle.ft_query.specs.Pass.{run, tree_from}
-use Rattle.ft_query.specs.Machine.{plain_lexeme, plain_state}
+use Rattle.ft_query.proofs.Common.{run, tree_from, plain_lexeme, plain_state}
 use Rattle.ft_query.proofs.machine.query_from.Given as goal
 
 -- the run of what is left is that of all lexemes

@@ -1,10 +1,6 @@
-use Rattle.std.proofs.Common.{◌≡◌, map, string_bytes, sym, ◌∙◌}
-use Rattle.std.specs.Prelude.{◌≢◌, option_map, Ok, Err}
+use Rattle.std.proofs.Common.{◌≡◌, map, string_bytes, sym, ◌∙◌, ◌≢◌, option_map, Ok, Err}
 use Rattle.std.proofs.lemmas.Result.{IfOk-weaker, IfErr-weaker}
-use Rattle.ft_query.specs.declared.query.QueryFault.TheVariants.{Memory}
-use Rattle.ft_query.specs.Trees.{tree_of}
-use Rattle.ft_query.specs.Reads.{query_of}
-use Rattle.ft_query.specs.Machine.{plain_lexeme, query_within}
+use Rattle.ft_query.proofs.Common.{Memory, tree_of, query_of, plain_lexeme, query_within}
 use Rattle.ft_query.proofs.Capped.{long_is_large, zero_is_malformed, open_is_malformed, read_within}
 use Rattle.ft_query.proofs.parser.parse.Goals as goal
 

@@ -1,7 +1,5 @@
 use Rattle.std.proofs.Common.{sym, ap, subst, ◌≡◌, ◌∙◌, ◌<◌, ◌≤◌, false, true≢false, length, get_or, arith, IsCharBoundary, ⊎_elim}
-use Rattle.std.proofs.lemmas.Str.{IsCharBoundary-before_ascii, IsCharBoundary-end}
-use Rattle.std.proofs.str.Laws.{order}
-use Rattle.ft_query.specs.Tokens.{is_eligible}
+use Rattle.ft_query.proofs.Common.{IsCharBoundary-before_ascii, IsCharBoundary-end, order, is_eligible}
 use Rattle.ft_query.proofs.TokenSteps.{ascii, run_begins, run_goes_on, run_ends}
 use Rattle.ft_query.proofs.text.token_end.Goals as goal
 

@@ -1,6 +1,5 @@
 use Rattle.std.proofs.Common.{refl, sym, ap, subst, ◌≡◌, ◌∙◌, ◌<◌, ◌≤◌, false, length, get_or, arith}
-use Rattle.std.proofs.lemmas.Str.{IsCharBoundary-after_ascii}
-use Rattle.ft_query.specs.Tokens.{is_eligible}
+use Rattle.ft_query.proofs.Common.{IsCharBoundary-after_ascii, is_eligible}
 use Rattle.ft_query.proofs.TokenSteps.{ascii, left_past}
 use Rattle.ft_query.proofs.text.token_start.Goals as goal
 

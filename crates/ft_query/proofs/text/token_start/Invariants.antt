@@ -1,5 +1,5 @@
 use Rattle.std.proofs.Common.{◌≡◌, ◌≤◌, ◌-◌, ℕ, length, IsCharBoundary}
-use Rattle.ft_query.specs.Cutting.{tokens_left}
+use Rattle.ft_query.proofs.Common.{tokens_left}
 use Rattle.ft_query.proofs.text.token_start.Given as goal
 
 abbrev pub invariant-loop-place : goal.invariant-loop-place

@@ -1,6 +1,5 @@
-use Rattle.std.proofs.Common.{◌≡◌, ◌++◌, drop}
-use Rattle.std.specs.Prelude.{string_bytes}
-use Rattle.ft_query.specs.Occurs.{offsets_text}
+use Rattle.std.proofs.Common.{◌≡◌, ◌++◌, drop, string_bytes}
+use Rattle.ft_query.proofs.Common.{offsets_text}
 use Rattle.ft_query.proofs.OffsetTexts.{texts_after}
 use Rattle.ft_query.proofs.walk.offsets_text.Given as goal
 

@@ -1,8 +1,6 @@
 use Rattle.std.proofs.Common.{◌≡◌, ◌∙◌, List, sym, subst}
 use Rattle.std.specs.Vec.{with_items}
-use Rattle.std.proofs.lemmas.List.{with_items_is}
-use Rattle.ft_query.specs.declared.walk.cursor.Cursor.{Cursor}
-use Rattle.ft_query.specs.Search.{stands_at, FindsNext}
+use Rattle.ft_query.proofs.Common.{with_items_is, Cursor, stands_at, FindsNext}
 use Rattle.ft_query.proofs.standing.Standing.search.Goals as goal
 
 pub returns-clause-finds : goal.returns-clause-finds

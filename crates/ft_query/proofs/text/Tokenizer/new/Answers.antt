@@ -1,5 +1,5 @@
 use Rattle.std.proofs.Common.{arith}
-use Rattle.std.proofs.lemmas.Str.{IsCharBoundary-start}
+use Rattle.ft_query.proofs.Common.{IsCharBoundary-start}
 use Rattle.ft_query.proofs.text.Tokenizer.new.Goals as goal
 
 pub invariant_of-result : goal.invariant_of-result

@@ -1,5 +1,5 @@
 use Rattle.std.proofs.Common.{◌≡◌, ◌∙◌, sym, ◌<◌, ◌≤◌, [], length, arith, ⊎_elim}
-use Rattle.std.proofs.str.Laws.{order}
+use Rattle.ft_query.proofs.Common.{order}
 use Rattle.ft_query.proofs.TokenSteps.{left_none}
 use Rattle.ft_query.proofs.text.Tokenizer.next.Goals as goal
 

@@ -1,8 +1,6 @@
 -- each right side is less wide, and its terms come after those of the part that it is joined to
 use Rattle.std.proofs.Common.{◌≡◌, ◌++◌, ◌∷◌, [], List, subst, arith}
-use Rattle.ft_query.specs.declared.walk.joint.Joint.{Joint}
-use Rattle.ft_query.specs.Trees.{tree_of}
-use Rattle.ft_query.specs.Spines.{whole}
+use Rattle.ft_query.proofs.Common.{Joint, tree_of, whole}
 use Rattle.ft_query.proofs.Loading.{front_on}
 use Rattle.ft_query.proofs.Spines.{right_width}
 use Rattle.ft_query.proofs.walk.load.+add_query.Goals as goal

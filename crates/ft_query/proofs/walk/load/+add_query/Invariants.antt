@@ -1,7 +1,5 @@
 use Rattle.std.proofs.Common.{vec_len}
-use Rattle.ft_query.specs.Trees.{tree_of}
-use Rattle.ft_query.specs.Work.{width}
-use Rattle.ft_query.specs.Loaded.{plain_terms}
+use Rattle.ft_query.proofs.Common.{tree_of, width, plain_terms}
 use Rattle.ft_query.proofs.Loading.{AddsFront}
 use Rattle.ft_query.proofs.walk.load.+add_query.Given as goal
 

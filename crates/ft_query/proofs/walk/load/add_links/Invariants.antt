@@ -1,7 +1,5 @@
-use Rattle.std.proofs.Common.{◌≡◌, ◌++◌, map}
-use Rattle.std.specs.Prelude.{take, flat_map}
-use Rattle.ft_query.specs.Trees.{plain_link}
-use Rattle.ft_query.specs.Loaded.{plain_terms}
+use Rattle.std.proofs.Common.{◌≡◌, ◌++◌, map, take, flat_map}
+use Rattle.ft_query.proofs.Common.{plain_link, plain_terms}
 use Rattle.ft_query.proofs.walk.load.add_links.Given as goal
 
 -- the terms of the links so far

@@ -1,7 +1,5 @@
-use Rattle.std.proofs.Common.{◌≡◌, ◌++◌, map}
-use Rattle.std.specs.Prelude.{take}
-use Rattle.ft_query.specs.Trees.{plain_term}
-use Rattle.ft_query.specs.Loaded.{plain_terms}
+use Rattle.std.proofs.Common.{◌≡◌, ◌++◌, map, take}
+use Rattle.ft_query.proofs.Common.{plain_term, plain_terms}
 use Rattle.ft_query.proofs.walk.load.add_terms.Given as goal
 
 abbrev pub invariant-loop-term : goal.invariant-loop-term

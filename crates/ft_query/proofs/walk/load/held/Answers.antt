@@ -1,8 +1,5 @@
-use Rattle.std.proofs.Common.{sym, ap, ◌∙◌}
-use Rattle.std.specs.Borrow.{Bor}
-use Rattle.ft_query.specs.declared.query.QueryTerm.{QueryTerm}
-use Rattle.ft_query.specs.Trees.{plain_term}
-use Rattle.ft_query.specs.Cursors.{lists_kept, listed_for}
+use Rattle.std.proofs.Common.{sym, ap, ◌∙◌, Bor}
+use Rattle.ft_query.proofs.Common.{QueryTerm, plain_term, lists_kept, listed_for}
 use Rattle.ft_query.proofs.Loading.{same_at}
 use Rattle.ft_query.proofs.walk.load.held.Goals as goal
 

@@ -1,12 +1,6 @@
 -- the terms are those of the query
-use Rattle.std.proofs.Common.{◌≡◌, ◌∙◌, ◌++◌, List, ap, subst, arith}
-use Rattle.std.proofs.lemmas.Grind.{common_steps}
-use Rattle.std.specs.Prelude.{IfOk}
-use Rattle.std.specs.Borrow.{Bor}
-use Rattle.ft_query.specs.declared.query.QueryTerm.{QueryTerm}
-use Rattle.ft_query.specs.Trees.{PlainTerm, tree_of}
-use Rattle.ft_query.specs.Work.{terms_in}
-use Rattle.ft_query.specs.Loaded.{plain_terms, Loads}
+use Rattle.std.proofs.Common.{◌≡◌, ◌∙◌, ◌++◌, List, ap, subst, arith, IfOk, Bor}
+use Rattle.ft_query.proofs.Common.{common_steps, QueryTerm, PlainTerm, tree_of, terms_in, plain_terms, Loads}
 use Rattle.ft_query.proofs.Reaching.{no_call}
 use Rattle.ft_query.proofs.walk.load.load.Goals as goal
 

@@ -1,19 +1,11 @@
 -- each term is one more call, and has one more cursor
-use Rattle.std.proofs.Common.{◌≡◌, List, length, subst, sym, ap, ◌∙◌, rules, arith}
-use Rattle.std.proofs.lemmas.Grind.{common_steps}
-use Rattle.std.specs.Borrow.{Bor}
-use Rattle.ft_query.specs.declared.query.QueryTerm.{QueryTerm}
-use Rattle.ft_query.specs.declared.walk.cursor.Cursor.{Cursor}
-use Rattle.ft_query.specs.Documents.{Document, place_count}
-use Rattle.ft_query.specs.Trees.{plain_term}
-use Rattle.ft_query.specs.Cursors.{lists_kept, places_left, listed_for}
-use Rattle.ft_query.specs.Lists.{AllAnswer, NoCall, OneMore}
-use Rattle.ft_query.specs.Loaded.{AreCursorsOf}
+use Rattle.std.proofs.Common.{◌≡◌, List, length, subst, sym, ap, ◌∙◌, rules, arith, Bor}
+use Rattle.ft_query.proofs.Common.{common_steps, QueryTerm, Cursor, Document, place_count, plain_term, lists_kept, places_left, listed_for, AllAnswer, NoCall, OneMore, AreCursorsOf}
 use Rattle.ft_query.proofs.Loading.{cursors_on, cursors_all, places_on}
 use Rattle.ft_query.proofs.Reaching.{no_call, reaches_on}
 use Rattle.ft_query.proofs.walk.load.load_terms.Given.{Over}
-use Rattle.ft_query.proofs.walk.load.load_terms.Goals as goal
 use Rattle.ft_query.proofs.walk.load.load_terms.Goals.{In_ok-push}
+use Rattle.ft_query.proofs.walk.load.load_terms.Goals as goal
 
 pub loop-term-init : goal.loop-term-init
 loop-term-init g c = record {

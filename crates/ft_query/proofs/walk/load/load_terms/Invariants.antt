@@ -1,7 +1,5 @@
 use Rattle.std.proofs.Common.{◌≡◌, true, ◌+◌, ◌-◌, ◌^◌, ◌<◌, min, vec_len}
-use Rattle.ft_query.specs.Lists.{Reaches, AllAnswer}
-use Rattle.ft_query.specs.Loaded.{AreCursorsOf}
-use Rattle.ft_query.specs.Cursors.{places_left}
+use Rattle.ft_query.proofs.Common.{Reaches, AllAnswer, AreCursorsOf, places_left}
 use Rattle.ft_query.proofs.walk.load.load_terms.Given as goal
 
 -- the lists of the terms so far

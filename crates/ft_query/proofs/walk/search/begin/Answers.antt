@@ -1,6 +1,5 @@
 use Rattle.std.proofs.Common.{rules, refl, ap₂, map}
-use Rattle.ft_query.proofs.Sweeps.{sweep_next}
-use Rattle.ft_query.proofs.Stands.{both_lists, as_kept, swept_all}
+use Rattle.ft_query.proofs.Sweeps.{sweep_next, both_lists, as_kept, swept_all}
 use Rattle.ft_query.proofs.walk.search.begin.Goals as goal
 
 pub loop-cursor-preserved : goal.loop-cursor-preserved

@@ -1,6 +1,5 @@
 use Rattle.std.proofs.Common.{◌≡◌, map}
-use Rattle.ft_query.proofs.Sweeps.{swept}
-use Rattle.ft_query.proofs.Stands.{both_lists, as_kept}
+use Rattle.ft_query.proofs.Sweeps.{swept, both_lists, as_kept}
 use Rattle.ft_query.proofs.walk.search.begin.Given as goal
 
 -- the cursors so far begin anew

@@ -1,6 +1,5 @@
 use Rattle.std.proofs.Common.{◌≡◌, map}
-use Rattle.ft_query.proofs.Sweeps.{swept}
-use Rattle.ft_query.proofs.Stands.{both_lists, as_left}
+use Rattle.ft_query.proofs.Sweeps.{swept, both_lists, as_left}
 use Rattle.ft_query.proofs.walk.search.keep.Given as goal
 
 -- the cursors so far stand where the search is

@@ -1,7 +1,5 @@
-use Rattle.std.proofs.Common.{◌≡◌, map}
-use Rattle.std.specs.Prelude.{None, drop}
-use Rattle.ft_query.specs.Cursors.{lists_left, least_from}
-use Rattle.ft_query.specs.Taken.{LooksAtAll}
+use Rattle.std.proofs.Common.{◌≡◌, map, None, drop}
+use Rattle.ft_query.proofs.Common.{lists_left, least_from, LooksAtAll}
 use Rattle.ft_query.proofs.walk.search.least.Given as goal
 
 -- the least so far and in the lists that are left is the least of all

@@ -1,9 +1,11 @@
-use Rattle.std.proofs.Common.{◌≡◌, ◌∙◌, rules, map, subst, to_z-of_z}
+use Rattle.std.proofs.Common.{ℕ, ◌+◌, arith, ◌≡◌, ◌∙◌, rules, map, subst, to_z-of_z}
 use Rattle.std.proofs.Math.Seq.{map-set_same}
-use Rattle.ft_query.specs.Cursors.{lists_left, lists_kept, passed}
+use Rattle.ft_query.proofs.Common.{Steps, TakesSteps, lists_left, lists_kept, passed}
 use Rattle.ft_query.proofs.Sweeps.{sweep_next, sweep_end}
-use Rattle.ft_query.proofs.TakenLemmas.{takes_then}
 use Rattle.ft_query.proofs.walk.search.pass.Goals as goal
+
+takes_then : (m n : ℕ) (a b c : Steps) → TakesSteps m a b → TakesSteps n b c → TakesSteps (m + n) a c
+takes_then m n a b c one two = record { taken = omega arith; at_least = omega arith; at_most = omega arith }
 
 pub loop-cursor-preserved : goal.loop-cursor-preserved
 loop-cursor-preserved c = record {

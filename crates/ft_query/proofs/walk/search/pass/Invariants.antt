@@ -1,6 +1,5 @@
 use Rattle.std.proofs.Common.{◌≡◌, map}
-use Rattle.ft_query.specs.Cursors.{lists_left, lists_kept, passed}
-use Rattle.ft_query.specs.Taken.{TakesSteps}
+use Rattle.ft_query.proofs.Common.{lists_left, lists_kept, passed, TakesSteps}
 use Rattle.ft_query.proofs.Sweeps.{swept}
 use Rattle.ft_query.proofs.walk.search.pass.Given as goal
 

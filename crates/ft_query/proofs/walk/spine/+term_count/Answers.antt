@@ -1,7 +1,5 @@
-use Rattle.std.proofs.Common.{rules, ◌≡◌, ◌++◌, ◌+◌, length, ap, arith}
-use Rattle.std.proofs.lemmas.List.{length-append}
-use Rattle.ft_query.specs.Trees.{tree_of}
-use Rattle.ft_query.specs.Work.{terms_in, width}
+use Rattle.std.proofs.Common.{rules, ◌≡◌, ◌++◌, ◌+◌, length, ap, arith, length-append}
+use Rattle.ft_query.proofs.Common.{tree_of, terms_in, width}
 use Rattle.ft_query.proofs.Spines.{some_width}
 use Rattle.ft_query.proofs.walk.spine.+term_count.Goals as goal
 

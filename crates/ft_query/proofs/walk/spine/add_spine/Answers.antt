@@ -1,6 +1,5 @@
 use Rattle.std.proofs.Common.{◌≡◌, rules, subst}
-use Rattle.ft_query.specs.Trees.{Tree, tree_of}
-use Rattle.ft_query.specs.Spines.{joined_sides, AddsSpine}
+use Rattle.ft_query.proofs.Common.{Tree, tree_of, joined_sides, AddsSpine}
 use Rattle.ft_query.proofs.Spines.{spine_on}
 use Rattle.ft_query.proofs.walk.spine.add_spine.Goals as goal
 

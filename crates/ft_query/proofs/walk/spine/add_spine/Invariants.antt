@@ -1,5 +1,4 @@
-use Rattle.ft_query.specs.Trees.{tree_of}
-use Rattle.ft_query.specs.Spines.{AddsSpine}
+use Rattle.ft_query.proofs.Common.{tree_of, AddsSpine}
 use Rattle.ft_query.proofs.walk.spine.add_spine.Given as goal
 
 -- the part that is left, with all that is joined to it

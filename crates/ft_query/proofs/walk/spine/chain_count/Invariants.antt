@@ -1,7 +1,5 @@
-use Rattle.std.proofs.Common.{◌≡◌, ◌+◌, length, drop, map}
-use Rattle.std.specs.Prelude.{flat_map}
-use Rattle.ft_query.specs.Trees.{plain_phrase, plain_link, chain}
-use Rattle.ft_query.specs.Work.{terms_in}
+use Rattle.std.proofs.Common.{◌≡◌, ◌+◌, length, drop, map, flat_map}
+use Rattle.ft_query.proofs.Common.{plain_phrase, plain_link, chain, terms_in}
 use Rattle.ft_query.proofs.walk.spine.chain_count.Given as goal
 
 -- the terms so far, and those of the links that are left

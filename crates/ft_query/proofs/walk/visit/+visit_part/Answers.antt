@@ -1,8 +1,5 @@
 use Rattle.std.proofs.Common.{◌∙◌, rules, arith}
-use Rattle.ft_query.specs.Trees.{tree_of}
-use Rattle.ft_query.specs.Spines.{leaf_tree}
-use Rattle.ft_query.specs.Marked.{own_lists}
-use Rattle.ft_query.specs.Visit.{plain_lists}
+use Rattle.ft_query.proofs.Common.{tree_of, leaf_tree, own_lists, plain_lists}
 use Rattle.ft_query.proofs.Climbs.{nodes_cost, leaf_fits, climb_begun, begun_failed, climbing_fits, climbing_on, climbing_failed, climbed, next_joint, no_joint}
 use Rattle.ft_query.proofs.walk.visit.+visit_part.Goals as goal
 

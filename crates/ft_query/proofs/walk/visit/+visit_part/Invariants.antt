@@ -1,6 +1,5 @@
 use Rattle.std.proofs.Common.{◌+◌, ◌*◌, vec_len}
-use Rattle.ft_query.specs.Trees.{tree_of}
-use Rattle.ft_query.specs.Work.{width}
+use Rattle.ft_query.proofs.Common.{tree_of, width}
 use Rattle.ft_query.proofs.Climbs.{ClimbingOver}
 use Rattle.ft_query.proofs.walk.visit.+visit_part.Given as goal
 

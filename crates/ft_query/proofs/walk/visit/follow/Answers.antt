@@ -1,19 +1,17 @@
 use Rattle.std.proofs.Common.{◌+◌, ◌<◌, [], map, drop, length, get_or, sym, ap, ◌∙◌, arith}
-use Rattle.ft_query.specs.declared.walk.places.Places.{Places}
-use Rattle.ft_query.specs.Trees.{plain_term}
-use Rattle.ft_query.specs.Visit.{followed, plain_lists}
+use Rattle.ft_query.proofs.Common.{Places, plain_term, followed, plain_lists}
 use Rattle.ft_query.proofs.Passes.{follow_more, total_more, followed_few}
 use Rattle.ft_query.proofs.walk.visit.follow.Goals as goal
 
 no_list : Places
-no_list = record { places = record { ref_ptr = (0, 0); now = [] } }
+no_list = record { ref_ptr = (0, 0); now = [] }
 
 pub loop-i-preserved : goal.loop-i-preserved
 unfolding no_list
 loop-i-preserved c =
     let i = c.loop-i.i in
-    let starts = c.loop-i.starts.places.items in
-    let list = (get_or c.args.lists.now i no_list).places.now in
+    let starts = c.loop-i.starts.items in
+    let list = (get_or c.args.lists.now i no_list).now in
     let inside : i < length c.args.lists.now = omega arith in
     let is = c.in_ok-starts.ensures.starts in
     let step = follow_more i c.args.terms.now c.args.lists.now starts c.index-terms-i.result no_list c.loop-i-test.true c.requires c.index-terms-i.is in (

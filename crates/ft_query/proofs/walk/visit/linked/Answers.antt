@@ -1,35 +1,12 @@
-use Rattle.std.proofs.Common.{◌≡◌, ℕ, ◌+◌, ◌*◌, ◌≤◌, List, [], ◌∷◌, ◌++◌, map, take, drop, reverse, length, refl, sym, ap, ◌∙◌, subst, append-nil, append_assoc, rules, arith}
-use Rattle.std.specs.Prelude.{flat_map}
-use Rattle.std.proofs.lemmas.List.{map-append, length-append, length-map, length-drop, drop_at, take_at, drop-append-le}
-use Rattle.ft_query.specs.declared.query.Link.{Link}
-use Rattle.ft_query.specs.declared.query.Phrase.{Phrase}
-use Rattle.ft_query.specs.declared.lists.place.Place.{Place}
-use Rattle.ft_query.specs.declared.standing.Steps.{Steps}
-use Rattle.ft_query.specs.declared.walk.places.Places.{Places}
-use Rattle.ft_query.specs.declared.walk.places.Starts.{Starts}
-use Rattle.ft_query.specs.Trees.{PlainPhrase, PlainLink, plain_term, plain_phrase, plain_link, chain}
-use Rattle.ft_query.specs.Taken.{TakesAtMost}
-use Rattle.ft_query.specs.Work.{terms_in}
-use Rattle.ft_query.specs.Visit.{near_those, head_of, starts_of, linked, linked_cost, total, plain_lists, plain_starts}
-use Rattle.ft_query.proofs.Passes.{linked_push, map-drop}
-use Rattle.ft_query.proofs.walk.visit.linked.Invariants.{last_of, IsBack}
+use Rattle.std.proofs.Common.{◌≡◌, ℕ, ◌+◌, ◌*◌, ◌≤◌, List, [], ◌∷◌, ◌++◌, map, drop, reverse, length, refl, sym, ap, ◌∙◌, subst, append-nil, append_assoc, rules, arith, flat_map, length-append, length-drop}
+use Rattle.ft_query.proofs.Common.{nil_from_length, length-map, drop-map, drop-append-le, Link, Phrase, Steps, Places, Starts, PlainLink, plain_term, plain_phrase, plain_link, chain, TakesAtMost, terms_in, near_those, head_of, last_of, starts_of, linked, linked_cost, total, plain_lists, plain_starts}
+use Rattle.ft_query.proofs.Passes.{last_push, linked_push, lists_front, lists_back}
+use Rattle.ft_query.proofs.walk.visit.linked.Invariants.{IsBack}
+use Rattle.ft_query.proofs.walk.visit.linked.Goals.{After-len, After-split_at, After-len-size, After-split_at-in-Some}
 use Rattle.ft_query.proofs.walk.visit.linked.Goals as goal
-use Rattle.ft_query.proofs.walk.visit.linked.Goals.{After-len, After-split_at, After-len-size, After-split_at-in-Some-split_last, in-Some, in-None, in-Some-split_last-2, in-None-split_last}
 
--- ---- the last phrase of a chain
+-- ---- the terms of some links
 
-last_push : (first : Phrase) (links : List Link) (link : Link) → last_of first (links ++ link ∷ []) ≡ link.to
-last_push first [] link = refl
-last_push first (l ∷ links) link = last_push l.to links link
-
-last_some : (first : Phrase) (links before : List Link) (link : Link) → links ≡ before ++ link ∷ [] → last_of first links ≡ link.to
-last_some first links before link is = ap (last_of first) is ∙ last_push first before link
-
-last_none : (first : Phrase) (links : List Link) → length links ≡ 0 → last_of first links ≡ first
-last_none first [] none = refl
-last_none first (link ∷ links) none = absurd (omega arith)
-
--- the terms of some links
 count_of : List Link → ℕ
 count_of links = length (flat_map (λ l. l.to.terms) (map plain_link links))
 
@@ -63,41 +40,13 @@ last_short first (l ∷ links) =
 
 -- ---- one phrase more
 
-front_of : (own behind : List Places) (n : ℕ) → length own ≡ n → take n (plain_lists (own ++ behind)) ≡ plain_lists own
-front_of own behind n same =
-    ap (take n) (map-append (λ (l : Places). l.places.now) own behind)
-    ∙ take_at (plain_lists own) (plain_lists behind) n (length-map own (λ l. l.places.now) ∙ same)
-
-back_of : (own behind : List Places) (n : ℕ) → length own ≡ n → drop n (plain_lists (own ++ behind)) ≡ plain_lists behind
-back_of own behind n same =
-    ap (drop n) (map-append (λ (l : Places). l.places.now) own behind)
-    ∙ drop_at (plain_lists own) (plain_lists behind) n (length-map own (λ l. l.places.now) ∙ same)
-
-linked_more : (p : PlainPhrase) (link : PlainLink) (links : List PlainLink) (own behind : List Places) → length own ≡ length p.terms
-    → linked p (link ∷ links) (plain_lists (own ++ behind))
-    ≡ near_those link.most (length link.to.terms) (head_of (linked link.to links (plain_lists behind))) (length p.terms) (starts_of p (plain_lists own))
-    ∷ linked link.to links (plain_lists behind)
-linked_more p link links own behind same =
-    let n = length p.terms in
-    let made : List (List Place) → List (List Place) → List (List Place) =
-    λ front more. near_those link.most (length link.to.terms) (head_of more) n (starts_of p front) ∷ more in
-    ap (λ ls. made ls (linked link.to links (drop n (plain_lists (own ++ behind))))) (front_of own behind n same)
-    ∙ ap (λ ls. made (plain_lists own) (linked link.to links ls)) (back_of own behind n same)
-
-cost_more : (p : PlainPhrase) (link : PlainLink) (links : List PlainLink) (own behind : List Places) → length own ≡ length p.terms
-    → linked_cost p (link ∷ links) (plain_lists (own ++ behind))
+cost_more : (phrase : Phrase) (link : PlainLink) (links : List PlainLink) (own behind : List Places) → length own ≡ length phrase.terms.items
+    → linked_cost (plain_phrase phrase) (link ∷ links) (plain_lists (own ++ behind))
     ≡ 2 * total (plain_lists own) + linked_cost link.to links (plain_lists behind) + length (head_of (linked link.to links (plain_lists behind)))
-    + 3 * length (starts_of p (plain_lists own))
-cost_more p link links own behind same =
-    let n = length p.terms in
-    let made : List (List Place) → List (List Place) → ℕ =
-    λ front back. 2 * total front + linked_cost link.to links back + length (head_of (linked link.to links back)) + 3 * length (starts_of p front) in
-    ap (λ ls. made ls (drop n (plain_lists (own ++ behind)))) (front_of own behind n same)
-    ∙ ap (λ ls. made (plain_lists own) ls) (back_of own behind n same)
-
-nothing : {X : Type 0} (xs : List X) → length xs ≡ 0 → xs ≡ []
-nothing [] none = refl
-nothing (x ∷ xs) none = absurd (omega arith)
+    + 3 * length (starts_of (plain_phrase phrase) (plain_lists own))
+cost_more phrase link links own behind fills =
+    let n = length phrase.terms.items in
+    simp (length-map, lists_front own behind n fills, lists_back own behind n fills)
 
 -- the steps from the last phrase on are among those for the whole chain
 part_cost : (first : Phrase) (left done : List Link) (front behind : List Places)
@@ -106,7 +55,7 @@ part_cost : (first : Phrase) (left done : List Link) (front behind : List Places
     ≤ linked_cost (plain_phrase first) (map plain_link (left ++ done)) (plain_lists (front ++ behind))
 unfolding count_of
 part_cost first [] done front behind each =
-    let none = nothing front (omega (arith, each)) in
+    let none = nil_from_length front (omega (arith, each)) in
     let same = ap (λ l. linked_cost (plain_phrase first) (map plain_link done) (plain_lists (l ++ behind))) none in
     omega (arith, same)
 part_cost first (link ∷ left) done front behind each =
@@ -118,9 +67,7 @@ part_cost first (link ∷ left) done front behind each =
     let fewer = length-drop n front in
     let inner = part_cost link.to left done (drop n front) behind (omega (arith, fewer, sum, each, enough)) in
     let is : drop (length (map plain_term terms)) (plain_lists (front ++ behind)) ≡ plain_lists (drop n front ++ behind) =
-    ap (λ k. drop k (plain_lists (front ++ behind))) (length-map terms plain_term)
-    ∙ map-drop n (front ++ behind)
-    ∙ ap plain_lists (drop-append-le n front behind enough) in
+    simp (length-map, drop-map, drop-append-le n front behind enough) in
     let same = ap (linked_cost (plain_phrase link.to) (map plain_link (left ++ done))) is in
     omega (arith, inner, same)
 
@@ -140,14 +87,14 @@ enough {first} {links} before link {lists} {front} at =
 turn_cost : {first : Phrase} {links : List Link} (before : List Link) (link : Link) {lists : List Places} (own front : List Places) {next : Starts}
     {rest : List Starts} {begun steps : Steps} → IsBack first links (before ++ link ∷ []) lists (front ++ own) next rest begun steps
     → length own ≡ length (last_of first before).terms.items
-    → steps.taken + 2 * total (plain_lists own) + length next.places.items + 3 * length (starts_of (plain_phrase (last_of first before)) (plain_lists own))
+    → steps.taken + 2 * total (plain_lists own) + length next.items + 3 * length (starts_of (plain_phrase (last_of first before)) (plain_lists own))
     ≤ begun.taken + linked_cost (plain_phrase first) (map plain_link links) (plain_lists lists)
 turn_cost {first} {links} before link {lists} own front {next} {rest} {begun} {steps} at fills =
     let p = plain_phrase (last_of first before) in
     let last = last_push first before link in
     let done = map plain_link at.done in
     let back = plain_lists at.behind in
-    let cost = cost_more p (plain_link link) done own at.behind (fills ∙ sym (length-map (last_of first before).terms.items plain_term)) in
+    let cost = cost_more (last_of first before) (plain_link link) done own at.behind fills in
     let so_far = ap (λ l. linked_cost (plain_phrase l) done back) last in
     let near = ap length at.found.first ∙ ap (λ l. length (head_of (linked (plain_phrase l) done back))) last in
     let left = enough before link at in
@@ -155,9 +102,7 @@ turn_cost {first} {links} before link {lists} own front {next} {rest} {begun} {s
     let inner = part_cost first before (link ∷ at.done) front (own ++ at.behind) (omega (arith, left, two, fills)) in
     let whole : linked_cost (plain_phrase first) (map plain_link (before ++ link ∷ at.done)) (plain_lists (front ++ (own ++ at.behind)))
     ≡ linked_cost (plain_phrase first) (map plain_link links) (plain_lists lists) =
-    ap (λ ls. linked_cost (plain_phrase first) (map plain_link ls) (plain_lists (front ++ (own ++ at.behind))))
-    (sym (append_assoc before (link ∷ []) at.done) ∙ at.all)
-    ∙ ap (λ ls. linked_cost (plain_phrase first) (map plain_link links) (plain_lists ls)) (sym (append_assoc front own at.behind) ∙ at.split) in
+    rw (← at.all, ← at.split) (simp append_assoc) in
     omega (arith, cost, so_far, near, inner, whole, at.taken.at_most)
 
 -- one link less is left
@@ -165,11 +110,11 @@ turned : {first : Phrase} {links : List Link} (before : List Link) (link : Link)
     {rest : List Starts} {begun steps : Steps} → IsBack first links (before ++ link ∷ []) lists (front ++ own) next rest begun steps
     → length own ≡ length (last_of first before).terms.items
     → (starts kept : Starts) (more : List Starts) (mid after : Steps)
-    → starts.places.items ≡ starts_of (plain_phrase (last_of first before)) (plain_lists own)
-    → kept.places.items
-    ≡ near_those link.most (length link.to.terms.items) next.places.items (length (last_of first before).terms.items) starts.places.items
+    → starts.items ≡ starts_of (plain_phrase (last_of first before)) (plain_lists own)
+    → kept.items
+    ≡ near_those link.most (length link.to.terms.items) next.items (length (last_of first before).terms.items) starts.items
     → more ≡ rest ++ next ∷ []
-    → TakesAtMost (2 * total (plain_lists own)) steps mid → TakesAtMost (length next.places.items + 3 * length starts.places.items) mid after
+    → TakesAtMost (2 * total (plain_lists own)) steps mid → TakesAtMost (length next.items + 3 * length starts.items) mid after
     → IsBack first links before lists front kept more begun after
 turned {first} {links} before link {lists} own front {next} {rest} {begun} {steps} at fills starts kept more mid after is_starts is_kept is_more one two =
     let phrase = last_of first before in
@@ -178,20 +123,12 @@ turned {first} {links} before link {lists} own front {next} {rest} {begun} {step
     let done = map plain_link at.done in
     let back = plain_lists at.behind in
     let behind = linked (plain_phrase link.to) done back in
-    let filled = fills ∙ sym (length-map phrase.terms.items plain_term) in
-    let cost = cost_more p (plain_link link) done own at.behind filled in
+    let cost = cost_more phrase (plain_link link) done own at.behind fills in
     let so_far = ap (λ l. linked_cost (plain_phrase l) done back) last in
-    let near : next.places.items ≡ head_of behind = at.found.first ∙ ap (λ l. head_of (linked (plain_phrase l) done back)) last in
+    let near : next.items ≡ head_of behind = at.found.first ∙ ap (λ l. head_of (linked (plain_phrase l) done back)) last in
     let later : plain_starts rest ≡ reverse (drop 1 behind) = at.found.rest ∙ ap (λ l. reverse (drop 1 (linked (plain_phrase l) done back))) last in
-    let all = linked_more p (plain_link link) done own at.behind filled in
-    let kept_is =
-    is_kept
-    ∙ ap (λ ls. near_those link.most (length link.to.terms.items) ls (length phrase.terms.items) starts.places.items) near
-    ∙ ap (λ ls. near_those link.most (length link.to.terms.items) (head_of behind) (length phrase.terms.items) ls) is_starts
-    ∙ ap (λ k. near_those link.most k (head_of behind) (length phrase.terms.items) (starts_of p (plain_lists own)))
-    (sym (length-map link.to.terms.items plain_term))
-    ∙ ap (λ m. near_those link.most (length (plain_phrase link.to).terms) (head_of behind) m (starts_of p (plain_lists own)))
-    (sym (length-map phrase.terms.items plain_term)) in
+    let n = length phrase.terms.items in
+    let kept_back = lists_back own at.behind n fills in
     let near_count = ap length near in
     let starts_count = ap length is_starts in
     let left = enough before link at in
@@ -204,11 +141,8 @@ turned {first} {links} before link {lists} own front {next} {rest} {begun} {step
       split = sym (append_assoc front own at.behind) ∙ at.split;
       each = omega (arith, left, parts, fills, sum);
       found = record {
-        first = kept_is ∙ sym (ap head_of all);
-        rest =
-            ap plain_starts is_more
-            ∙ linked_push (plain_phrase link.to) done back rest next near later
-            ∙ sym (ap (λ ls. reverse (drop 1 ls)) all);
+        first = simp (is_kept, near, is_starts, length-map, lists_front own at.behind n fills, kept_back);
+        rest = simp (is_more, length-map, kept_back) (linked_push (plain_phrase link.to) done back rest next near later);
       };
       taken = record {
         at_least = omega (arith, at.taken.at_least, one.at_least, two.at_least);
@@ -216,57 +150,58 @@ turned {first} {links} before link {lists} own front {next} {rest} {begun} {step
       };
     }
 
+moved : {first : Phrase} {links left more : List Link} {lists front both : List Places} {next : Starts} {rest : List Starts} {begun steps : Steps}
+    → left ≡ more → front ≡ both → IsBack first links left lists front next rest begun steps → IsBack first links more lists both next rest begun steps
+moved {first} {links} {left} {more} {lists} {front} {both} {next} {rest} {begun} {steps} is same at =
+    subst (λ l. IsBack first links l lists both next rest begun steps) is (subst (λ f. IsBack first links left lists f next rest begun steps) same at)
+
 -- ---- answers
 
--- the phrase that is taken first
-last_is : (c : After-len) → c.match-split_last.last.now ≡ last_of c.args.first.now c.args.links.now
-last_is c =
-    elim c.match-split_last.branch [
-      | in-Some w ↦ ap (λ b. b.now) w.last-is ∙ sym (last_some c.args.first.now c.args.links.now _ w.in-Some.link.now w.in-Some.ensures.cases.0)
-      | in-None w ↦ ap (λ b. b.now) w.last-is ∙ sym (last_none c.args.first.now c.args.links.now w.in-None.ensures.cases)
-    ]
+-- the phrase that is taken first, its size, and that of the one that is taken in a turn
+last_is : (c : After-len) → c.last_of-last.result.now ≡ last_of c.args.near.now.first c.args.near.now.links.items
+last_is c = c.last_of-last.ensures ∙ ap (last_of c.args.near.now.first) c.as_slice-left.ensures.value
 
--- the one that is taken in a turn
-phrase_is : (c : After-len-size) → c.match-split_last-3.phrase.now ≡ last_of c.args.first.now c.in-Some-split_last.before.now
-phrase_is c =
-    let first = c.args.first.now in
-    let before = c.in-Some-split_last.before.now in
-    elim c.match-split_last-3.branch [
-      | in-Some-split_last-2 w ↦ ap (λ b. b.now) w.phrase-is
-          ∙ sym (last_some first before _ w.in-Some-split_last-2.link.now w.in-Some-split_last-2.ensures.cases.0)
-      | in-None-split_last w ↦ ap (λ b. b.now) w.phrase-is ∙ sym (last_none first before w.in-None-split_last.ensures.cases)
-    ]
+last_size : (c : After-len) → c.len.result ≡ length (last_of c.args.near.now.first c.args.near.now.links.items).terms.items
+last_size c =
+    let size : c.len.result ≡ length c.last_of-last.result.now.terms.items = search rules in
+    size ∙ ap (λ p. length p.terms.items) (last_is c)
 
-short : (c : After-len) → c.len.result ≤ length c.args.lists.now
-short c =
-    let is = ap (λ p. length p.terms.items) (last_is c) in
-    let size : c.len.result ≡ length c.match-split_last.last.now.terms.items = search rules in
-    let few = last_short c.args.first.now c.args.links.now in
-    let sum = chain_count c.args.first.now c.args.links.now in
-    omega (arith, is, size, few, sum, c.requires)
+phrase_size : (c : After-len-size) → c.len-size.result ≡ length (last_of c.args.near.now.first c.in-Some.before.now).terms.items
+phrase_size c =
+    let size : c.len-size.result ≡ length c.last_of-phrase.result.now.terms.items = search rules in
+    size ∙ ap (λ p. length p.terms.items) c.last_of-phrase.ensures
 
 pub overflow_sub-lists : goal.overflow_sub-lists
-overflow_sub-lists c = short c
+overflow_sub-lists c =
+    let size = last_size c in
+    let few = last_short c.args.near.now.first c.args.near.now.links.items in
+    let sum = chain_count c.args.near.now.first c.args.near.now.links.items in
+    omega (arith, size, few, sum, c.requires)
+
+pub starts_of-requires : goal.starts_of-requires
+starts_of-requires c =
+    let size : c.len.result ≡ length c.last_of-last.result.now.terms.items = search rules in
+    let enough = overflow_sub-lists (goal.at.starts_of-requires c).After-len in
+    omega (arith, size, enough, c.split_at.ensures.back_len)
 
 begun_each : (c : After-split_at)
-    → length c.split_at.result.0.now + length (last_of c.args.first.now c.args.links.now).terms.items ≡ length c.args.lists.now
+    → length c.split_at.result.0.now + length (last_of c.args.near.now.first c.args.near.now.links.items).terms.items ≡ length c.args.lists.now
 begun_each c =
-    let is = ap (λ p. length p.terms.items) (last_is (goal.at.After-split_at c).After-len) in
-    let size : c.len.result ≡ length c.match-split_last.last.now.terms.items = search rules in
-    let few = short (goal.at.After-split_at c).After-len in
-    omega (arith, is, size, few, c.split_at.ensures.front_len)
+    let size = last_size (goal.at.After-split_at c).After-len in
+    let few = overflow_sub-lists (goal.at.After-split_at c).After-len in
+    omega (arith, size, few, c.split_at.ensures.front_len)
 
 pub returns-in_err-next-clause-steps : goal.returns-in_err-next-clause-steps
 returns-in_err-next-clause-steps c =
-    let first = c.args.first.now in
-    let links = c.args.links.now in
+    let first = c.args.near.now.first in
+    let links = c.args.near.now.links.items in
     let front = c.split_at.result.0.now in
     let own = c.split_at.result.1.now in
     let each = begun_each (goal.at.returns-in_err-next-clause-steps c).After-split_at in
     let part = part_cost first links [] front own (each ∙ c.requires ∙ chain_count first links) in
-    let whole =
-    ap (λ ls. linked_cost (plain_phrase first) (map plain_link ls) (plain_lists (front ++ own))) (append-nil links)
-    ∙ ap (λ ls. linked_cost (plain_phrase first) (map plain_link links) (plain_lists ls)) (sym c.split_at.ensures.by_index.0) in
+    let whole : linked_cost (plain_phrase first) (map plain_link (links ++ [])) (plain_lists (front ++ own))
+    ≡ linked_cost (plain_phrase first) (map plain_link links) (plain_lists c.args.lists.now) =
+    simp (append-nil, ← c.split_at.ensures.by_index.0) in
     record {
       at_least = c.in_err-next.ensures.steps.at_least;
       at_most = omega (arith, part, whole, c.in_err-next.ensures.steps.at_most);
@@ -274,63 +209,63 @@ returns-in_err-next-clause-steps c =
 
 pub loop-link-init : goal.loop-link-init
 loop-link-init c =
-    let is = last_is (goal.at.loop-link-init c).After-len in
-    record {
+    let here = (goal.at.loop-link-init c).After-split_at in
+    let first = c.args.near.now.first in
+    let links = c.args.near.now.links.items in
+    let own = c.split_at.result.1.now in
+    let is = last_is (goal.at.After-split_at here).After-len in
+    let at : IsBack first links links c.args.lists.now c.split_at.result.0.now c.in_ok-next.next c.new-rest.result.items c.args.steps.now
+    c.starts_of.new.steps = record {
       done = [];
-      behind = c.split_at.result.1.now;
-      all = append-nil c.args.links.now;
+      behind = own;
+      all = append-nil links;
       split = sym c.split_at.ensures.by_index.0;
-      each = begun_each (goal.at.loop-link-init c).After-split_at ∙ c.requires;
+      each = begun_each here ∙ c.requires;
       found = record {
-        first = c.in_ok-next.ensures.starts ∙ ap (λ p. starts_of (plain_phrase p) (plain_lists c.split_at.result.1.now)) is;
+        first = c.in_ok-next.ensures.starts ∙ ap (λ p. starts_of (plain_phrase p) (plain_lists own)) is;
         rest = ap plain_starts c.new-rest.ensures.items;
       };
       taken = c.in_ok-next.ensures.steps;
-    }
-
-moved : {first : Phrase} {links left more : List Link} {lists front both : List Places} {next : Starts} {rest : List Starts} {begun steps : Steps}
-    → left ≡ more → front ≡ both → IsBack first links left lists front next rest begun steps → IsBack first links more lists both next rest begun steps
-moved {first} {links} {left} {more} {lists} {front} {both} {next} {rest} {begun} {steps} is same at =
-    subst (λ l. IsBack first links l lists both next rest begun steps) is (subst (λ f. IsBack first links left lists f next rest begun steps) same at)
+    } in
+    moved (sym c.as_slice-left.ensures.value) refl at
 
 pub overflow_sub-front : goal.overflow_sub-front
 overflow_sub-front c =
-    let size : c.len-size.result ≡ length c.match-split_last-3.phrase.now.terms.items = search rules in
-    let is = ap (λ p. length p.terms.items) (phrase_is c) in
-    let few = last_short c.args.first.now c.in-Some-split_last.before.now in
-    let left = enough _ _ (moved c.in-Some-split_last.ensures.cases.0 refl c.loop-link.invariant) in
-    omega (arith, size, is, few, left)
+    let size = phrase_size c in
+    let few = last_short c.args.near.now.first c.in-Some.before.now in
+    let left = enough _ _ (moved c.in-Some.ensures.cases.0 refl c.loop-link.invariant) in
+    omega (arith, size, few, left)
 
-turn : (c : After-split_at-in-Some-split_last)
-    → IsBack c.args.first.now c.args.links.now (c.in-Some-split_last.before.now ++ c.in-Some-split_last.link.now ∷ []) c.args.lists.now
-    (c.split_at-in-Some-split_last.result.0.now ++ c.split_at-in-Some-split_last.result.1.now) c.loop-link.next c.loop-link.rest.items c.args.steps.now
+turn : (c : After-split_at-in-Some)
+    → IsBack c.args.near.now.first c.args.near.now.links.items (c.in-Some.before.now ++ c.in-Some.link.now ∷ []) c.args.lists.now
+    (c.split_at-in-Some.result.0.now ++ c.split_at-in-Some.result.1.now) c.loop-link.next c.loop-link.rest.items c.args.steps.now
     c.loop-link.steps
-turn c = moved c.in-Some-split_last.ensures.cases.0 c.split_at-in-Some-split_last.ensures.by_index.0 c.loop-link.invariant
+turn c = moved c.in-Some.ensures.cases.0 c.split_at-in-Some.ensures.by_index.0 c.loop-link.invariant
 
-fills : (c : After-split_at-in-Some-split_last)
-    → length c.split_at-in-Some-split_last.result.1.now ≡ length (last_of c.args.first.now c.in-Some-split_last.before.now).terms.items
+fills : (c : After-split_at-in-Some)
+    → length c.split_at-in-Some.result.1.now ≡ length (last_of c.args.near.now.first c.in-Some.before.now).terms.items
 fills c =
-    let before = (goal.at.After-split_at-in-Some-split_last c).After-len-size in
-    let size : c.len-size.result ≡ length c.match-split_last-3.phrase.now.terms.items = search rules in
-    let is = ap (λ p. length p.terms.items) (phrase_is before) in
+    let before = (goal.at.After-split_at-in-Some c).After-len-size in
+    let size = phrase_size before in
     let enough = overflow_sub-front before in
-    omega (arith, size, is, enough, c.split_at-in-Some-split_last.ensures.back_len)
+    omega (arith, size, enough, c.split_at-in-Some.ensures.back_len)
 
-cost : (c : After-split_at-in-Some-split_last)
-    → c.loop-link.steps.taken + 2 * total (plain_lists c.split_at-in-Some-split_last.result.1.now) + length c.loop-link.next.places.items
-    + 3 * length (starts_of (plain_phrase (last_of c.args.first.now c.in-Some-split_last.before.now)) (plain_lists c.split_at-in-Some-split_last.result.1.now))
-    ≤ c.args.steps.now.taken + linked_cost (plain_phrase c.args.first.now) (map plain_link c.args.links.now) (plain_lists c.args.lists.now)
-cost c = turn_cost _ _ _ _ (turn c) (fills c)
+cost : (c : After-split_at-in-Some)
+    → c.loop-link.steps.taken + 2 * total (plain_lists c.split_at-in-Some.result.1.now) + length c.loop-link.next.items
+    + 3 * length (starts_of (plain_phrase c.last_of-phrase.result.now) (plain_lists c.split_at-in-Some.result.1.now))
+    ≤ c.args.steps.now.taken + linked_cost (plain_phrase c.args.near.now.first) (map plain_link c.args.near.now.links.items)
+    (plain_lists c.args.lists.now)
+cost c = rw c.last_of-phrase.ensures (turn_cost _ _ _ _ (turn c) (fills c))
 
-pub starts_of-requires-in-Some-split_last : goal.starts_of-requires-in-Some-split_last
-starts_of-requires-in-Some-split_last c =
-    let size : c.len-size.result ≡ length c.match-split_last-3.phrase.now.terms.items = search rules in
-    let enough = overflow_sub-front (goal.at.starts_of-requires-in-Some-split_last c).After-len-size in
-    omega (arith, size, enough, c.split_at-in-Some-split_last.ensures.back_len)
+pub starts_of-requires-in-Some : goal.starts_of-requires-in-Some
+starts_of-requires-in-Some c =
+    let size : c.len-size.result ≡ length c.last_of-phrase.result.now.terms.items = search rules in
+    let enough = overflow_sub-front (goal.at.starts_of-requires-in-Some c).After-len-size in
+    omega (arith, size, enough, c.split_at-in-Some.ensures.back_len)
 
 pub returns-in_err-starts-clause-steps : goal.returns-in_err-starts-clause-steps
 returns-in_err-starts-clause-steps c =
-    let all = cost (goal.at.returns-in_err-starts-clause-steps c).After-split_at-in-Some-split_last in
+    let all = cost (goal.at.returns-in_err-starts-clause-steps c).After-split_at-in-Some in
     record {
       at_least = omega (arith, c.loop-link.invariant.taken.at_least, c.in_err-starts.ensures.steps.at_least);
       at_most = omega (arith, all, c.in_err-starts.ensures.steps.at_most);
@@ -338,10 +273,8 @@ returns-in_err-starts-clause-steps c =
 
 pub returns-in_err-kept-clause-steps : goal.returns-in_err-kept-clause-steps
 returns-in_err-kept-clause-steps c =
-    let all = cost (goal.at.returns-in_err-kept-clause-steps c).After-split_at-in-Some-split_last in
-    let is = phrase_is (goal.at.returns-in_err-kept-clause-steps c).After-len-size in
-    let starts =
-    ap length (c.in_ok-starts.ensures.starts ∙ ap (λ p. starts_of (plain_phrase p) (plain_lists c.split_at-in-Some-split_last.result.1.now)) is) in
+    let all = cost (goal.at.returns-in_err-kept-clause-steps c).After-split_at-in-Some in
+    let starts = ap length c.in_ok-starts.ensures.starts in
     record {
       at_least = omega (arith, c.loop-link.invariant.taken.at_least, c.in_ok-starts.ensures.steps.at_least, c.in_err-kept.ensures.steps.at_least);
       at_most = omega (arith, all, starts, c.in_ok-starts.ensures.steps.at_most, c.in_err-kept.ensures.steps.at_most);
@@ -349,10 +282,8 @@ returns-in_err-kept-clause-steps c =
 
 pub returns-in_err-push-clause-steps : goal.returns-in_err-push-clause-steps
 returns-in_err-push-clause-steps c =
-    let all = cost (goal.at.returns-in_err-push-clause-steps c).After-split_at-in-Some-split_last in
-    let is = phrase_is (goal.at.returns-in_err-push-clause-steps c).After-len-size in
-    let starts =
-    ap length (c.in_ok-starts.ensures.starts ∙ ap (λ p. starts_of (plain_phrase p) (plain_lists c.split_at-in-Some-split_last.result.1.now)) is) in
+    let all = cost (goal.at.returns-in_err-push-clause-steps c).After-split_at-in-Some in
+    let starts = ap length c.in_ok-starts.ensures.starts in
     record {
       at_least = omega (arith, c.loop-link.invariant.taken.at_least, c.in_ok-starts.ensures.steps.at_least, c.in_ok-kept.ensures.steps.at_least);
       at_most = omega (arith, all, starts, c.in_ok-starts.ensures.steps.at_most, c.in_ok-kept.ensures.steps.at_most);
@@ -360,20 +291,12 @@ returns-in_err-push-clause-steps c =
 
 pub loop-link-preserved : goal.loop-link-preserved
 loop-link-preserved c =
-    let here = (goal.at.loop-link-preserved c).After-split_at-in-Some-split_last in
-    let is = phrase_is (goal.at.loop-link-preserved c).After-len-size in
-    let before = c.in-Some-split_last.before.now in
-    let link = c.in-Some-split_last.link.now in
-    let front = c.split_at-in-Some-split_last.result.0.now in
-    let own = c.split_at-in-Some-split_last.result.1.now in
-    let next = c.loop-link.next.places.items in
-    let starts = c.in_ok-starts.starts in
-    let of_phrase : c.len-size.result ≡ length c.match-split_last-3.phrase.now.terms.items = search rules in
-    let of_link : c.len-in-Some-split_last.result ≡ length link.to.terms.items = search rules in
-    let kept =
-    c.in_ok-kept.ensures.starts
-    ∙ ap (λ k. near_those link.most k next c.len-size.result starts.places.items) of_link
-    ∙ ap (λ m. near_those link.most (length link.to.terms.items) next m starts.places.items) (of_phrase ∙ ap (λ p. length p.terms.items) is) in
-    turned before link own front (turn here) (fills here) starts c.in_ok-kept.kept c.push.new.self.items c.starts_of-in-Some-split_last.new.steps
-    c.near.new.steps (c.in_ok-starts.ensures.starts ∙ ap (λ p. starts_of (plain_phrase p) (plain_lists own)) is) kept c.in_ok-push.ensures.items
-    c.in_ok-starts.ensures.steps c.in_ok-kept.ensures.steps
+    let here = (goal.at.loop-link-preserved c).After-split_at-in-Some in
+    let size = phrase_size (goal.at.loop-link-preserved c).After-len-size in
+    let link = c.in-Some.link.now in
+    let own = c.split_at-in-Some.result.1.now in
+    let of_link : c.len-k.result ≡ length link.to.terms.items = search rules in
+    turned c.in-Some.before.now link own c.split_at-in-Some.result.0.now (turn here) (fills here) c.in_ok-starts.starts c.in_ok-kept.kept
+    c.push.new.self.items c.starts_of-in-Some.new.steps c.near_those.new.steps
+    (c.in_ok-starts.ensures.starts ∙ ap (λ p. starts_of (plain_phrase p) (plain_lists own)) c.last_of-phrase.ensures)
+    (simp (← size, ← of_link) c.in_ok-kept.ensures.starts) c.in_ok-push.ensures.items c.in_ok-starts.ensures.steps c.in_ok-kept.ensures.steps

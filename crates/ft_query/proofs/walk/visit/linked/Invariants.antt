@@ -1,20 +1,6 @@
-use Rattle.std.proofs.Common.{◌≡◌, ◌+◌, List, [], ◌∷◌, ◌++◌, length, map}
-use Rattle.ft_query.specs.declared.query.Link.{Link}
-use Rattle.ft_query.specs.declared.query.Phrase.{Phrase}
-use Rattle.ft_query.specs.declared.standing.Steps.{Steps}
-use Rattle.ft_query.specs.declared.walk.places.Places.{Places}
-use Rattle.ft_query.specs.declared.walk.places.Starts.{Starts}
-use Rattle.ft_query.specs.Trees.{plain_phrase, plain_link, chain}
-use Rattle.ft_query.specs.Marked.{AreLinked}
-use Rattle.ft_query.specs.Taken.{TakesAtMost}
-use Rattle.ft_query.specs.Work.{terms_in}
-use Rattle.ft_query.specs.Visit.{linked, linked_cost, plain_lists}
+use Rattle.std.proofs.Common.{◌≡◌, ◌+◌, List, ◌++◌, length, map}
+use Rattle.ft_query.proofs.Common.{Link, Phrase, Steps, Places, Starts, plain_phrase, plain_link, chain, AreLinked, TakesAtMost, terms_in, linked, linked_cost, plain_lists, last_of}
 use Rattle.ft_query.proofs.walk.visit.linked.Given as goal
-
--- the last phrase of a chain
-abbrev pub last_of : Phrase → List Link → Phrase
-last_of first [] = first
-last_of first (link ∷ links) = last_of link.to links
 
 -- Behind the links that are left stand those that are done. What is found is what these link from
 -- the last phrase before them on, in the lists after those that are left, and took no more steps
@@ -29,7 +15,7 @@ pub record IsBack (first : Phrase) (links left : List Link) (lists front : List 
   pub taken : TakesAtMost (linked_cost (plain_phrase (last_of first left)) (map plain_link done) (plain_lists behind)) begun steps
 
 abbrev pub invariant-loop-link : goal.invariant-loop-link
-invariant-loop-link l = IsBack l.first l.links l.left l.lists l.front l.next l.rest.items l.fn.steps l.steps
+invariant-loop-link l = IsBack l.near.first l.near.links.items l.left l.lists l.front l.next l.rest.items l.fn.steps l.steps
 
 abbrev pub decreases-loop-link : goal.decreases-loop-link
 decreases-loop-link l = length l.left

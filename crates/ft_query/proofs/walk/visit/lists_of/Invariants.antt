@@ -1,6 +1,5 @@
 use Rattle.std.proofs.Common.{◌≡◌, take}
-use Rattle.ft_query.specs.Visit.{plain_lists, places_in}
-use Rattle.ft_query.specs.Taken.{TakesSteps}
+use Rattle.ft_query.proofs.Common.{plain_lists, places_in, TakesSteps}
 use Rattle.ft_query.proofs.walk.visit.lists_of.Given as goal
 
 abbrev pub invariant-loop-cursor : goal.invariant-loop-cursor

@@ -1,20 +1,8 @@
-use Rattle.std.proofs.Common.{◌≡◌, ℕ, ◌+◌, ◌-◌, ◌*◌, ◌≤◌, Bor, Option, Some, None, List, ◌∷◌, ◌++◌, map, take, drop, length, unwrap_or, refl, sym, ap, ◌∙◌, subst, append-nil, rules, arith}
-use Rattle.std.specs.Prelude.{flat_map}
-use Rattle.std.specs.Option.{option_copied}
-use Rattle.std.proofs.lemmas.List.{drop_more, drop_all, drop-drop, length-append, length-map, length-take-le, length-drop}
-use Rattle.ft_query.specs.declared.query.Link.{Link}
-use Rattle.ft_query.specs.declared.lists.place.Place.{Place}
-use Rattle.ft_query.specs.declared.standing.Steps.{Steps}
-use Rattle.ft_query.specs.declared.walk.places.Places.{Places}
-use Rattle.ft_query.specs.declared.walk.places.Starts.{Starts}
-use Rattle.ft_query.specs.declared.walk.visit.Found.{Found}
-use Rattle.ft_query.specs.Trees.{plain_term, plain_link}
-use Rattle.ft_query.specs.Taken.{TakesAtMost}
-use Rattle.ft_query.specs.Visit.{near_those, link_marks, link_cost, numbered_offsets, marks_from, total, plain_lists, plain_starts}
-use Rattle.ft_query.proofs.Marks.{count_more}
-use Rattle.ft_query.proofs.Passes.{numbered_marks, link_marks_one, back_lists, map-take}
+use Rattle.std.proofs.Common.{◌≡◌, ℕ, ◌+◌, ◌<◌, ◌-◌, ◌*◌, ◌≤◌, Bor, Option, Some, None, List, ◌∷◌, ◌++◌, map, take, drop, length, unwrap_or, refl, sym, ap, ◌∙◌, subst, append-nil, rules, arith, flat_map, option_copied, drop-drop, length-append, length-take-le, length-drop}
+use Rattle.ft_query.proofs.Common.{take-map, drop-map, drop_more, drop_all, length-map, Link, Place, Steps, Places, Starts, Found, plain_term, plain_link, TakesAtMost, near_those, link_marks, link_cost, numbered_offsets, marks_from, total, plain_lists, plain_starts}
+use Rattle.ft_query.proofs.Passes.{count_more, numbered_marks, link_marks_one}
 use Rattle.ft_query.proofs.walk.visit.mark_links.Invariants.{AreMarked}
-use Rattle.ft_query.proofs.walk.visit.mark_links.Goals.{After-len-size, After-near}
+use Rattle.ft_query.proofs.walk.visit.mark_links.Goals.{After-len-size, After-near_those}
 use Rattle.ft_query.proofs.walk.visit.mark_links.Goals as goal
 
 -- ---- one link
@@ -22,24 +10,12 @@ use Rattle.ft_query.proofs.walk.visit.mark_links.Goals as goal
 -- the steps for the marks of one link, and those for the links after it
 cost_one : (k : ℕ) (starts : List Place) (link : Link) (links : List Link) (lists own behind : List Places) (others : Starts) (all : List Starts) (size : ℕ)
     (next : List Place) → size ≡ length link.to.terms.items → own ≡ take size lists → behind ≡ drop size lists
-    → next ≡ near_those link.most k starts size others.places.items
-    → length starts + 3 * length others.places.items + total (plain_lists own) + size * length next
+    → next ≡ near_those link.most k starts size others.items
+    → length starts + 3 * length others.items + total (plain_lists own) + size * length next
     + link_cost size next (map plain_link links) (plain_lists behind) (plain_starts all)
     ≡ link_cost k starts (map plain_link (link ∷ links)) (plain_lists lists) (plain_starts (others ∷ all))
 cost_one k starts link links lists own behind others all size next is_size is_own is_behind is_next =
-    let terms = link.to.terms.items in
-    let n = length (map plain_term terms) in
-    let same : size ≡ n = is_size ∙ sym (length-map terms plain_term) in
-    let near : ℕ → List Place = λ m. near_those link.most k starts m others.places.items in
-    let front : plain_lists own ≡ take n (plain_lists lists) =
-    ap plain_lists is_own ∙ sym (map-take size lists) ∙ ap (λ m. take m (plain_lists lists)) same in
-    let back = sym (back_lists terms lists behind size is_size is_behind) in
-    let cost : ℕ → List Place → List (List Place) → List (List Place) → ℕ =
-    λ m s own rest. length starts + 3 * length others.places.items + total own + m * length s + link_cost m s (map plain_link links) rest (plain_starts all) in
-    ap (λ s. cost size s (plain_lists own) (plain_lists behind)) is_next
-    ∙ ap (λ m. cost m (near m) (plain_lists own) (plain_lists behind)) same
-    ∙ ap (λ ls. cost n (near n) ls (plain_lists behind)) front
-    ∙ ap (λ ls. cost n (near n) (take n (plain_lists lists)) ls) back
+    simp (is_next, is_own, is_behind, is_size, take-map, drop-map, length-map)
 
 terms_one : (link : Link) (links : List Link)
     → length (flat_map (λ l. l.to.terms) (map plain_link (link ∷ links)))
@@ -54,10 +30,10 @@ marked_on : {marks : List (List Place)} {count cost at k : ℕ} {starts : List P
     → AreMarked marks count cost at k starts (link ∷ links) lists (others ∷ all) old mid begun steps
     → (own behind : List Places) (size : ℕ) (next : List Place) (new : Found) (between after : Steps)
     → size ≡ length link.to.terms.items → own ≡ take size lists → behind ≡ drop size lists
-    → next ≡ near_those link.most k starts size others.places.items
+    → next ≡ near_those link.most k starts size others.items
     → new.wanted ≡ mid.wanted → new.offsets.items ≡ mid.offsets.items ++ numbered_offsets mid.next (marks_from 0 (plain_lists own) next)
     → new.next ≡ mid.next + length own
-    → TakesAtMost (length starts + 3 * length others.places.items) steps between
+    → TakesAtMost (length starts + 3 * length others.items) steps between
     → TakesAtMost (total (plain_lists own) + length own * length next) between after
     → AreMarked marks count cost (at + size) size next links behind all old new begun after
 marked_on {marks} {count} {cost} {at} {k} {starts} {link} {links} {lists} {others} {all} {old} {mid} {begun} {steps} so_far own behind size next new between
@@ -105,9 +81,10 @@ held (Some x) p s is = ap (λ q. unwrap_or q s.now) is
 
 enough : (c : After-len-size) → c.loop-i.at + c.len-size.result ≤ length c.args.lists.now
 enough c =
-    let size : c.len-size.result ≡ length c.index-links-i.result.to.terms.items = search rules in
-    let is = ap (λ l. length l.to.terms.items) c.index-links-i.is in
-    let more = count_more c.args.links.now c.loop-i.i c.index-links-i.result c.loop-i-test.true in
+    let size : c.len-size.result ≡ length c.link-item.result.to.terms.items = search rules in
+    let links_are = c.deref-link-items.ensures.value in
+    let is = ap (λ l. length l.to.terms.items) (rw links_are at c.link-item.is) in
+    let more = count_more c.args.near.now.links.items c.loop-i.i c.link-item.result (rw links_are at c.loop-i-test.true) in
     omega (arith, size, is, more, c.loop-i.invariant.each, c.loop-i.invariant.left)
 
 pub slice_bounds-own-end : goal.slice_bounds-own-end
@@ -123,38 +100,42 @@ mark_phrase-requires c =
     omega (arith, before, few, own, c.loop-i.invariant.next, c.requires.lists.fits)
 
 -- what is marked so far, with the next link
-here : (c : After-near)
-    → AreMarked (link_marks c.args.k c.args.starts.now.places.items (map plain_link c.args.links.now) (plain_lists c.args.lists.now)
+here : (c : After-near_those)
+    → AreMarked (link_marks (length c.args.near.now.first.terms.items) c.args.starts.now.items (map plain_link c.args.near.now.links.items)
+    (plain_lists c.args.lists.now)
     (plain_starts c.args.all.now)) (length c.args.lists.now)
-    (link_cost c.args.k c.args.starts.now.places.items (map plain_link c.args.links.now) (plain_lists c.args.lists.now) (plain_starts c.args.all.now))
-    c.loop-i.at c.loop-i.k c.unwrap_or-starts.result.now.places.items (c.index-links-i.result ∷ drop (c.loop-i.i + 1) c.args.links.now)
+    (link_cost (length c.args.near.now.first.terms.items) c.args.starts.now.items (map plain_link c.args.near.now.links.items)
+    (plain_lists c.args.lists.now) (plain_starts c.args.all.now))
+    c.loop-i.at c.loop-i.k c.unwrap_or-starts.result.now.items (c.link-item.result ∷ drop (c.loop-i.i + 1) c.args.near.now.links.items)
     (drop c.loop-i.at c.args.lists.now) (c.index-all-i.result ∷ drop (c.loop-i.i + 1) c.args.all.now) c.args.found.now c.loop-i.found c.args.steps.now
     c.loop-i.steps
 here c =
     let i = c.loop-i.i in
-    let links = c.args.links.now in
+    let links = c.args.near.now.links.items in
     let all = c.args.all.now in
-    moved (ap (λ b. b.now.places.items) c.unwrap_or-starts.ensures
-    ∙ ap (λ s. s.places.items) (held c.as_ref.result c.loop-i.kept c.args.starts c.as_ref.ensures.value))
-    (drop_more links i c.index-links-i.result c.loop-i-test.true ∙ ap (λ l. l ∷ drop (i + 1) links) (sym c.index-links-i.is))
+    let links_are = c.deref-link-items.ensures.value in
+    let inside : i < length links = rw links_are at c.loop-i-test.true in
+    moved (ap (λ b. b.now.items) c.unwrap_or-starts.ensures
+    ∙ ap (λ s. s.items) (held c.as_ref.result c.loop-i.kept c.args.starts c.as_ref.ensures.value))
+    (drop_more links i c.link-item.result inside ∙ ap (λ l. l ∷ drop (i + 1) links) (sym (rw links_are at c.link-item.is)))
     (drop_more all i c.index-all-i.result (omega arith) ∙ ap (λ s. s ∷ drop (i + 1) all) (sym c.index-all-i.is)) c.loop-i.invariant
 
 pub returns-in_err-mark_phrase-clause-steps : goal.returns-in_err-mark_phrase-clause-steps
 returns-in_err-mark_phrase-clause-steps c =
     let at = c.loop-i.at in
     let lists = c.args.lists.now in
-    let size : c.len-size.result ≡ length c.index-links-i.result.to.terms.items = search rules in
+    let size : c.len-size.result ≡ length c.link-item.result.to.terms.items = search rules in
     let same : at + c.len-size.result - at ≡ c.len-size.result = omega arith in
     let own = ap (λ n. take n (drop at lists)) same in
     let before = enough (goal.at.returns-in_err-mark_phrase-clause-steps c).After-len-size in
     let left = length-drop at lists in
     let few = ap length own ∙ length-take-le c.len-size.result (drop at lists) (omega (arith, before, left)) in
-    let own_too = ap (λ n. n * length c.in_ok-next.next.places.items) few in
+    let own_too = ap (λ n. n * length c.in_ok-next.next.items) few in
     let costs =
-    cost_one c.loop-i.k c.unwrap_or-starts.result.now.places.items c.index-links-i.result (drop (c.loop-i.i + 1) c.args.links.now) (drop at lists)
+    cost_one c.loop-i.k c.unwrap_or-starts.result.now.items c.link-item.result (drop (c.loop-i.i + 1) c.args.near.now.links.items) (drop at lists)
     (take (at + c.len-size.result - at) (drop at lists)) (drop c.len-size.result (drop at lists)) c.index-all-i.result
-    (drop (c.loop-i.i + 1) c.args.all.now) c.len-size.result c.in_ok-next.next.places.items size own refl c.in_ok-next.ensures.starts in
-    let so_far = (here (goal.at.returns-in_err-mark_phrase-clause-steps c).After-near).taken in
+    (drop (c.loop-i.i + 1) c.args.all.now) c.len-size.result c.in_ok-next.next.items size own refl c.in_ok-next.ensures.starts in
+    let so_far = (here (goal.at.returns-in_err-mark_phrase-clause-steps c).After-near_those).taken in
     record {
       at_least = omega (arith, so_far.at_least, c.in_ok-next.ensures.steps.at_least, c.in_err-mark_phrase.ensures.steps.at_least);
       at_most = omega (arith, so_far.at_most, costs, own_too, c.in_ok-next.ensures.steps.at_most, c.in_err-mark_phrase.ensures.steps.at_most);
@@ -164,16 +145,17 @@ pub loop-i-preserved : goal.loop-i-preserved
 loop-i-preserved c =
     let at = c.loop-i.at in
     let lists = c.args.lists.now in
-    let size : c.len-size.result ≡ length c.index-links-i.result.to.terms.items = search rules in
+    let size : c.len-size.result ≡ length c.link-item.result.to.terms.items = search rules in
     let same : at + c.len-size.result - at ≡ c.len-size.result = omega arith in
-    marked_on (here (goal.at.loop-i-preserved c).After-near) (take (at + c.len-size.result - at) (drop at lists)) (drop (at + c.len-size.result) lists)
-    c.len-size.result c.in_ok-next.next.places.items c.mark_phrase.new.found c.near.new.steps c.mark_phrase.new.steps size
+    marked_on (here (goal.at.loop-i-preserved c).After-near_those) (take (at + c.len-size.result - at) (drop at lists))
+    (drop (at + c.len-size.result) lists)
+    c.len-size.result c.in_ok-next.next.items c.mark_phrase.new.found c.near_those.new.steps c.mark_phrase.new.steps size
     (ap (λ n. take n (drop at lists)) same) (sym (drop-drop c.len-size.result at lists)) c.in_ok-next.ensures.starts c.in_ok-mark_phrase.ensures.marks.wanted
     c.in_ok-mark_phrase.ensures.marks.offsets c.in_ok-mark_phrase.ensures.marks.next c.in_ok-next.ensures.steps c.in_ok-mark_phrase.ensures.steps
 
 pub returns-clause-marks : goal.returns-clause-marks
 returns-clause-marks c =
-    let none = drop_all c.loop-i.i c.args.links.now c.loop-i-test.false in
+    let none = drop_all c.loop-i.i c.args.near.now.links.items (rw c.deref-link-items.ensures.value at c.loop-i-test.false) in
     let at = moved refl none refl c.loop-i.invariant in
     record {
       wanted = at.wanted;

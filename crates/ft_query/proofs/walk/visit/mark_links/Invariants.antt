@@ -1,14 +1,5 @@
-use Rattle.std.proofs.Common.{◌≡◌, ℕ, ◌+◌, List, ◌++◌, length, map, drop, unwrap_or}
-use Rattle.std.specs.Prelude.{flat_map}
-use Rattle.ft_query.specs.declared.lists.place.Place.{Place}
-use Rattle.ft_query.specs.declared.query.Link.{Link}
-use Rattle.ft_query.specs.declared.standing.Steps.{Steps}
-use Rattle.ft_query.specs.declared.walk.places.Places.{Places}
-use Rattle.ft_query.specs.declared.walk.places.Starts.{Starts}
-use Rattle.ft_query.specs.declared.walk.visit.Found.{Found}
-use Rattle.ft_query.specs.Trees.{plain_link}
-use Rattle.ft_query.specs.Taken.{TakesOf}
-use Rattle.ft_query.specs.Visit.{link_marks, link_cost, numbered_offsets, plain_lists, plain_starts}
+use Rattle.std.proofs.Common.{◌≡◌, ℕ, ◌+◌, List, ◌++◌, length, map, drop, unwrap_or, flat_map}
+use Rattle.ft_query.proofs.Common.{Place, Link, Steps, Places, Starts, Found, plain_link, TakesOf, link_marks, link_cost, numbered_offsets, plain_lists, plain_starts}
 use Rattle.ft_query.proofs.walk.visit.mark_links.Given as goal
 
 -- These marks are added but for those of the links that are left, and of so many steps the ones for
@@ -25,6 +16,8 @@ pub record AreMarked (marks : List (List Place)) (count cost at k : ℕ) (starts
 
 abbrev pub invariant-loop-i : goal.invariant-loop-i
 invariant-loop-i l =
-    AreMarked (link_marks l.fn.k l.starts.places.items (map plain_link l.links) (plain_lists l.lists) (plain_starts l.all)) (length l.lists)
-    (link_cost l.fn.k l.starts.places.items (map plain_link l.links) (plain_lists l.lists) (plain_starts l.all)) l.at l.k
-    (unwrap_or l.kept l.starts).places.items (drop l.i l.links) (drop l.at l.lists) (drop l.i l.all) l.fn.found l.found l.fn.steps l.steps
+    AreMarked (link_marks (length l.near.first.terms.items) l.starts.items (map plain_link l.near.links.items) (plain_lists l.lists)
+    (plain_starts l.all))
+    (length l.lists)
+    (link_cost (length l.near.first.terms.items) l.starts.items (map plain_link l.near.links.items) (plain_lists l.lists) (plain_starts l.all))
+    l.at l.k (unwrap_or l.kept l.starts).items (drop l.i l.near.links.items) (drop l.at l.lists) (drop l.i l.all) l.fn.found l.found l.fn.steps l.steps

@@ -1,6 +1,6 @@
 use Rattle.std.proofs.Common.{◌≡◌, ℕ, rules}
 use Rattle.std.proofs.lemmas.List.Sorted.{answers_always}
-use Rattle.ft_query.specs.declared.walk.Offset.{Offset}
+use Rattle.ft_query.proofs.Common.{Offset}
 use Rattle.ft_query.proofs.walk.visit.sort_offsets.Goals as goal
 
 key : Offset → ℕ × ℕ × ℕ

@@ -1,6 +1,5 @@
 use Rattle.std.proofs.Common.{subst, None}
-use Rattle.ft_query.specs.declared.walk.visit.Wanted.TheVariants.{Docids}
-use Rattle.ft_query.specs.Search.{Finds}
+use Rattle.ft_query.proofs.Common.{Docids, Finds}
 use Rattle.ft_query.proofs.Finding.{found_docid}
 use Rattle.ft_query.proofs.walk.matches.Matches.next_docid.Goals as goal
 
