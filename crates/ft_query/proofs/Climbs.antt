@@ -1,6 +1,6 @@
 -- The evaluation of a query from its first operand on, one joint after the other.
 use Rattle.std.proofs.Common.{◌≡◌, ℕ, ◌+◌, ◌-◌, ◌≤◌, ◌<◌, ◌^◌, Bool, List, [], ◌∷◌, ◌++◌, length, take, drop, refl, sym, ap, ◌∙◌, subst, append-nil, append_assoc, add_assoc, arith, Ok, length-append, length-take-le, take-append-drop}
-use Rattle.ft_query.proofs.Common.{nil_from_length, take-append-le, drop-append-le, Place, Offset, Steps, Places, By, Joint, Found, Wanted, Docids, Offsets, Tree, phrase, chain, both, either, without, tree_of, terms_in, node_count, width, more_steps, TakesAtMost, joined_sides, joined_answer, joined_marks, whole, is_accepted, marks_of, numbered_offsets, if_wanted, plain_lists, visit_cost, own_lists, lists_after, HaveLists, Evaluates, Joins}
+use Rattle.ft_query.proofs.Common.{nil_from_length, take-append-le, drop-append-le, Place, Offset, Steps, LentPlaces, By, Joint, Found, Wanted, Docids, Offsets, Tree, phrase, chain, both, either, without, tree_of, terms_in, node_count, width, more_steps, TakesAtMost, joined_sides, joined_answer, joined_marks, whole, is_accepted, marks_of, numbered_offsets, if_wanted, plain_lists, visit_cost, own_lists, lists_after, HaveLists, Evaluates, Joins}
 use Rattle.ft_query.proofs.Passes.{numbered_more, lists_front, lists_back}
 use Rattle.ft_query.proofs.Spines.{joined_terms, part_terms, right_width, whole_last}
 use Rattle.ft_query.specs.declared.walk.joint.By.TheVariants as by
@@ -36,7 +36,7 @@ told_count : (wanted : Wanted) (ms more : List (List Place))
 told_count Docids ms more = refl
 told_count Offsets ms more = sym (length-append ms more)
 
-joined_evaluates : (b : By) (p q : Tree) (front own : List Places) (left all : Bool) (old mid new : Found) → length front ≡ length (terms_in p)
+joined_evaluates : (b : By) (p q : Tree) (front own : List LentPlaces) (left all : Bool) (old mid new : Found) → length front ≡ length (terms_in p)
     → Evaluates (Ok left) old mid p front → Joins b left (Ok all) mid new q own → Evaluates (Ok all) old new (joined_sides p b q) (front ++ own)
 joined_evaluates b p q front own left all old mid new same one two =
     let n = length (terms_in p) in
@@ -64,7 +64,7 @@ joined_evaluates b p q front own left all old mid new same one two =
 
 -- ---- the steps
 
-cost_front : (p : Tree) (front own : List Places) → length front ≡ length (terms_in p) → (b : By) (q : Tree)
+cost_front : (p : Tree) (front own : List LentPlaces) → length front ≡ length (terms_in p) → (b : By) (q : Tree)
     → visit_cost (joined_sides p b q) (plain_lists (front ++ own)) ≡ 1 + (visit_cost p (plain_lists front) + visit_cost q (plain_lists own))
 cost_front p front own same b q =
     let n = length (terms_in p) in
@@ -92,7 +92,7 @@ takes_then m n a b c one two = record { at_least = omega arith; at_most = omega 
 -- ---- a part and what is joined to it
 
 -- a part's steps are among those of the whole
-part_cost : (js : List Joint) (p : Tree) (front rest : List Places) → length front ≡ length (terms_in p)
+part_cost : (js : List Joint) (p : Tree) (front rest : List LentPlaces) → length front ≡ length (terms_in p)
     → length (front ++ rest) ≡ length (terms_in (whole js p))
     → visit_cost p (plain_lists front) ≤ visit_cost (whole js p) (plain_lists (front ++ rest))
 part_cost [] p front rest same all =
@@ -118,9 +118,9 @@ part_cost (j ∷ js) p front rest same all =
 
 -- A part with its joints is the query, and its lists are the front. It is evaluated, and whether it
 -- accepts is told.
-pub record Climbs (query : Tree) (lists rest : List Places) (joints : List Joint) (accepted : Bool) (old now : Found) (begun steps : Steps) : Type 0 where
+pub record Climbs (query : Tree) (lists rest : List LentPlaces) (joints : List Joint) (accepted : Bool) (old now : Found) (begun steps : Steps) : Type 0 where
   pub part : Tree
-  pub front : List Places
+  pub front : List LentPlaces
   pub all : whole joints part ≡ query
   pub each : length front ≡ length (terms_in part)
   pub split : front ++ rest ≡ lists
@@ -129,7 +129,7 @@ pub record Climbs (query : Tree) (lists rest : List Places) (joints : List Joint
   pub nodes : more_steps (node_count part) begun ≤ steps.taken
 
 -- what a first operand takes where no memory is left
-first_failed : {query : Tree} {lists : List Places} {begun steps : Steps} (leaf : Tree) (own rest : List Places) (joints : List Joint)
+first_failed : {query : Tree} {lists : List LentPlaces} {begun steps : Steps} (leaf : Tree) (own rest : List LentPlaces) (joints : List Joint)
     → whole joints leaf ≡ query → own ++ rest ≡ lists → length own ≡ length (terms_in leaf) → length lists ≡ length (terms_in query)
     → TakesAtMost (visit_cost leaf (plain_lists own)) begun steps → TakesAtMost (visit_cost query (plain_lists lists)) begun steps
 first_failed {query} {lists} {begun} {steps} leaf own rest joints all split each same taken =
@@ -138,12 +138,12 @@ first_failed {query} {lists} {begun} {steps} leaf own rest joints all split each
     record { at_least = taken.at_least; at_most = omega (arith, taken.at_most, cost, whole_cost) }
 
 -- what the next right side needs: it has its lists, and is less wide than the query
-record Fits (query right : Tree) (rest : List Places) (mid : Found) : Type 0 where
+record Fits (query right : Tree) (rest : List LentPlaces) (mid : Found) : Type 0 where
   pub lists : length (terms_in right) ≤ length rest
   pub numbers : mid.next + length rest < 2 ^ 64
   pub less : width right < width query
 
-climbs_fit : {query : Tree} {lists rest : List Places} (js : List Joint) (j : Joint) {left : Bool} {old mid : Found} {begun steps : Steps}
+climbs_fit : {query : Tree} {lists rest : List LentPlaces} (js : List Joint) (j : Joint) {left : Bool} {old mid : Found} {begun steps : Steps}
     → Climbs query lists rest (js ++ j ∷ []) left old mid begun steps → length lists ≡ length (terms_in query) → old.next + length lists < 2 ^ 64
     → Fits query (tree_of j.right.now) rest mid
 climbs_fit {query} {lists} {rest} js j {left} {old} {mid} {begun} {steps} at same fits =
@@ -162,7 +162,7 @@ climbs_fit {query} {lists} {rest} js j {left} {old} {mid} {begun} {steps} at sam
     }
 
 -- a right side more
-climbs_on : {query : Tree} {lists rest own behind : List Places} {js : List Joint}
+climbs_on : {query : Tree} {lists rest own behind : List LentPlaces} {js : List Joint}
     (j : Joint) {left all : Bool} {old mid new : Found} {begun steps after : Steps}
     → Climbs query lists rest (js ++ j ∷ []) left old mid begun steps → own ++ behind ≡ rest → length own ≡ length (terms_in (tree_of j.right.now))
     → Joins j.by left (Ok all) mid new (tree_of j.right.now) own → TakesAtMost (1 + visit_cost (tree_of j.right.now) (plain_lists own)) steps after
@@ -187,7 +187,7 @@ climbs_on {query} {lists} {rest} {own} {behind} {js} j {left} {all} {old} {mid} 
     }
 
 -- what is taken where a right side finds no memory
-climb_failed : {query : Tree} {lists rest : List Places} (own behind : List Places) (js : List Joint)
+climb_failed : {query : Tree} {lists rest : List LentPlaces} (own behind : List LentPlaces) (js : List Joint)
     (j : Joint) {left : Bool} {old mid : Found} {begun steps after : Steps}
     → Climbs query lists rest (js ++ j ∷ []) left old mid begun steps → own ++ behind ≡ rest → length own ≡ length (terms_in (tree_of j.right.now))
     → length lists ≡ length (terms_in query)
@@ -210,24 +210,24 @@ climb_failed {query} {lists} {rest} own behind js j {left} {old} {mid} {begun} {
 -- ---- the same, where the lists of other parts come after the query's
 
 -- Lists are left for the joints, and after them those that come after the query's.
-pub record Climbing (query : Tree) (lists left : List Places) (joints : List Joint) (accepted : Bool) (old now : Found) (begun steps : Steps) : Type 0 where
-  pub rest : List Places
+pub record Climbing (query : Tree) (lists left : List LentPlaces) (joints : List Joint) (accepted : Bool) (old now : Found) (begun steps : Steps) : Type 0 where
+  pub rest : List LentPlaces
   pub stands : left ≡ rest ++ lists_after query lists
   pub climbs : Climbs query (own_lists query lists) rest joints accepted old now begun steps
 
-pub with_joints : {query : Tree} {lists left : List Places} {js ks : List Joint} {accepted : Bool} {old now : Found} {begun steps : Steps}
+pub with_joints : {query : Tree} {lists left : List LentPlaces} {js ks : List Joint} {accepted : Bool} {old now : Found} {begun steps : Steps}
     → js ≡ ks → Climbing query lists left js accepted old now begun steps → Climbing query lists left ks accepted old now begun steps
 with_joints {query} {lists} {left} {js} {ks} {accepted} {old} {now} {begun} {steps} is at =
     subst (λ joints. Climbing query lists left joints accepted old now begun steps) is at
 
 -- the lists of a part are the first of those that are the query's
-record IsFront (leaf query : Tree) (lists : List Places) : Type 0 where
+record IsFront (leaf query : Tree) (lists : List LentPlaces) : Type 0 where
   own : own_lists leaf lists ≡ own_lists leaf (own_lists query lists)
   after : lists_after leaf lists ≡ lists_after leaf (own_lists query lists) ++ lists_after query lists
   each : length (own_lists leaf (own_lists query lists)) ≡ length (terms_in leaf)
   all : length (own_lists query lists) ≡ length (terms_in query)
 
-front_is : (joints : List Joint) (leaf query : Tree) (lists : List Places) → whole joints leaf ≡ query → length (terms_in query) ≤ length lists
+front_is : (joints : List Joint) (leaf query : Tree) (lists : List LentPlaces) → whole joints leaf ≡ query → length (terms_in query) ≤ length lists
     → IsFront leaf query lists
 front_is joints leaf query lists all enough =
     let k = length (terms_in leaf) in
@@ -244,7 +244,7 @@ front_is joints leaf query lists all enough =
       all = long;
     }
 
-pub leaf_fits : {query : Tree} {lists : List Places} {found : Found} (joints : List Joint) (leaf : Tree) → whole joints leaf ≡ query
+pub leaf_fits : {query : Tree} {lists : List LentPlaces} {found : Found} (joints : List Joint) (leaf : Tree) → whole joints leaf ≡ query
     → HaveLists found (terms_in query) lists → HaveLists found (terms_in leaf) lists
 leaf_fits {query} {lists} {found} joints leaf all have =
     let few = part_terms joints leaf in
@@ -252,7 +252,7 @@ leaf_fits {query} {lists} {found} joints leaf all have =
     record { each = omega (arith, few, same, have.each); fits = have.fits }
 
 -- the first operand
-pub climb_begun : {query : Tree} {lists left : List Places} {accepted : Bool} {old now : Found} {begun steps : Steps} (joints : List Joint) (leaf : Tree)
+pub climb_begun : {query : Tree} {lists left : List LentPlaces} {accepted : Bool} {old now : Found} {begun steps : Steps} (joints : List Joint) (leaf : Tree)
     → whole joints leaf ≡ query → length (terms_in query) ≤ length lists
     → Evaluates (Ok accepted) old now leaf (own_lists leaf lists) → left ≡ lists_after leaf lists
     → TakesAtMost (visit_cost leaf (plain_lists (own_lists leaf lists))) begun steps → more_steps (node_count leaf) begun ≤ steps.taken
@@ -276,7 +276,7 @@ climb_begun {query} {lists} {left} {accepted} {old} {now} {begun} {steps} joints
       };
     }
 
-pub begun_failed : {query : Tree} {begun steps : Steps} (lists : List Places) (joints : List Joint) (leaf : Tree)
+pub begun_failed : {query : Tree} {begun steps : Steps} (lists : List LentPlaces) (joints : List Joint) (leaf : Tree)
     → whole joints leaf ≡ query → length (terms_in query) ≤ length lists
     → TakesAtMost (visit_cost leaf (plain_lists (own_lists leaf lists))) begun steps
     → TakesAtMost (visit_cost query (plain_lists (own_lists query lists))) begun steps
@@ -288,11 +288,11 @@ begun_failed {query} {begun} {steps} lists joints leaf all enough taken =
     (subst (λ l. TakesAtMost (visit_cost leaf (plain_lists l)) begun steps) front.own taken)
 
 -- what the next right side needs
-pub record FitsNext (query right : Tree) (left : List Places) (mid : Found) : Type 0 where
+pub record FitsNext (query right : Tree) (left : List LentPlaces) (mid : Found) : Type 0 where
   pub have : HaveLists mid (terms_in right) left
   pub less : width right < width query
 
-pub climbing_fits : {query : Tree} {lists left : List Places} (js : List Joint) (j : Joint) {accepted : Bool} {old mid : Found} {begun steps : Steps}
+pub climbing_fits : {query : Tree} {lists left : List LentPlaces} (js : List Joint) (j : Joint) {accepted : Bool} {old mid : Found} {begun steps : Steps}
     → Climbing query lists left (js ++ j ∷ []) accepted old mid begun steps → HaveLists old (terms_in query) lists
     → FitsNext query (tree_of j.right.now) left mid
 climbing_fits {query} {lists} {left} js j {accepted} {old} {mid} {begun} {steps} at have =
@@ -312,12 +312,12 @@ climbing_fits {query} {lists} {left} js j {accepted} {old} {mid} {begun} {steps}
     }
 
 -- the lists of the next right side are the first of those that are left
-record IsNext (right : Tree) (left rest after : List Places) : Type 0 where
+record IsNext (right : Tree) (left rest after : List LentPlaces) : Type 0 where
   own : own_lists right left ≡ own_lists right rest
   behind : lists_after right left ≡ lists_after right rest ++ after
   each : length (own_lists right rest) ≡ length (terms_in right)
 
-next_is : (right : Tree) (left rest after : List Places) → left ≡ rest ++ after → length (terms_in right) ≤ length rest → IsNext right left rest after
+next_is : (right : Tree) (left rest after : List LentPlaces) → left ≡ rest ++ after → length (terms_in right) ≤ length rest → IsNext right left rest after
 next_is right left rest after is short =
     let m = length (terms_in right) in
     record {
@@ -326,7 +326,7 @@ next_is right left rest after is short =
       each = length-take-le m rest short;
     }
 
-pub climbing_on : {query : Tree} {lists left behind : List Places} (js : List Joint) (j : Joint)
+pub climbing_on : {query : Tree} {lists left behind : List LentPlaces} (js : List Joint) (j : Joint)
     {accepted all : Bool} {old mid new : Found} {begun steps after : Steps}
     → Climbing query lists left (js ++ j ∷ []) accepted old mid begun steps → HaveLists old (terms_in query) lists
     → Joins j.by accepted (Ok all) mid new (tree_of j.right.now) (own_lists (tree_of j.right.now) left)
@@ -348,7 +348,7 @@ climbing_on {query} {lists} {left} {behind} js j {accepted} {all} {old} {mid} {n
           (subst (λ l. TakesAtMost (1 + visit_cost q (plain_lists l)) steps after) next.own taken) nodes;
     }
 
-pub climbing_failed : {query : Tree} {lists left : List Places} (js : List Joint) (j : Joint) {accepted : Bool} {old mid : Found} {begun steps after : Steps}
+pub climbing_failed : {query : Tree} {lists left : List LentPlaces} (js : List Joint) (j : Joint) {accepted : Bool} {old mid : Found} {begun steps after : Steps}
     → Climbing query lists left (js ++ j ∷ []) accepted old mid begun steps → HaveLists old (terms_in query) lists
     → TakesAtMost (1 + visit_cost (tree_of j.right.now) (plain_lists (own_lists (tree_of j.right.now) left))) steps after
     → TakesAtMost (visit_cost query (plain_lists (own_lists query lists))) begun after
@@ -362,13 +362,13 @@ climbing_failed {query} {lists} {left} js j {accepted} {old} {mid} {begun} {step
     (subst (λ l. TakesAtMost (1 + visit_cost q (plain_lists l)) steps after) next.own taken)
 
 -- the whole query
-pub record IsClimbed (query : Tree) (lists left : List Places) (accepted : Bool) (old now : Found) (begun steps : Steps) : Type 0 where
+pub record IsClimbed (query : Tree) (lists left : List LentPlaces) (accepted : Bool) (old now : Found) (begun steps : Steps) : Type 0 where
   pub evaluates : Evaluates (Ok accepted) old now query (own_lists query lists)
   pub left_is : left ≡ lists_after query lists
   pub taken : TakesAtMost (visit_cost query (plain_lists (own_lists query lists))) begun steps
   pub nodes : more_steps (node_count query) begun ≤ steps.taken
 
-pub climbed : {query : Tree} {lists left : List Places} {accepted : Bool} {old now : Found} {begun steps : Steps}
+pub climbed : {query : Tree} {lists left : List LentPlaces} {accepted : Bool} {old now : Found} {begun steps : Steps}
     → Climbing query lists left [] accepted old now begun steps → length (terms_in query) ≤ length lists
     → IsClimbed query lists left accepted old now begun steps
 climbed {query} {lists} {left} {accepted} {old} {now} {begun} {steps} at enough =
@@ -392,7 +392,7 @@ climbed {query} {lists} {left} {accepted} {old} {now} {begun} {steps} at enough 
 
 -- ---- the joints that wait, behind those of the parts around
 
-pub record ClimbingOver (query : Tree) (lists left : List Places) (around joints : List Joint)
+pub record ClimbingOver (query : Tree) (lists left : List LentPlaces) (around joints : List Joint)
     (accepted : Bool) (old now : Found) (begun steps : Steps) : Type 0 where
   pub own : List Joint
   pub behind : joints ≡ around ++ own
@@ -412,13 +412,13 @@ own_last (i ∷ around) own (k ∷ joints) j same more =
     let is = own_last around own joints j (cc same) (omega arith) in
     record { rest = is.rest; own_is = is.own_is; behind = cc (same, is.behind) }
 
-pub record ClimbingNext (query : Tree) (lists left : List Places) (around joints : List Joint) (j : Joint)
+pub record ClimbingNext (query : Tree) (lists left : List LentPlaces) (around joints : List Joint) (j : Joint)
     (accepted : Bool) (old now : Found) (begun steps : Steps) : Type 0 where
   pub rest : List Joint
   pub behind : joints ≡ around ++ rest
   pub climbs : Climbing query lists left (rest ++ j ∷ []) accepted old now begun steps
 
-pub next_joint : {query : Tree} {lists left : List Places} {around all joints : List Joint} {j : Joint}
+pub next_joint : {query : Tree} {lists left : List LentPlaces} {around all joints : List Joint} {j : Joint}
     {accepted : Bool} {old now : Found} {begun steps : Steps}
     → ClimbingOver query lists left around all accepted old now begun steps → all ≡ joints ++ j ∷ [] → length around < length all
     → ClimbingNext query lists left around joints j accepted old now begun steps
@@ -427,7 +427,7 @@ next_joint {query} {lists} {left} {around} {all} {joints} {j} {accepted} {old} {
     let is = own_last around at.own joints j (sym at.behind ∙ last) (omega (arith, more, long)) in
     record { rest = is.rest; behind = is.behind; climbs = with_joints is.own_is at.climbs }
 
-pub no_joint : {query : Tree} {lists left : List Places} {around all : List Joint} {accepted : Bool} {old now : Found} {begun steps : Steps}
+pub no_joint : {query : Tree} {lists left : List LentPlaces} {around all : List Joint} {accepted : Bool} {old now : Found} {begun steps : Steps}
     → ClimbingOver query lists left around all accepted old now begun steps → length all ≤ length around
     → (all ≡ around) × Climbing query lists left [] accepted old now begun steps
 no_joint {query} {lists} {left} {around} {all} {accepted} {old} {now} {begun} {steps} at few =

@@ -45,6 +45,6 @@ pub use Rattle.ft_query.specs.Spines.{joined_sides, joined_answer, joined_marks,
 pub use Rattle.ft_query.specs.Taken.{more_steps, TakesAtMost, TakesSteps, TakesOf, LooksAtAll}
 pub use Rattle.ft_query.specs.Tokens.{PlainToken, tokens_of, is_eligible, AreTokens, plain_token, covers, small_range, token_of, tokens_from, Scan, ended}
 pub use Rattle.ft_query.specs.Trees.{Tree, phrase, chain, both, either, without, PlainTerm, PlainPhrase, PlainLink, tree_of, plain_term, plain_link, plain_phrase, tree_of_chain}
-pub use Rattle.ft_query.specs.Visit.{Places, Starts, last_of, listed_places, starts_of, marks_from, head_of, linked, link_marks, near_those, marks_of, is_accepted, numbered_offsets, if_wanted, plain_lists, visit_cost, among, may_begin, followed, starts_from, total, linked_cost, link_cost, places_in, place_order, seek, is_behind, skip_behind, begin_near, offset_at, plain_starts, precedes}
+pub use Rattle.ft_query.specs.Visit.{LentPlaces, Occurrences, last_phrase, listed_places, starts_of, marks_from, head_of, linked, link_marks, near_those, marks_of, is_accepted, numbered_offsets, if_wanted, plain_lists, visit_cost, among, may_begin, followed, starts_from, total, linked_cost, link_cost, places_in, place_order, seek, is_behind, skip_behind, begin_near, offset_at, plain_starts, precedes}
 pub use Rattle.ft_query.specs.Walk.{Walk, StandsBefore, steps_to_come, Went, hit_at, Walked, WalkedTo, lists_to_come}
 pub use Rattle.ft_query.specs.Work.{terms_in, node_count, width, lists_of, entry_count, candidate_count}

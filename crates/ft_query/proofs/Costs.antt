@@ -1,6 +1,6 @@
 -- The steps for one document are few for each place of its lists and each term of the query.
 use Rattle.std.proofs.Common.{◌≡◌, ℕ, ◌+◌, ◌*◌, ◌≤◌, Bool, true, false, cond, List, [], ◌∷◌, ◌++◌, length, take, drop, zero, suc, refl, sym, ap, ◌∙◌, subst, arith, max, ℤ, filter, flat_map, sum_by, Option, mul-le-mul_left, length-append, length-take-le, length-drop, take_all}
-use Rattle.ft_query.proofs.Common.{length-map, sum_by-cons, Place, Cursor, Steps, TakesAtMost, Places, own_lists, PlainTerm, PlainPhrase, PlainLink, Tree, phrase, chain, both, either, without, terms_in, width, lists_left, places_at, among, may_begin, followed, starts_from, starts_of, near_those, head_of, linked, total, linked_cost, link_cost, visit_cost, plain_lists, places_in}
+use Rattle.ft_query.proofs.Common.{length-map, sum_by-cons, Place, Cursor, Steps, TakesAtMost, LentPlaces, own_lists, PlainTerm, PlainPhrase, PlainLink, Tree, phrase, chain, both, either, without, terms_in, width, lists_left, places_at, among, may_begin, followed, starts_from, starts_of, near_those, head_of, linked, total, linked_cost, link_cost, visit_cost, plain_lists, places_in}
 use Rattle.ft_query.proofs.Passes.{among_short, followed_few, near_short, filter_short}
 
 total_split : (n : ℕ) (ls : List (List Place)) → total (take n ls) + total (drop n ls) ≡ total ls
@@ -199,7 +199,7 @@ document_bound tree docid cursors lists same is =
     omega (arith, cost, all, terms, same)
 
 -- where the lists are just those of the query's terms, they are all its own
-pub own_are : (tree : Tree) (docid : ℤ) (cursors : List Cursor) (lists : List Places) → length cursors ≡ length (terms_in tree)
+pub own_are : (tree : Tree) (docid : ℤ) (cursors : List Cursor) (lists : List LentPlaces) → length cursors ≡ length (terms_in tree)
     → plain_lists lists ≡ places_in docid cursors → plain_lists (own_lists tree lists) ≡ places_in docid cursors
 own_are tree docid cursors lists same is =
     let many : length lists ≡ length (terms_in tree) =
@@ -207,7 +207,7 @@ own_are tree docid cursors lists same is =
     ap plain_lists (take_all (length (terms_in tree)) lists (omega (arith, many))) ∙ is
 
 -- what the evaluation of a document takes, after the looks for its lists
-pub document_takes : (tree : Tree) (docid : ℤ) (cursors : List Cursor) (lists : List Places) {begun mid new : Steps}
+pub document_takes : (tree : Tree) (docid : ℤ) (cursors : List Cursor) (lists : List LentPlaces) {begun mid new : Steps}
     → length cursors ≡ length (terms_in tree) → plain_lists lists ≡ places_in docid cursors
     → begun.taken ≤ mid.taken → mid.taken ≤ begun.taken + length cursors
     → TakesAtMost (visit_cost tree (plain_lists (own_lists tree lists))) mid new

@@ -1,6 +1,6 @@
 -- How many places the passes keep.
 use Rattle.std.proofs.Common.{◌≡◌, ℕ, ◌+◌, ◌<◌, List, [], ◌∷◌, ◌++◌, length, map, take, drop, get_or, ap, sym, ◌∙◌, arith, flat_map, append_assoc, length-append, length-drop, length-take-le, ◌*◌, ◌≤◌, Bool, true, false, cond, reverse, suc, add-zero, refl, take_at, drop_at, filter, None, Ordering, Less, Equal, Greater}
-use Rattle.ft_query.proofs.Common.{length-map, drop_more, Places, Place, Offset, Link, PlainPhrase, PlainLink, chain, plain_link, plain_term, terms_in, marks_from, head_of, linked, link_marks, near_those, marks_of, numbered_offsets, plain_lists, match_ordering, map-append, take-map, drop-map, Chain, chain_tree, AreLinked, last_of, reverse-append, reverse-reverse, QueryTerm, Phrase, plain_phrase, place_order, seek, among, skip_behind, begin_near, may_begin, followed, offset_at, plain_starts, total, linked_cost, link_cost, visit_cost, Starts}
+use Rattle.ft_query.proofs.Common.{length-map, drop_more, LentPlaces, Place, Offset, Link, PlainPhrase, PlainLink, chain, plain_link, plain_term, terms_in, marks_from, head_of, linked, link_marks, near_those, marks_of, numbered_offsets, plain_lists, match_ordering, map-append, take-map, drop-map, Chain, chain_tree, AreLinked, last_phrase, reverse-append, reverse-reverse, QueryTerm, Phrase, plain_phrase, place_order, seek, among, skip_behind, begin_near, may_begin, followed, offset_at, plain_starts, total, linked_cost, link_cost, visit_cost, Occurrences}
 
 -- what is left of a list, with the one that was found
 abbrev left_over : Bool × List Place → ℕ
@@ -58,12 +58,12 @@ all_may_begin (x ∷ xs) = ap (λ ys. x ∷ ys) (all_may_begin xs)
 
 -- ---- the lists of a phrase's terms, one after the other
 
-pub total_more : (lists : List Places) (i : ℕ) (l : Places) → i < length lists
+pub total_more : (lists : List LentPlaces) (i : ℕ) (l : LentPlaces) → i < length lists
     → total (plain_lists (drop i lists)) ≡ length (get_or lists i l).now + total (plain_lists (drop (i + 1) lists))
 total_more lists i l h = ap (λ ls. total (plain_lists ls)) (drop_more lists i l h)
 
 -- the first term of those that are left, with its list
-pub follow_more : (i : ℕ) (terms : List QueryTerm) (lists : List Places) (starts : List Place) (t : QueryTerm) (l : Places) → i < length terms
+pub follow_more : (i : ℕ) (terms : List QueryTerm) (lists : List LentPlaces) (starts : List Place) (t : QueryTerm) (l : LentPlaces) → i < length terms
     → length lists ≡ length terms → t ≡ get_or terms i t
     → followed (i + 1) (map plain_term (drop i terms)) (plain_lists (drop i lists)) starts
     ≡ followed (i + 1 + 1) (map plain_term (drop (i + 1) terms)) (plain_lists (drop (i + 1) lists))
@@ -87,7 +87,7 @@ linked_first : (p : PlainPhrase) (links : List PlainLink) (lists : List (List Pl
 linked_first p [] lists = refl
 linked_first p (link ∷ links) lists = refl
 
-pub linked_push : (p : PlainPhrase) (links : List PlainLink) (lists : List (List Place)) (rest : List Starts) (next : Starts)
+pub linked_push : (p : PlainPhrase) (links : List PlainLink) (lists : List (List Place)) (rest : List Occurrences) (next : Occurrences)
     → next.items ≡ head_of (linked p links lists) → plain_starts rest ≡ reverse (drop 1 (linked p links lists))
     → plain_starts (rest ++ next ∷ []) ≡ reverse (linked p links lists)
 linked_push p links lists rest next first later =
@@ -95,7 +95,7 @@ linked_push p links lists rest next first later =
     (sym (ap reverse (linked_first p links lists) ∙ reverse-append (head_of (linked p links lists) ∷ []) (drop 1 (linked p links lists))))
 
 -- the last phrase of a chain with one link more
-pub last_push : (first : Phrase) (links : List Link) (link : Link) → last_of first (links ++ link ∷ []) ≡ link.to
+pub last_push : (first : Phrase) (links : List Link) (link : Link) → last_phrase first (links ++ link ∷ []) ≡ link.to
 last_push first [] link = refl
 last_push first (l ∷ links) link = last_push l.to links link
 
@@ -113,16 +113,16 @@ marks_length i (l ∷ ls) starts = ap (λ n. suc n) (marks_length (i + 1) ls sta
 
 -- ---- the lists of a phrase's terms, and those after them
 
-pub lists_front : (front own : List Places) (n : ℕ) → length front ≡ n → take n (plain_lists (front ++ own)) ≡ plain_lists front
-lists_front front own n same = ap (take n) (map-append (λ (l : Places). l.now) front own)
+pub lists_front : (front own : List LentPlaces) (n : ℕ) → length front ≡ n → take n (plain_lists (front ++ own)) ≡ plain_lists front
+lists_front front own n same = ap (take n) (map-append (λ (l : LentPlaces). l.now) front own)
     ∙ take_at (plain_lists front) (plain_lists own) n (length-map front (λ l. l.now) ∙ same)
 
-pub lists_back : (front own : List Places) (n : ℕ) → length front ≡ n → drop n (plain_lists (front ++ own)) ≡ plain_lists own
-lists_back front own n same = ap (drop n) (map-append (λ (l : Places). l.now) front own)
+pub lists_back : (front own : List LentPlaces) (n : ℕ) → length front ≡ n → drop n (plain_lists (front ++ own)) ≡ plain_lists own
+lists_back front own n same = ap (drop n) (map-append (λ (l : LentPlaces). l.now) front own)
     ∙ drop_at (plain_lists front) (plain_lists own) n (length-map front (λ l. l.now) ∙ same)
 
 -- the marks of one link, and those of the links after it
-pub link_marks_one : (k : ℕ) (starts : List Place) (link : Link) (links : List Link) (lists own behind : List Places) (others : Starts) (all : List Starts)
+pub link_marks_one : (k : ℕ) (starts : List Place) (link : Link) (links : List Link) (lists own behind : List LentPlaces) (others : Occurrences) (all : List Occurrences)
     (size : ℕ) (next : List Place)
     → size ≡ length link.to.terms.items → own ≡ take size lists → behind ≡ drop size lists → next ≡ near_those link.most k starts size others.items
     → marks_from 0 (plain_lists own) next ++ link_marks size next (map plain_link links) (plain_lists behind) (plain_starts all)
@@ -136,26 +136,26 @@ linked_length p (link ∷ links) lists =
     let behind = drop (length p.terms) lists in
     ap length (linked_first link.to links behind) ∙ ap (λ n. suc n) (linked_length link.to links behind)
 
-starts-reverse : (all : List Starts) → plain_starts (reverse all) ≡ reverse (plain_starts all)
+starts-reverse : (all : List Occurrences) → plain_starts (reverse all) ≡ reverse (plain_starts all)
 starts-reverse [] = refl
 starts-reverse (x ∷ all) =
     ap plain_starts (reverse-append (x ∷ []) all)
     ∙ simp (map-append, starts-reverse all) (sym (reverse-append (x.items ∷ []) (plain_starts all)))
 
-pub starts_forward : (all : List Starts) (lists : List (List Place)) → plain_starts all ≡ reverse lists → plain_starts (reverse all) ≡ lists
+pub starts_forward : (all : List Occurrences) (lists : List (List Place)) → plain_starts all ≡ reverse lists → plain_starts (reverse all) ≡ lists
 starts_forward all lists is = starts-reverse all ∙ ap reverse is ∙ reverse-reverse lists
 
-pub starts_many : (all : List Starts) (lists : List (List Place)) → plain_starts all ≡ lists → length all ≡ length lists
+pub starts_many : (all : List Occurrences) (lists : List (List Place)) → plain_starts all ≡ lists → length all ≡ length lists
 starts_many all lists is = sym (length-map all (λ s. s.items)) ∙ ap length is
 
 -- The lists of a chain's first phrase and of the others, and the occurrences of each phrase.
-pub record Parted (near : Chain) (lists own behind : List Places) (starts : List Place) (all : List Starts) : Type 0 where
+pub record Parted (near : Chain) (lists own behind : List LentPlaces) (starts : List Place) (all : List Occurrences) : Type 0 where
   pub own_is : own ≡ take (length near.first.terms.items) lists
   pub behind_is : behind ≡ drop (length near.first.terms.items) lists
   pub starts_are : starts ≡ head_of (linked (plain_phrase near.first) (map plain_link near.links.items) (plain_lists lists))
   pub all_are : plain_starts all ≡ drop 1 (linked (plain_phrase near.first) (map plain_link near.links.items) (plain_lists lists))
 
-pub parted : (near : Chain) (lists : List Places) {own behind : List Places} (starts : Starts) (rest all : List Starts) (size : ℕ)
+pub parted : (near : Chain) (lists : List LentPlaces) {own behind : List LentPlaces} (starts : Occurrences) (rest all : List Occurrences) (size : ℕ)
     → size ≡ length near.first.terms.items → own ≡ take size lists → behind ≡ drop size lists → all ≡ reverse rest
     → AreLinked starts rest (linked (plain_phrase near.first) (map plain_link near.links.items) (plain_lists lists))
     → Parted near lists own behind starts.items all
@@ -167,14 +167,14 @@ parted near lists starts rest all size is own behind same are = record {
 }
 
 -- the marks of a chain's first phrase, and those of its links
-pub chain_marks : {near : Chain} {lists own behind : List Places} {starts : List Place} {all : List Starts} → Parted near lists own behind starts all
+pub chain_marks : {near : Chain} {lists own behind : List LentPlaces} {starts : List Place} {all : List Occurrences} → Parted near lists own behind starts all
     → marks_from 0 (plain_lists own) starts
     ++ link_marks (length near.first.terms.items) starts (map plain_link near.links.items) (plain_lists behind) (plain_starts all)
     ≡ marks_of (chain_tree near) (plain_lists lists)
 chain_marks p = simp (p.own_is, p.behind_is, p.starts_are, p.all_are, take-map, drop-map, length-map)
 
 -- the steps for a chain: back to its first phrase, for that one's marks, and for those of its links
-pub chain_cost : {near : Chain} {lists own behind : List Places} {starts : List Place} {all : List Starts} → Parted near lists own behind starts all
+pub chain_cost : {near : Chain} {lists own behind : List LentPlaces} {starts : List Place} {all : List Occurrences} → Parted near lists own behind starts all
     → 1 + length (map plain_link near.links.items)
     + (linked_cost (plain_phrase near.first) (map plain_link near.links.items) (plain_lists lists) + total (plain_lists own)
     + length near.first.terms.items * length starts
@@ -216,11 +216,11 @@ pub numbered_more : (old : List Offset) (n : ℕ) (ms more : List (List Place))
     → old ++ numbered_offsets n ms ++ numbered_offsets (n + length ms) more ≡ old ++ numbered_offsets n (ms ++ more)
 numbered_more old n ms more = append_assoc old (numbered_offsets n ms) (numbered_offsets (n + length ms) more) ∙ sym (ap (λ os. old ++ os) (numbered-append n ms more))
 
-pub phrase_marks_count : (lists : List Places) (starts : List Place) → length (marks_from 0 (plain_lists lists) starts) ≡ length lists
+pub phrase_marks_count : (lists : List LentPlaces) (starts : List Place) → length (marks_from 0 (plain_lists lists) starts) ≡ length lists
 phrase_marks_count lists starts = marks_length 0 (plain_lists lists) starts ∙ length-map lists (λ l. l.now)
 
 -- what the lists of a phrase's terms add before the terms after it
-pub numbered_marks : (old : List Offset) (n : ℕ) (lists : List Places) (starts : List Place) (more : List (List Place))
+pub numbered_marks : (old : List Offset) (n : ℕ) (lists : List LentPlaces) (starts : List Place) (more : List (List Place))
     → old ++ numbered_offsets n (marks_from 0 (plain_lists lists) starts) ++ numbered_offsets (n + length lists) more
     ≡ old ++ numbered_offsets n (marks_from 0 (plain_lists lists) starts ++ more)
 numbered_marks old n lists starts more =
@@ -236,7 +236,7 @@ count_more links i d h =
     ∙ length-append (map plain_term link.to.terms.items) (flat_map (λ l. l.to.terms) (map plain_link (drop (i + 1) links)))
     ∙ ap (λ n. n + length (flat_map (λ l. l.to.terms) (map plain_link (drop (i + 1) links)))) (length-map link.to.terms.items plain_term)
 
-pub chain_marks_count : (p : PlainPhrase) (links : List PlainLink) (lists : List Places) → length lists ≡ length (terms_in (chain p links))
+pub chain_marks_count : (p : PlainPhrase) (links : List PlainLink) (lists : List LentPlaces) → length lists ≡ length (terms_in (chain p links))
     → length (marks_of (chain p links) (plain_lists lists)) ≡ length lists
 chain_marks_count p links lists same =
     chain_marks_length p links (plain_lists lists) (length-map lists (λ l. l.now) ∙ same) ∙ length-map lists (λ l. l.now)

@@ -20,11 +20,11 @@ use Rattle.ft_query.specs.Work.{terms_in}
 use Rattle.ft_query.specs.Cursors.{lists_left, places_at}
 
 -- places that are referred to, and a phrase's occurrences, each by the place of its first token
-abbrev pub Places : Type 0
-Places = Bor (List Place)
+abbrev pub LentPlaces : Type 0
+LentPlaces = Bor (List Place)
 
-abbrev pub Starts : Type 0
-Starts = Vec Place Global
+abbrev pub Occurrences : Type 0
+Occurrences = Vec Place Global
 
 -- ---- passes over places
 
@@ -96,9 +96,9 @@ marks_from i (l ∷ ls) starts = among 0 i l starts ∷ marks_from (i + 1) ls st
 -- ---- chains
 
 -- the last phrase of a chain
-abbrev pub last_of : Phrase → List Link → Phrase
-last_of first [] = first
-last_of first (link ∷ links) = last_of link.to links
+abbrev pub last_phrase : Phrase → List Link → Phrase
+last_phrase first [] = first
+last_phrase first (link ∷ links) = last_phrase link.to links
 
 -- the first phrase's
 abbrev pub head_of : List (List Place) → List Place
@@ -156,7 +156,7 @@ numbered_offsets n [] = []
 numbered_offsets n (m ∷ ms) = map (offset_at n) m ++ numbered_offsets (n + 1) ms
 
 -- the occurrences of each of some phrases
-abbrev pub plain_starts : List Starts → List (List Place)
+abbrev pub plain_starts : List Occurrences → List (List Place)
 plain_starts all = map (λ s. s.items) all
 
 -- by column, then by place, then by term number
@@ -164,7 +164,7 @@ abbrev pub precedes : Offset → Offset → Bool
 precedes a b = is_lt (ordering_then (ordering_then (nat_cmp a.column b.column) (nat_cmp a.place b.place)) (nat_cmp a.term b.term))
 
 -- the lists behind these references
-abbrev pub plain_lists : List Places → List (List Place)
+abbrev pub plain_lists : List LentPlaces → List (List Place)
 plain_lists lists = map (λ l. l.now) lists
 
 -- what a term's list answers for a document: its places in every position

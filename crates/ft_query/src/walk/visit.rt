@@ -9,7 +9,7 @@ ghost use Rattle.ft_query.specs.Marked.{chain_tree, own_lists, lists_after, AreN
 ghost use Rattle.ft_query.specs.Spines.{leaf_tree};
 ghost use Rattle.ft_query.specs.Taken.{more_steps, TakesSteps, TakesAtMost, TakesOf, LooksForAll};
 ghost use Rattle.ft_query.specs.Work.{terms_in, node_count, width};
-ghost use Rattle.ft_query.specs.Visit.{followed, last_of, if_wanted, starts_of, marks_from, linked, link_marks, plain_starts, plain_lists, listed_places, precedes, places_in, total, linked_cost, link_cost, visit_cost};
+ghost use Rattle.ft_query.specs.Visit.{followed, last_phrase, if_wanted, starts_of, marks_from, linked, link_marks, plain_starts, plain_lists, listed_places, precedes, places_in, total, linked_cost, link_cost, visit_cost};
 
 use crate::lists::{Gap, Place};
 use crate::query::{Chain, Link, Phrase, Query, QueryTerm};
@@ -139,8 +139,8 @@ fn mark_phrase(
 }
 
 // The last phrase of a chain.
-fn last_of<'q>(first: &'q Phrase, links: &'q [Link]) -> &'q Phrase
-    ensures { result.now ≡ last_of first.now links.now }
+fn last_phrase<'q>(first: &'q Phrase, links: &'q [Link]) -> &'q Phrase
+    ensures { result.now ≡ last_phrase first.now links.now }
 {
     match links.split_last() {
         Some((link, _)) => &link.to,
@@ -165,12 +165,12 @@ fn linked(
         (map plain_link near.now.links.items) (plain_lists lists.now)) steps.old steps.new }
 {
     let mut left = near.links.as_slice();
-    let last = last_of(&near.first, left);
+    let last = last_phrase(&near.first, left);
     let (mut front, own) = lists.split_at(lists.len() - last.terms.len());
     let mut next = starts_of(alloc, last, own, steps)?;
     let mut rest = Vec::new(alloc);
     while let Some((link, before)) = left.split_last() {
-        let phrase = last_of(&near.first, before);
+        let phrase = last_phrase(&near.first, before);
         let size = phrase.terms.len();
         let (ahead, own) = front.split_at(front.len() - size);
         let starts = starts_of(alloc, phrase, own, steps)?;

@@ -1,9 +1,9 @@
 use Rattle.std.proofs.Common.{◌+◌, ◌<◌, [], map, drop, length, get_or, sym, ap, ◌∙◌, arith}
-use Rattle.ft_query.proofs.Common.{Places, plain_term, followed, plain_lists}
+use Rattle.ft_query.proofs.Common.{LentPlaces, plain_term, followed, plain_lists}
 use Rattle.ft_query.proofs.Passes.{follow_more, total_more, followed_few}
 use Rattle.ft_query.proofs.walk.visit.follow.Goals as goal
 
-no_list : Places
+no_list : LentPlaces
 no_list = record { ref_ptr = (0, 0); now = [] }
 
 pub loop-i-preserved : goal.loop-i-preserved

@@ -1,5 +1,5 @@
 use Rattle.std.proofs.Common.{◌≡◌, ℕ, ◌+◌, ◌*◌, ◌≤◌, List, [], ◌∷◌, ◌++◌, map, drop, reverse, length, refl, sym, ap, ◌∙◌, subst, append-nil, append_assoc, rules, arith, flat_map, length-append, length-drop}
-use Rattle.ft_query.proofs.Common.{nil_from_length, length-map, drop-map, drop-append-le, Link, Phrase, Steps, Places, Starts, PlainLink, plain_term, plain_phrase, plain_link, chain, TakesAtMost, terms_in, near_those, head_of, last_of, starts_of, linked, linked_cost, total, plain_lists, plain_starts}
+use Rattle.ft_query.proofs.Common.{nil_from_length, length-map, drop-map, drop-append-le, Link, Phrase, Steps, LentPlaces, Occurrences, PlainLink, plain_term, plain_phrase, plain_link, chain, TakesAtMost, terms_in, near_those, head_of, last_phrase, starts_of, linked, linked_cost, total, plain_lists, plain_starts}
 use Rattle.ft_query.proofs.Passes.{last_push, linked_push, lists_front, lists_back}
 use Rattle.ft_query.proofs.walk.visit.linked.Invariants.{IsBack}
 use Rattle.ft_query.proofs.walk.visit.linked.Goals.{After-len, After-split_at, After-len-size, After-split_at-in-Some}
@@ -31,7 +31,7 @@ unfolding count_of
 count_more link links = chain_count link.to links
 
 -- its terms are among those of the chain
-last_short : (first : Phrase) (links : List Link) → length (last_of first links).terms.items ≤ length first.terms.items + count_of links
+last_short : (first : Phrase) (links : List Link) → length (last_phrase first links).terms.items ≤ length first.terms.items + count_of links
 last_short first [] = omega arith
 last_short first (l ∷ links) =
     let more = last_short l.to links in
@@ -40,7 +40,7 @@ last_short first (l ∷ links) =
 
 -- ---- one phrase more
 
-cost_more : (phrase : Phrase) (link : PlainLink) (links : List PlainLink) (own behind : List Places) → length own ≡ length phrase.terms.items
+cost_more : (phrase : Phrase) (link : PlainLink) (links : List PlainLink) (own behind : List LentPlaces) → length own ≡ length phrase.terms.items
     → linked_cost (plain_phrase phrase) (link ∷ links) (plain_lists (own ++ behind))
     ≡ 2 * total (plain_lists own) + linked_cost link.to links (plain_lists behind) + length (head_of (linked link.to links (plain_lists behind)))
     + 3 * length (starts_of (plain_phrase phrase) (plain_lists own))
@@ -49,9 +49,9 @@ cost_more phrase link links own behind fills =
     simp (length-map, lists_front own behind n fills, lists_back own behind n fills)
 
 -- the steps from the last phrase on are among those for the whole chain
-part_cost : (first : Phrase) (left done : List Link) (front behind : List Places)
-    → length front + length (last_of first left).terms.items ≡ length first.terms.items + count_of left
-    → linked_cost (plain_phrase (last_of first left)) (map plain_link done) (plain_lists behind)
+part_cost : (first : Phrase) (left done : List Link) (front behind : List LentPlaces)
+    → length front + length (last_phrase first left).terms.items ≡ length first.terms.items + count_of left
+    → linked_cost (plain_phrase (last_phrase first left)) (map plain_link done) (plain_lists behind)
     ≤ linked_cost (plain_phrase first) (map plain_link (left ++ done)) (plain_lists (front ++ behind))
 unfolding count_of
 part_cost first [] done front behind each =
@@ -74,7 +74,7 @@ part_cost first (link ∷ left) done front behind each =
 -- ---- one turn
 
 -- the lists that are left are those of the phrases before this link
-enough : {first : Phrase} {links : List Link} (before : List Link) (link : Link) {lists front : List Places} {next : Starts} {rest : List Starts}
+enough : {first : Phrase} {links : List Link} (before : List Link) (link : Link) {lists front : List LentPlaces} {next : Occurrences} {rest : List Occurrences}
     {begun steps : Steps} → IsBack first links (before ++ link ∷ []) lists front next rest begun steps
     → length front ≡ length first.terms.items + count_of before
 enough {first} {links} before link {lists} {front} at =
@@ -84,17 +84,17 @@ enough {first} {links} before link {lists} {front} at =
     omega (arith, last, sum, more, at.each)
 
 -- the steps of one turn, with those before it, are among those for the whole chain
-turn_cost : {first : Phrase} {links : List Link} (before : List Link) (link : Link) {lists : List Places} (own front : List Places) {next : Starts}
-    {rest : List Starts} {begun steps : Steps} → IsBack first links (before ++ link ∷ []) lists (front ++ own) next rest begun steps
-    → length own ≡ length (last_of first before).terms.items
-    → steps.taken + 2 * total (plain_lists own) + length next.items + 3 * length (starts_of (plain_phrase (last_of first before)) (plain_lists own))
+turn_cost : {first : Phrase} {links : List Link} (before : List Link) (link : Link) {lists : List LentPlaces} (own front : List LentPlaces) {next : Occurrences}
+    {rest : List Occurrences} {begun steps : Steps} → IsBack first links (before ++ link ∷ []) lists (front ++ own) next rest begun steps
+    → length own ≡ length (last_phrase first before).terms.items
+    → steps.taken + 2 * total (plain_lists own) + length next.items + 3 * length (starts_of (plain_phrase (last_phrase first before)) (plain_lists own))
     ≤ begun.taken + linked_cost (plain_phrase first) (map plain_link links) (plain_lists lists)
 turn_cost {first} {links} before link {lists} own front {next} {rest} {begun} {steps} at fills =
-    let p = plain_phrase (last_of first before) in
+    let p = plain_phrase (last_phrase first before) in
     let last = last_push first before link in
     let done = map plain_link at.done in
     let back = plain_lists at.behind in
-    let cost = cost_more (last_of first before) (plain_link link) done own at.behind fills in
+    let cost = cost_more (last_phrase first before) (plain_link link) done own at.behind fills in
     let so_far = ap (λ l. linked_cost (plain_phrase l) done back) last in
     let near = ap length at.found.first ∙ ap (λ l. length (head_of (linked (plain_phrase l) done back))) last in
     let left = enough before link at in
@@ -106,18 +106,18 @@ turn_cost {first} {links} before link {lists} own front {next} {rest} {begun} {s
     omega (arith, cost, so_far, near, inner, whole, at.taken.at_most)
 
 -- one link less is left
-turned : {first : Phrase} {links : List Link} (before : List Link) (link : Link) {lists : List Places} (own front : List Places) {next : Starts}
-    {rest : List Starts} {begun steps : Steps} → IsBack first links (before ++ link ∷ []) lists (front ++ own) next rest begun steps
-    → length own ≡ length (last_of first before).terms.items
-    → (starts kept : Starts) (more : List Starts) (mid after : Steps)
-    → starts.items ≡ starts_of (plain_phrase (last_of first before)) (plain_lists own)
+turned : {first : Phrase} {links : List Link} (before : List Link) (link : Link) {lists : List LentPlaces} (own front : List LentPlaces) {next : Occurrences}
+    {rest : List Occurrences} {begun steps : Steps} → IsBack first links (before ++ link ∷ []) lists (front ++ own) next rest begun steps
+    → length own ≡ length (last_phrase first before).terms.items
+    → (starts kept : Occurrences) (more : List Occurrences) (mid after : Steps)
+    → starts.items ≡ starts_of (plain_phrase (last_phrase first before)) (plain_lists own)
     → kept.items
-    ≡ near_those link.most (length link.to.terms.items) next.items (length (last_of first before).terms.items) starts.items
+    ≡ near_those link.most (length link.to.terms.items) next.items (length (last_phrase first before).terms.items) starts.items
     → more ≡ rest ++ next ∷ []
     → TakesAtMost (2 * total (plain_lists own)) steps mid → TakesAtMost (length next.items + 3 * length starts.items) mid after
     → IsBack first links before lists front kept more begun after
 turned {first} {links} before link {lists} own front {next} {rest} {begun} {steps} at fills starts kept more mid after is_starts is_kept is_more one two =
-    let phrase = last_of first before in
+    let phrase = last_phrase first before in
     let p = plain_phrase phrase in
     let last = last_push first before link in
     let done = map plain_link at.done in
@@ -150,7 +150,7 @@ turned {first} {links} before link {lists} own front {next} {rest} {begun} {step
       };
     }
 
-moved : {first : Phrase} {links left more : List Link} {lists front both : List Places} {next : Starts} {rest : List Starts} {begun steps : Steps}
+moved : {first : Phrase} {links left more : List Link} {lists front both : List LentPlaces} {next : Occurrences} {rest : List Occurrences} {begun steps : Steps}
     → left ≡ more → front ≡ both → IsBack first links left lists front next rest begun steps → IsBack first links more lists both next rest begun steps
 moved {first} {links} {left} {more} {lists} {front} {both} {next} {rest} {begun} {steps} is same at =
     subst (λ l. IsBack first links l lists both next rest begun steps) is (subst (λ f. IsBack first links left lists f next rest begun steps) same at)
@@ -158,18 +158,18 @@ moved {first} {links} {left} {more} {lists} {front} {both} {next} {rest} {begun}
 -- ---- answers
 
 -- the phrase that is taken first, its size, and that of the one that is taken in a turn
-last_is : (c : After-len) → c.last_of-last.result.now ≡ last_of c.args.near.now.first c.args.near.now.links.items
-last_is c = c.last_of-last.ensures ∙ ap (last_of c.args.near.now.first) c.as_slice-left.ensures.value
+last_is : (c : After-len) → c.last_phrase-last.result.now ≡ last_phrase c.args.near.now.first c.args.near.now.links.items
+last_is c = c.last_phrase-last.ensures ∙ ap (last_phrase c.args.near.now.first) c.as_slice-left.ensures.value
 
-last_size : (c : After-len) → c.len.result ≡ length (last_of c.args.near.now.first c.args.near.now.links.items).terms.items
+last_size : (c : After-len) → c.len.result ≡ length (last_phrase c.args.near.now.first c.args.near.now.links.items).terms.items
 last_size c =
-    let size : c.len.result ≡ length c.last_of-last.result.now.terms.items = search rules in
+    let size : c.len.result ≡ length c.last_phrase-last.result.now.terms.items = search rules in
     size ∙ ap (λ p. length p.terms.items) (last_is c)
 
-phrase_size : (c : After-len-size) → c.len-size.result ≡ length (last_of c.args.near.now.first c.in-Some.before.now).terms.items
+phrase_size : (c : After-len-size) → c.len-size.result ≡ length (last_phrase c.args.near.now.first c.in-Some.before.now).terms.items
 phrase_size c =
-    let size : c.len-size.result ≡ length c.last_of-phrase.result.now.terms.items = search rules in
-    size ∙ ap (λ p. length p.terms.items) c.last_of-phrase.ensures
+    let size : c.len-size.result ≡ length c.last_phrase-phrase.result.now.terms.items = search rules in
+    size ∙ ap (λ p. length p.terms.items) c.last_phrase-phrase.ensures
 
 pub overflow_sub-lists : goal.overflow_sub-lists
 overflow_sub-lists c =
@@ -180,12 +180,12 @@ overflow_sub-lists c =
 
 pub starts_of-requires : goal.starts_of-requires
 starts_of-requires c =
-    let size : c.len.result ≡ length c.last_of-last.result.now.terms.items = search rules in
+    let size : c.len.result ≡ length c.last_phrase-last.result.now.terms.items = search rules in
     let enough = overflow_sub-lists (goal.at.starts_of-requires c).After-len in
     omega (arith, size, enough, c.split_at.ensures.back_len)
 
 begun_each : (c : After-split_at)
-    → length c.split_at.result.0.now + length (last_of c.args.near.now.first c.args.near.now.links.items).terms.items ≡ length c.args.lists.now
+    → length c.split_at.result.0.now + length (last_phrase c.args.near.now.first c.args.near.now.links.items).terms.items ≡ length c.args.lists.now
 begun_each c =
     let size = last_size (goal.at.After-split_at c).After-len in
     let few = overflow_sub-lists (goal.at.After-split_at c).After-len in
@@ -243,7 +243,7 @@ turn : (c : After-split_at-in-Some)
 turn c = moved c.in-Some.ensures.cases.0 c.split_at-in-Some.ensures.by_index.0 c.loop-link.invariant
 
 fills : (c : After-split_at-in-Some)
-    → length c.split_at-in-Some.result.1.now ≡ length (last_of c.args.near.now.first c.in-Some.before.now).terms.items
+    → length c.split_at-in-Some.result.1.now ≡ length (last_phrase c.args.near.now.first c.in-Some.before.now).terms.items
 fills c =
     let before = (goal.at.After-split_at-in-Some c).After-len-size in
     let size = phrase_size before in
@@ -252,14 +252,14 @@ fills c =
 
 cost : (c : After-split_at-in-Some)
     → c.loop-link.steps.taken + 2 * total (plain_lists c.split_at-in-Some.result.1.now) + length c.loop-link.next.items
-    + 3 * length (starts_of (plain_phrase c.last_of-phrase.result.now) (plain_lists c.split_at-in-Some.result.1.now))
+    + 3 * length (starts_of (plain_phrase c.last_phrase-phrase.result.now) (plain_lists c.split_at-in-Some.result.1.now))
     ≤ c.args.steps.now.taken + linked_cost (plain_phrase c.args.near.now.first) (map plain_link c.args.near.now.links.items)
     (plain_lists c.args.lists.now)
-cost c = rw c.last_of-phrase.ensures (turn_cost _ _ _ _ (turn c) (fills c))
+cost c = rw c.last_phrase-phrase.ensures (turn_cost _ _ _ _ (turn c) (fills c))
 
 pub starts_of-requires-in-Some : goal.starts_of-requires-in-Some
 starts_of-requires-in-Some c =
-    let size : c.len-size.result ≡ length c.last_of-phrase.result.now.terms.items = search rules in
+    let size : c.len-size.result ≡ length c.last_phrase-phrase.result.now.terms.items = search rules in
     let enough = overflow_sub-front (goal.at.starts_of-requires-in-Some c).After-len-size in
     omega (arith, size, enough, c.split_at-in-Some.ensures.back_len)
 
@@ -298,5 +298,5 @@ loop-link-preserved c =
     let of_link : c.len-k.result ≡ length link.to.terms.items = search rules in
     turned c.in-Some.before.now link own c.split_at-in-Some.result.0.now (turn here) (fills here) c.in_ok-starts.starts c.in_ok-kept.kept
     c.push.new.self.items c.starts_of-in-Some.new.steps c.near_those.new.steps
-    (c.in_ok-starts.ensures.starts ∙ ap (λ p. starts_of (plain_phrase p) (plain_lists own)) c.last_of-phrase.ensures)
+    (c.in_ok-starts.ensures.starts ∙ ap (λ p. starts_of (plain_phrase p) (plain_lists own)) c.last_phrase-phrase.ensures)
     (simp (← size, ← of_link) c.in_ok-kept.ensures.starts) c.in_ok-push.ensures.items c.in_ok-starts.ensures.steps c.in_ok-kept.ensures.steps

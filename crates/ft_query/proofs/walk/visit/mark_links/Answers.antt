@@ -1,5 +1,5 @@
 use Rattle.std.proofs.Common.{◌≡◌, ℕ, ◌+◌, ◌<◌, ◌-◌, ◌*◌, ◌≤◌, Bor, Option, Some, None, List, ◌∷◌, ◌++◌, map, take, drop, length, unwrap_or, refl, sym, ap, ◌∙◌, subst, append-nil, rules, arith, flat_map, option_copied, drop-drop, length-append, length-take-le, length-drop}
-use Rattle.ft_query.proofs.Common.{take-map, drop-map, drop_more, drop_all, length-map, Link, Place, Steps, Places, Starts, Found, plain_term, plain_link, TakesAtMost, near_those, link_marks, link_cost, numbered_offsets, marks_from, total, plain_lists, plain_starts}
+use Rattle.ft_query.proofs.Common.{take-map, drop-map, drop_more, drop_all, length-map, Link, Place, Steps, LentPlaces, Occurrences, Found, plain_term, plain_link, TakesAtMost, near_those, link_marks, link_cost, numbered_offsets, marks_from, total, plain_lists, plain_starts}
 use Rattle.ft_query.proofs.Passes.{count_more, numbered_marks, link_marks_one}
 use Rattle.ft_query.proofs.walk.visit.mark_links.Invariants.{AreMarked}
 use Rattle.ft_query.proofs.walk.visit.mark_links.Goals.{After-len-size, After-near_those}
@@ -8,7 +8,7 @@ use Rattle.ft_query.proofs.walk.visit.mark_links.Goals as goal
 -- ---- one link
 
 -- the steps for the marks of one link, and those for the links after it
-cost_one : (k : ℕ) (starts : List Place) (link : Link) (links : List Link) (lists own behind : List Places) (others : Starts) (all : List Starts) (size : ℕ)
+cost_one : (k : ℕ) (starts : List Place) (link : Link) (links : List Link) (lists own behind : List LentPlaces) (others : Occurrences) (all : List Occurrences) (size : ℕ)
     (next : List Place) → size ≡ length link.to.terms.items → own ≡ take size lists → behind ≡ drop size lists
     → next ≡ near_those link.most k starts size others.items
     → length starts + 3 * length others.items + total (plain_lists own) + size * length next
@@ -25,10 +25,10 @@ terms_one link links =
     ∙ ap (λ n. n + length (flat_map (λ l. l.to.terms) (map plain_link links))) (length-map link.to.terms.items plain_term)
 
 -- one link more
-marked_on : {marks : List (List Place)} {count cost at k : ℕ} {starts : List Place} {link : Link} {links : List Link} {lists : List Places} {others : Starts}
-    {all : List Starts} {old mid : Found} {begun steps : Steps}
+marked_on : {marks : List (List Place)} {count cost at k : ℕ} {starts : List Place} {link : Link} {links : List Link} {lists : List LentPlaces} {others : Occurrences}
+    {all : List Occurrences} {old mid : Found} {begun steps : Steps}
     → AreMarked marks count cost at k starts (link ∷ links) lists (others ∷ all) old mid begun steps
-    → (own behind : List Places) (size : ℕ) (next : List Place) (new : Found) (between after : Steps)
+    → (own behind : List LentPlaces) (size : ℕ) (next : List Place) (new : Found) (between after : Steps)
     → size ≡ length link.to.terms.items → own ≡ take size lists → behind ≡ drop size lists
     → next ≡ near_those link.most k starts size others.items
     → new.wanted ≡ mid.wanted → new.offsets.items ≡ mid.offsets.items ++ numbered_offsets mid.next (marks_from 0 (plain_lists own) next)
@@ -63,7 +63,7 @@ marked_on {marks} {count} {cost} {at} {k} {starts} {link} {links} {lists} {other
       };
     }
 
-moved : {marks : List (List Place)} {count cost at k : ℕ} {starts now : List Place} {links more : List Link} {lists : List Places} {all rest : List Starts}
+moved : {marks : List (List Place)} {count cost at k : ℕ} {starts now : List Place} {links more : List Link} {lists : List LentPlaces} {all rest : List Occurrences}
     {old new : Found} {begun steps : Steps} → now ≡ starts → links ≡ more → all ≡ rest
     → AreMarked marks count cost at k starts links lists all old new begun steps
     → AreMarked marks count cost at k now more lists rest old new begun steps
@@ -75,7 +75,7 @@ moved {marks} {count} {cost} {at} {k} {starts} {now} {links} {more} {lists} {all
 -- ---- answers
 
 -- the occurrences of the phrase before, which are kept or passed in
-held : (o : Option (Bor Starts)) (p : Option Starts) (s : Bor Starts) → option_copied o ≡ p → (unwrap_or o s).now ≡ unwrap_or p s.now
+held : (o : Option (Bor Occurrences)) (p : Option Occurrences) (s : Bor Occurrences) → option_copied o ≡ p → (unwrap_or o s).now ≡ unwrap_or p s.now
 held None p s is = ap (λ q. unwrap_or q s.now) is
 held (Some x) p s is = ap (λ q. unwrap_or q s.now) is
 

@@ -1,10 +1,10 @@
 use Rattle.std.proofs.Common.{◌≡◌, ℕ, ◌+◌, List, ◌++◌, length, map, drop, unwrap_or, flat_map}
-use Rattle.ft_query.proofs.Common.{Place, Link, Steps, Places, Starts, Found, plain_link, TakesOf, link_marks, link_cost, numbered_offsets, plain_lists, plain_starts}
+use Rattle.ft_query.proofs.Common.{Place, Link, Steps, LentPlaces, Occurrences, Found, plain_link, TakesOf, link_marks, link_cost, numbered_offsets, plain_lists, plain_starts}
 use Rattle.ft_query.proofs.walk.visit.mark_links.Given as goal
 
 -- These marks are added but for those of the links that are left, and of so many steps the ones for
 -- them are left. Of so many lists there are left as many as those links have terms.
-pub record AreMarked (marks : List (List Place)) (count cost at k : ℕ) (starts : List Place) (links : List Link) (lists : List Places) (all : List Starts)
+pub record AreMarked (marks : List (List Place)) (count cost at k : ℕ) (starts : List Place) (links : List Link) (lists : List LentPlaces) (all : List Occurrences)
     (old new : Found) (begun steps : Steps) : Type 0 where
   pub wanted : new.wanted ≡ old.wanted
   pub next : new.next ≡ old.next + at

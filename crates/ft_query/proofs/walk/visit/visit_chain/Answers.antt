@@ -1,10 +1,10 @@
 use Rattle.std.proofs.Common.{◌≡◌, ◌++◌, ◌+◌, ◌*◌, List, drop, map, length, ap, ◌∙◌, rules, arith}
-use Rattle.ft_query.proofs.Common.{common_steps, length-map, Chain, Place, Places, Starts, Steps, chain_tree, plain_phrase, plain_link, node_count, linked, linked_cost, link_cost, visit_cost, marks_of, numbered_offsets, if_wanted, plain_lists, plain_starts, total, TakesAtMost, TakesOf}
+use Rattle.ft_query.proofs.Common.{common_steps, length-map, Chain, Place, LentPlaces, Occurrences, Steps, chain_tree, plain_phrase, plain_link, node_count, linked, linked_cost, link_cost, visit_cost, marks_of, numbered_offsets, if_wanted, plain_lists, plain_starts, total, TakesAtMost, TakesOf}
 use Rattle.ft_query.proofs.Passes.{chain_marks_count, numbered_marks, Parted, parted, chain_marks, chain_cost, linked_length, starts_forward, starts_many}
 use Rattle.ft_query.proofs.walk.visit.visit_chain.Goals as goal
 
 -- the steps back to the first phrase, for its marks, and for those of the others
-bounded : {near : Chain} {lists own behind : List Places} {starts : List Place} {all : List Starts} {begun back mid new : Steps}
+bounded : {near : Chain} {lists own behind : List LentPlaces} {starts : List Place} {all : List Occurrences} {begun back mid new : Steps}
     → Parted near lists own behind starts all → length own ≡ length near.first.terms.items
     → TakesAtMost (linked_cost (plain_phrase near.first) (map plain_link near.links.items) (plain_lists lists)) begun back
     → TakesAtMost (total (plain_lists own) + length own * length starts) back mid
