@@ -1,55 +1,26 @@
 -- Why the row of a new table's name is refused.
-use Rattle.std.proofs.Common.{◌≡◌, ◌∙◌, ◌∷◌, ◌⊎◌, ◌^◌, ℕ, ℤ, pos, negsuc, Bool, true, false, not, List, [], length, map, cond, Some, None, Ok, inl, inr, refl, sym, ap, subst, arith, IsTrue, true≢false, FitsSigned, w64, Ordering, Equal, ◌&&◌, is_eq}
-use Rattle.std.specs.List.{AllByRecursion}
-use Rattle.std.specs.Ordering.{eq_by_cmp, int_cmp, int_eq}
-use Rattle.std.specs.Cmp.{IsTotalOrder}
-use Rattle.std.specs.FinMap.Entries.{put, find, where_key, find-where_key}
-use Rattle.std.proofs.lemmas.Int.{ints}
-use Rattle.std.proofs.lemmas.Cmp.{int_cmp_total}
-use Rattle.std.proofs.lemmas.Bool.{and_parts, both_ways, ltb-false, true_from_ne_false}
-use Rattle.sqlite.specs.declared.types.Value.TheVariants.{Null, Int, Text}
-use Rattle.sqlite.specs.Order.{Row, column}
-use Rattle.sqlite_value.specs.Order.{value_cmp}
-use Rattle.sqlite_value.specs.Keys.{first_key}
-use Rattle.sqlite_value.proofs.OrderLemmas.{value_cmp-Int}
-use Rattle.sqlite.specs.Tree.{Trees}
-use Rattle.sqlite_trees.specs.Tree.{with_tree, put_row, rowid}
-use Rattle.sqlite_sql.specs.Ops.{fits_i64}
+use Rattle.std.proofs.Common.{◌≡◌, ◌∙◌, ◌∷◌, ◌⊎◌, ◌^◌, ℕ, ℤ, pos, negsuc, Bool, true, false, not, List, [], length, map, cond, Some, None, Ok, inl, inr, refl, sym, ap, subst, arith, IsTrue, true≢false, FitsSigned, w64, Ordering, Equal, ◌&&◌, is_eq, int_cmp, int_eq, ltb-false}
+use Rattle.ft_store.proofs.Common.{AllByRecursion, eq_by_cmp, IsTotalOrder, put, find, where_key, find-where_key, ints, int_cmp_total, and_parts}
+use Rattle.ft_store.proofs.Common.{both_ways, true_from_ne_false, Null, Int, Text, Row, column, value_cmp, first_key, value_cmp-Int, Trees, with_tree}
+use Rattle.ft_store.proofs.Common.{put_row, rowid, fits_i64, State, ExecutesInside, Error, Datatype, NotNull, Check, PrimaryKey, Unique, ForeignKey}
+use Rattle.ft_store.proofs.Common.{Enforced, agree, clashes, differ, Has, are_unique, is_taken, are_fresh, IsRefused, IsOversized, Refusal, Violates}
+use Rattle.ft_store.proofs.Common.{Mismatch, NoRowid, BadReference, TooDeep, unique_kept, some_has, all_has, put_has, IsSound, int_is_number}
+use Rattle.ft_store.proofs.Common.{zero_is_number}
 use Rattle.sqlite_sql.specs.Catalog.{entry_of}
-use Rattle.sqlite.specs.State.{State, ExecutesInside}
-use Rattle.sqlite.specs.declared.error.Error.{Error}
-use Rattle.sqlite_schema.specs.declared.schema.Constraint.TheVariants.{Datatype, NotNull, Check, PrimaryKey, Unique, ForeignKey}
-use Rattle.sqlite_schema.specs.declared.schema.Keys.TheVariants.{Enforced}
-use Rattle.sqlite_schema.specs.Rules.{agree, clashes, differ}
-use Rattle.sqlite_rules.specs.Lists.{Has}
-use Rattle.sqlite_rules.specs.Keys.{are_unique}
-use Rattle.sqlite_rules.specs.Edit.{is_taken, are_fresh, IsRefused, IsOversized}
-use Rattle.sqlite_rules.specs.declared.error.Refusal.{Refusal}
-use Rattle.sqlite_rules.specs.declared.error.Refusal.TheVariants.{Violates, Mismatch, NoRowid, BadReference, TooDeep}
-use Rattle.sqlite_rules.proofs.RuleLemmas.{unique_kept}
-use Rattle.sqlite_rules.proofs.ListLemmas.{some_has, all_has}
-use Rattle.sqlite_rules.proofs.TableLemmas.{put_has}
-use Rattle.sqlite_catalog.specs.Listing.{IsSound}
-use Rattle.sqlite_typed.proofs.RowLemmas.{int_is_number, zero_is_number}
 use Rattle.ft_store.specs.Tables.{store_schema, tab_table, case_order}
 use Rattle.ft_store.specs.Rows.{table_entry, value_of}
 use Rattle.ft_store.specs.Calls.{IsStore, HasOwnRowids, Steps}
-use Rattle.ft_store.proofs.StepLemmas.{added}
+use Rattle.ft_store.proofs.StoreTables.{added, names_apart, turned_case}
 use Rattle.ft_store.proofs.StoreTables as tables
 use Rattle.ft_store.specs.Puts.{IsGrown, AreGrown, IsTooBig, IsOthers}
-use Rattle.ft_store.proofs.Texts.{add_name_text}
-use Rattle.ft_store.proofs.TextLemmas.{add_name_terms, add_name_means}
-use Rattle.ft_store.proofs.TypedLemmas.{IsNameRow, are_names, int_is}
+use Rattle.ft_store.proofs.Texts.{add_name_text, add_name_terms, add_name_means}
+use Rattle.ft_store.proofs.TypedLemmas.{IsNameRow, are_names, int_is, tied_ints, tied_names, IsInt}
 use Rattle.ft_store.proofs.AnswerLemmas.{sound_of}
 use Rattle.ft_store.proofs.KeyedLemmas.{AreApart, find-keyed, some_first, equal_from, itself, apart_back, respects}
-use Rattle.ft_store.proofs.OrderLemmas.{tied_ints, tied_names}
-use Rattle.ft_store.proofs.RowidLemmas.{IsInt}
-use Rattle.ft_store.proofs.ApartLemmas.{names_apart}
 use Rattle.ft_store.proofs.ChangeLemmas.{inserts, cast_null, cast_int}
-use Rattle.ft_store.proofs.WriteLemmas.{turned_case}
-use Rattle.ft_store.proofs.RiseLemmas.{grown_same}
-use Rattle.ft_store.proofs.AddedLemmas.{RunBlamed, oversized_why}
-use Rattle.ft_store.proofs.InsertLemmas.{CantAdd, put_in, made_rows, insert_blamed, turned, never_bad, same_not_differ, too_big}
+use Rattle.ft_store.proofs.CantLemmas.{grown_same}
+use Rattle.ft_store.proofs.AddedLemmas.{RunBlamed, oversized_why, CantAdd, put_in, made_rows, insert_blamed, turns, never_bad, same_not_differ}
+use Rattle.ft_store.proofs.AddedLemmas.{too_big}
 
 -- ---- entries under keys that are apart
 
@@ -150,7 +121,7 @@ module _ (tab : ℤ) (name : List ℕ) (db : Trees) (sound : IsSound store_schem
   name_refused fit (Violates Unique) h = go (are_unique store_schema.indexes (with_tree db 1 (put_row (name_row tab name) (db 1))) (tab_table 1) (name_row tab name ∷ [])) refl
     where
       go : (b : Bool) → are_unique store_schema.indexes (with_tree db 1 (put_row (name_row tab name) (db 1))) (tab_table 1) (name_row tab name ∷ []) ≡ b → IsOthers tab name (value_of db).tables
-      go true is = absurd (h (unique_kept store_schema db (with_tree db 1 (put_row (name_row tab name) (db 1))) (tab_table 1) _ _ (name_row tab name ∷ []) (turned (tab_table 1) (inr (inl refl)) db (name_row tab name ∷ []) fresh) is (sound.obeys.rules Unique)))
+      go true is = absurd (h (unique_kept store_schema db (with_tree db 1 (put_row (name_row tab name) (db 1))) (tab_table 1) _ _ (name_row tab name ∷ []) (turns (tab_table 1) (inr (inl refl)) db (name_row tab name ∷ []) fresh) is (sound.obeys.rules Unique)))
       go false is = twice is
   name_refused fit (Violates ForeignKey) h = absurd h
   name_refused fit Mismatch h = absurd (true≢false h)

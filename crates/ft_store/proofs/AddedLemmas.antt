@@ -1,72 +1,247 @@
--- What the statements that put rows leave room for, and why they are refused.
-use Rattle.std.proofs.Common.{◌≡◌, ◌≢◌, ◌∙◌, ◌∷◌, ◌⊎◌, ◌+◌, ℕ, ℤ, Bool, true, false, List, [], length, map, Some, None, Ok, Err, inl, inr, refl, sym, ap, subst, arith, IsTrue, true≢false, slice_get, ◌<◌, ◌≤◌, ◌^◌, T}
-use Rattle.std.specs.Prelude.{Any, MatchBool, if◌then◌else◌, IsUtf8, unwrap_or}
-use Rattle.std.specs.List.{AllByRecursion, list_all, flat_map}
-use Rattle.std.specs.FinMap.Entries.{find, put, is_sorted}
-use Rattle.std.specs.Ordering.{eq_by_cmp}
-use Rattle.std.proofs.lemmas.Bool.{both_ways}
-use Rattle.sqlite.specs.declared.types.Value.TheVariants.{Null, Int, Text, Blob}
-use Rattle.sqlite.specs.Order.{Row}
-use Rattle.sqlite.specs.Tree.{Trees}
-use Rattle.sqlite.specs.Table.{Table}
-use Rattle.sqlite.specs.Term.{Term}
-use Rattle.sqlite.specs.Command.TheVariants.{Insert}
-use Rattle.sqlite.specs.Source.TheVariants.{Values}
-use Rattle.sqlite.specs.Effect.{Database, RefusesSource, edit_error}
-use Rattle.sqlite_value.specs.Order.{bytes, value_cmp}
-use lib.Ieee
-use Rattle.sqlite_sql.specs.Ops.{binary}
-use Rattle.ft_values.specs.Cells.{Cell}
-use Rattle.ft_values.specs.Cells as cells
-use Rattle.sqlite.specs.Listing.{understood}
-use Rattle.sqlite.specs.State.{State, Executes, ExecutesInside, IsUnchanged}
-use Rattle.sqlite.specs.declared.error.Error.{Error}
-use Rattle.sqlite.specs.declared.error.Error.TheVariants.{SqliteFailure}
+-- Why an INSERT is refused, and what the statements that put rows leave room for.
+use Rattle.std.proofs.Common.{◌≡◌, ◌≢◌, ◌∙◌, ◌∷◌, ◌||◌, ◌&&◌, ◌⊎◌, ◌≤◌, ◌<◌, ◌+◌, ◌/◌, ◌^◌, ℕ, ℤ, Bool, true, false, not, nat_lt, List, [], length, map, drop, Option, Some, None, Err, inl, inr, refl, sym, ap, subst, arith, IsTrue, true≢false, slice_get, eq-eqb, ne_eqb, is_eq, Ordering, IsSome, option_map, sum_by, int_cmp, ltb-false, ltb-true, Ok, T, Any, MatchBool, if◌then◌else◌, IsUtf8, unwrap_or, flat_map}
+use Rattle.ft_store.proofs.Common.{lit, col, first_key, everything, AllByRecursion, list_all, eq_by_cmp, tied_itself, int_cmp_total, find, and_parts}
+use Rattle.ft_store.proofs.Common.{false_from_ne_true, both_ways, All-from_recursion, Value, Int, Row, bytes, number, Order, Trees, Table, Term}
+use Rattle.ft_store.proofs.Common.{with_tree, rowid, put_row, IsStorable, IsStorableRow, Ne, Insert, Values, Database, RefusesSource, value_rows}
+use Rattle.ft_store.proofs.Common.{edit_error, Task, Outcome, Sourced, stamped, Does, OnRows, AtPlace, due, State, mode_of, ExecutesInside}
+use Rattle.ft_store.proofs.Common.{understood, IsPlain, command_of, SqliteFailure, Error, Datatype, NotNull, Check, PrimaryKey, Unique, ForeignKey}
+use Rattle.ft_store.proofs.Common.{Enforced, agree, clashes, differ, passes, Has, are_unique, Edit, are_fresh, numbered, put_all, have_rowids}
+use Rattle.ft_store.proofs.Common.{IsRefused, IsOversized, Chosen, Refusal, Violates, Mismatch, NoRowid, BadReference, TooDeep, Writes, End, Turns}
+use Rattle.ft_store.proofs.Common.{unique_kept, some_has, all_has, put_has, put_all_has, put_all_keeps, put_all_adds, IsSound, at_ints, put}
+use Rattle.ft_store.proofs.Common.{is_sorted, Null, Text, Blob, value_cmp, binary, Cell, Executes, IsUnchanged, without_case, table_reals}
+use Rattle.ft_store.proofs.Common.{index_reals, with_rowid, next_rowid, contains_had, last_term, int_is_number, zero_is_number, column_key_cmp}
+use Rattle.ft_store.proofs.Common.{cell_key_cmp, list_key_cmp, name_cmp, StoreValue, without_key, Ghosts, Held, state}
 use Rattle.sqlite.specs.declared.error.ErrorCode.TheVariants as code
-use Rattle.sqlite.proofs.Callers.{IsPlain, command_of}
-use Rattle.sqlite.specs.Rowids.TheVariants.{Chosen}
-use Rattle.sqlite_value.specs.Keys.{first_key, without_case}
+use lib.Ieee
+use Rattle.ft_values.specs.Cells as cells
+use Rattle.ft_store.proofs.BlameLemmas.{unless_shut}
+use Rattle.ft_store.proofs.StoreTables as tables
+use Rattle.std.specs.Int.{bit_at}
+use Rattle.std.specs.Float.{NotNan}
+use Rattle.std.proofs.lemmas.Nat.Bits.{bit_at-zero}
+use Rattle.ft_store.specs.Blame.{IsBlamed}
+use Rattle.sqlite_rules.specs.Cast.{cast_row}
+use Rattle.ft_store.specs.Tables.{store_schema, cell_table, posting_table}
+use Rattle.ft_store.proofs.ChangeLemmas.{bare_table, inserts, inserts_all, cast_null, cast_int}
+use Rattle.ft_store.specs.Calls.{IsStore, HasOwnRowids, Steps}
+use Rattle.ft_store.specs.Puts.{IsFull, AreGrown, IsTooBig, IsBigEntry, IsGrown, KeepsRest}
+use Rattle.ft_store.proofs.KeyedLemmas.{some_first, find-keyed, is_sorted-keyed, find-without_key, put-without_key}
+use Rattle.ft_store.proofs.TypedLemmas.{IsInt}
+use Rattle.ft_store.proofs.AnswerLemmas.{is_whole, sound_of}
+use Rattle.ft_store.proofs.RefusedLemmas.{CantDo, write_refused, apart, refers, wrote_grown, rest_of, drop_column, drop_skip, drop_cell, drop_list}
+use Rattle.ft_store.proofs.RefusedLemmas.{never_leads, drop_size, drop_note}
+use Rattle.ft_store.proofs.CantLemmas.{IsUnnumbered, numbered_ints, stale_full, unfit_full, numbered_grown, trees_same, full_since}
 use Rattle.sqlite_schema.specs.declared.schema.Index.{Index}
 use Rattle.sqlite_schema.specs.declared.schema.Constraint.{Constraint}
-use Rattle.sqlite_schema.specs.declared.schema.Constraint.TheVariants.{Datatype, NotNull, Check, Unique}
-use Rattle.sqlite_schema.specs.Rules.{agree, passes, table_reals, index_reals}
-use Rattle.sqlite_rules.specs.Lists.{Has}
-use Rattle.sqlite_rules.specs.Keys.{are_unique}
-use Rattle.sqlite_rules.specs.Edit.{with_rowid, next_rowid, numbered, IsOversized}
-use Rattle.sqlite_rules.proofs.ListLemmas.{all_has, contains_had}
-use Rattle.sqlite_trees.specs.Tree.{with_tree, put_row}
-use Rattle.sqlite_trees.specs.View.{IsStorable, IsStorableRow}
 use Rattle.sqlite_sql.specs.Catalog.{entry_of}
-use Rattle.sqlite_catalog.specs.Listing.{IsSound}
-use Rattle.sqlite_typed.proofs.TestLemmas.{last_term}
-use Rattle.sqlite_typed.proofs.RowLemmas.{int_is_number, zero_is_number}
-use Rattle.ft_rows.specs.Store.{column_key_cmp, cell_key_cmp, list_key_cmp, name_cmp, StoreValue, without_key}
-use Rattle.ft_store.specs.Tables.{store_schema, cell_table, posting_table}
 use Rattle.ft_store.specs.Rows.{num_of, txt_of, value_of, cell_in}
-use Rattle.ft_store.specs.Calls.{IsStore, HasOwnRowids, Steps}
-use Rattle.ft_store.specs.Blame.{IsBlamed}
-use Rattle.ft_store.specs.Puts.{IsFull, AreGrown, IsTooBig, IsBigEntry, IsGrown, KeepsRest}
 use Rattle.ft_store.specs.Groups.{PackedList, entry_values}
 use Rattle.ft_store.proofs.GroupLemmas.{all_eight}
-use Rattle.ft_store.proofs.Texts.{drop_column_text, drop_skip_text, drop_cell_text, drop_list_text, drop_size_text, drop_note_text, add_column_text, add_skip_text, add_cell_text, add_list_text, add_lists_text, add_size_text, add_note_text}
-use Rattle.ft_store.proofs.TextLemmas.{IsInsertion, add_cell_terms, add_lists_terms, add_column_means, add_skip_means, add_cell_means, add_list_means, add_lists_means, add_size_means, add_note_means}
-use Rattle.ft_store.proofs.AnswerLemmas.{sound_of}
-use Rattle.ft_store.proofs.KeyedLemmas.{find-keyed, is_sorted-keyed, find-without_key, put-without_key}
-use Rattle.ft_store.proofs.ChangeLemmas.{bare_table, inserts, inserts_all, cast_null, cast_int}
-use Rattle.ft_store.proofs.StepLemmas.{added}
-use Rattle.ft_store.proofs.StoreTables.{StoreTable}
-use Rattle.ft_store.proofs.StoreTables as tables
-use Rattle.ft_store.proofs.ShownLemmas.{text_again}
+use Rattle.ft_store.proofs.Texts.{drop_column_text, drop_skip_text, drop_cell_text, drop_list_text, drop_size_text, drop_note_text, add_column_text}
+use Rattle.ft_store.proofs.Texts.{add_skip_text, add_cell_text, add_list_text, add_lists_text, add_size_text, add_note_text, IsInsertion}
+use Rattle.ft_store.proofs.Texts.{add_cell_terms, add_lists_terms, add_lists_means}
+use Rattle.ft_store.proofs.StoreTables.{added, StoreTable, then_tie, turned, turned_text, turned_case, cast_num, cast_txt, cast_lists, list_row}
+use Rattle.ft_store.proofs.TableLemmas.{text_again}
 use Rattle.ft_store.proofs.PutLemmas.{then_step}
-use Rattle.sqlite.specs.Rows.{stamped}
-use Rattle.sqlite.specs.Store.{Ghosts}
-use Rattle.sqlite.specs.Held.{Held, state}
 use Rattle.ft_rows.specs.Packed.{unpacked}
 use Rattle.ft_store.specs.Changes.{TakesRows, ReplacesRow}
-use Rattle.ft_store.proofs.WriteLemmas.{then_tie, turned, turned_text, turned_case, cast_num, cast_txt, cast_lists, list_row}
-use Rattle.ft_store.proofs.GoneLemmas.{wrote_grown, rest_of, drop_column, drop_skip, drop_cell, drop_list, drop_size, drop_note}
-use Rattle.ft_store.proofs.RiseLemmas.{IsUnnumbered, numbered_grown, trees_same, full_since}
-use Rattle.ft_store.proofs.InsertLemmas.{CantAdd, IsGiven, room, made_rows, insert_blamed, refused_why, no_clash, IsNumber, too_big}
+
+-- ---- what an INSERT is refused for
+
+-- rows that are added, with the rowids that they get
+abbrev pub put_in : Table → Trees → List Row → Edit
+put_in table db sources = record { table = table; gone = []; news = numbered Chosen (db table.tree) sources }
+
+-- one of them is refused, which is told by this error, or can't be stored
+abbrev pub CantAdd : Error → Table → Trees → List Row → Type 0
+CantAdd e table db sources =
+    ((why : Refusal) × IsRefused store_schema Enforced db (put_in table db sources) why × (e ≡ edit_error why)) ⊎ ((row : Row) × Has (put_in table db sources).news row × IsOversized store_schema table row)
+
+-- the values of an INSERT as the columns of its table take them
+abbrev given_rows : Table → List Row → List Row
+given_rows table = map (λ s. cast_row table (drop 0 s))
+
+abbrev pub made_rows : Table → List Term → ℕ → Row → List Row
+made_rows table terms width params = given_rows table (value_rows (stamped table params) width (length terms / width) terms)
+
+pub never_bad : (adds : Bool) → ((not adds || true) && true) ≡ false → ⊥
+never_bad true h = true≢false h
+never_bad false h = true≢false h
+
+module _ (a : Table) where
+  abbrev the_table : Table
+  the_table = bare_table a
+
+  told_by : (e : Error) (stop : Option Error) (why : Option Refusal) (reason : Refusal) → (stop ≡ None) ⊎ (stop ≡ Some e) → stop ≡ option_map edit_error why → ◌≡◌ {A = End} (Err why) (Err (Some reason)) → e ≡ edit_error reason
+  told_by e stop why reason (inl none) is same = absurd cc
+  told_by e stop why reason (inr some) is same = cc
+
+  wrote_not : (e : Error) (db : Trees) (rows : List Row) (stop : Option Error) (why : Option Refusal) → (stop ≡ None) ⊎ (stop ≡ Some e) → stop ≡ option_map edit_error why → Writes store_schema Enforced db (put_in the_table db (given_rows the_table rows)) (Err why) → CantAdd e the_table db (given_rows the_table rows)
+  wrote_not e db rows stop why told is (inl refused) = inl (refused.0, refused.1, told_by e stop why refused.0 told is refused.2)
+  wrote_not e db rows stop why told is (inr (inl big)) = inr (big.0, big.1, big.2)
+  wrote_not e db rows stop why told is (inr (inr went)) = absurd (never_leads went.2.0 went.0 why went.2.1)
+
+  -- the values that are bound to it are of types that it takes
+  abbrev pub IsGiven : List Term → ℕ → Row → Type 0
+  IsGiven terms width params = (db : Database) (e : Error) → ¬ RefusesSource None db params (Values terms width) e
+
+  module _ (old : State) (store : IsStore old.now) (params : Row) (at : ℕ) (terms : List Term) (width : ℕ) (found : slice_get store_schema.tables at ≡ Some the_table) (given : IsGiven terms width (stamped the_table params)) where
+    sourced : (db : Database) (e : Error) → RefusesSource old.step_limit db (stamped the_table params) (Values terms width) e → IsSome old.step_limit
+    sourced db e (inl bad) = absurd (given db e (inl bad))
+    sourced db e (inr limited) = limited.1
+
+    sourced_not : (db : Database) (stop : Option Error) → Sourced old.step_limit db (stamped the_table params) (Values terms width) (Err stop) → IsSome old.step_limit
+    sourced_not db None h = absurd h
+    sourced_not db (Some e) h = sourced db e h
+
+    same_stop : {A : Type 0} {a b : Option Error} → ◌≡◌ {A = Outcome A} (Err a) (Err b) → a ≡ b
+    same_stop h = cc
+
+    pub insert_why : (e : Error) → CantDo e old params (Insert at (Values terms width)) → IsSome old.step_limit ⊎ CantAdd e the_table old.now.trees (made_rows the_table terms width params)
+    insert_why e (text, stop, told, does) =
+        let db = old.now.trees in
+        let command = Insert at (Values terms width) in
+        let task : Task = record { limit = old.step_limit; keys = (mode_of old).keys; schema = store_schema; table = the_table; params = params } in
+        let begun = subst (λ c. Does old.step_limit (mode_of old) params (record old.now { schema = c }) text None command (Err stop)) store.schema does in
+        let on : OnRows task (mode_of old) None command db (Err stop) = subst (λ o. AtPlace (λ t. OnRows (record task { table = t }) (mode_of old) None command db) o (Err stop)) found begun in
+        elim on [
+          | inl writes ↦ elim writes.1 [
+            | inl asked ↦ inl (sourced_not (record { schema = store_schema; trees = db }) asked.0 asked.1)
+            | inr asked ↦ elim asked.2 [
+              | inl counter ↦ absurd (let e = counter.1 in cc)
+              | inr counter ↦ elim counter.2 [
+                | inl wrote ↦ (let same : stop ≡ wrote.0 = same_stop writes.2 ∙ same_stop wrote.2 in inr (subst (λ rows. CantAdd e the_table db (given_rows the_table rows)) asked.1.1 (wrote_not e db asked.0 stop wrote.1.0 told (same ∙ wrote.1.2) wrote.1.1)))
+                | inr wrote ↦ absurd (elim wrote.2 [
+                  | inl counted ↦ (let e = counted.1 in cc)
+                  | inr counted ↦ (let e = counted.2 in cc)
+                ])
+              ]
+            ]
+          ]
+          | inr wrote ↦ absurd (elim wrote.2 [
+            | inl tested ↦ tested.1.0 (refers (due (mode_of old)) wrote.0.trees)
+            | inr tested ↦ elim tested.2 [
+              | inl shown ↦ (let e = shown.1 in cc)
+              | inr shown ↦ (let e = shown.2 in cc)
+            ]
+          ])
+        ]
+
+  -- what a statement that adds rows to an open store is refused for, unless by what lies outside it
+  module _ (old new : State) (sql : List ℕ) (params : Row) (at : ℕ) (terms : List Term) (width : ℕ) (is : command_of (understood store_schema sql) ≡ Insert at (Values terms width)) (plain : IsPlain (understood store_schema sql))
+      (whole : is_whole sql (length params) (understood store_schema sql) ≡ true) (found : slice_get store_schema.tables at ≡ Some the_table) (given : IsGiven terms width (stamped the_table params)) where
+    pub insert_blamed : (IsTrue old.is_open → IsStore old.now) → (e : Error) → e ≢ SqliteFailure code.OutOfMemory → ExecutesInside 0 sql params old new (Err e)
+        → IsBlamed old new ⊎ (IsTrue old.is_open × CantAdd e the_table old.now.trees (made_rows the_table terms width params))
+    insert_blamed store e other ran = unless_shut old new inl (λ is_open.
+        let kept = store is_open in
+        elim (write_refused old new sql params kept.schema _ is plain whole tt refl e other ran) [
+          | inl blamed ↦ inl blamed
+          | inr cant ↦ elim (insert_why old kept params at terms width found given e cant) [ inl limit ↦ inl (inr (inr limit)) | inr add ↦ inr (is_open, add) ]
+        ])
+
+  -- the rows are put beside those that are there
+  module _ (listed : Has store_schema.tables the_table) (db : Trees) (news : List Row) where
+    here : (es : List Row) → with_tree db a.tree es a.tree ≡ es
+    here es = rw (eq-eqb a.tree a.tree refl) refl
+
+    pub turns : are_fresh (db a.tree) news ≡ true → Turns store_schema db (with_tree db a.tree (put_all (db a.tree) news)) the_table (db a.tree) [] news
+    turns fresh = record {
+      apart = apart;
+      listed = listed;
+      others = λ t known other. rw (ne_eqb t.tree a.tree other) refl;
+      from = λ r h. put_all_has news (db a.tree) r (subst (λ l. Has l r) (here _) h);
+      stays = λ r h. subst (λ l. Has l r) (sym (here _)) (put_all_keeps news (db a.tree) r fresh h);
+      added = λ r h. subst (λ l. Has l r) (sym (here _)) (put_all_adds news (db a.tree) r fresh h);
+      was = λ r h. h;
+      split = λ r h. inl h;
+    }
+
+  -- ---- which rules the rows break
+
+  module _ (listed : Has store_schema.tables the_table) (db : Trees) (sound : IsSound store_schema db) (own : HasOwnRowids (db a.tree)) (sources : List Row) (bare : AllByRecursion IsUnnumbered sources) where
+    abbrev pub news : List Row
+    news = numbered Chosen (db a.tree) sources
+
+    abbrev pub next : Trees
+    next = with_tree db a.tree (put_all (db a.tree) news)
+
+    int_each : (es : List Row) → AllByRecursion IsInt es → have_rowids es ≡ true
+    int_each [] all = refl
+    int_each (e ∷ es) all = rw all.0 (int_each es all.1)
+
+    module _ (typed : list_all (passes Datatype store_schema db the_table) news ≡ true) (present : list_all (passes NotNull store_schema db the_table) news ≡ true) (checked : list_all (passes Check store_schema db the_table) news ≡ true) where
+      -- the table is full, or a key comes twice
+      pub refused_why : (why : Refusal) → IsRefused store_schema Enforced db (put_in the_table db sources) why → IsFull (length sources) (db a.tree) ⊎ ((why ≡ Violates Unique) × (are_unique store_schema.indexes next the_table news ≡ false))
+      refused_why (Violates Datatype) h = absurd (both_ways _ h typed)
+      refused_why (Violates NotNull) h = absurd (both_ways _ h present)
+      refused_why (Violates Check) h = absurd (both_ways _ h checked)
+      refused_why (Violates PrimaryKey) h = inl (stale_full sources (db a.tree) own.1 bare h)
+      refused_why (Violates Unique) h = by_fresh (are_fresh (db a.tree) news) refl
+        where
+          by_unique : are_fresh (db a.tree) news ≡ true → (b : Bool) → are_unique store_schema.indexes next the_table news ≡ b → IsFull (length sources) (db a.tree) ⊎ ((Violates Unique ≡ Violates Unique) × (are_unique store_schema.indexes next the_table news ≡ false))
+          by_unique fresh true is = absurd (h (unique_kept store_schema db next the_table _ _ news (turns listed db news fresh) is (sound.obeys.rules Unique)))
+          by_unique fresh false is = inr (refl, is)
+
+          by_fresh : (b : Bool) → are_fresh (db a.tree) news ≡ b → IsFull (length sources) (db a.tree) ⊎ ((Violates Unique ≡ Violates Unique) × (are_unique store_schema.indexes next the_table news ≡ false))
+          by_fresh true is = by_unique is (are_unique store_schema.indexes next the_table news) refl
+          by_fresh false is = inl (stale_full sources (db a.tree) own.1 bare is)
+      refused_why (Violates ForeignKey) h = absurd h
+      refused_why Mismatch h = absurd (both_ways _ h (int_each news (numbered_ints sources (db a.tree) bare)))
+      refused_why NoRowid h = inl (unfit_full sources (db a.tree) own.1 bare h)
+      refused_why BadReference h = absurd (never_bad (nat_lt 0 (length news)) h)
+      refused_why TooDeep h = absurd h
+
+-- ---- a key that is free
+
+pub same_not_differ : (v : Value) (n : ℤ) → v ≡ Int n → differ v v ≡ false
+same_not_differ v n is = ap (λ w. differ w w) is ∙ at_ints false Ne n n ∙ (let e : is_eq (int_cmp n n) ≡ true = ap is_eq (tied_itself int_cmp_total n) in ap not e)
+
+module _ {K X : Type 0} (R : K → K → Ordering) (entry : Row → K × X) where
+  not_among : (key : K) (rows : List Row) → find R key (map entry rows) ≡ None → (r : Row) → Has rows r → eq_by_cmp R key (entry r).0 ≡ false
+  not_among key [] none r h = absurd h
+  not_among key (s ∷ rows) none r (inl same) = ap (λ x. eq_by_cmp R key (entry x).0) same ∙ (some_first (eq_by_cmp R key (entry s).0) (entry s).1 (find R key (map entry rows)) none).0
+  not_among key (s ∷ rows) none r (inr later) = not_among key rows (some_first (eq_by_cmp R key (entry s).0) (entry s).1 (find R key (map entry rows)) none).1 r later
+
+  -- no other row has the key of a new row
+  pub no_clash : (order : Order) (places : List ℕ) (P : Row → Type 0) (new : Row) (n : ℤ) (rows : List Row) → rowid new ≡ Int n → AllByRecursion P rows → ((r : Row) → P r → agree order places r places new ≡ eq_by_cmp R (entry new).0 (entry r).0)
+      → find R (entry new).0 (map entry rows) ≡ None → clashes order places (put_row new rows) new ≡ false
+  no_clash order places P new n rows is typed agrees none = false_from_ne_true (clashes order places (put_row new rows) new) (λ clash.
+      let other = some_has _ _ clash in
+      let parts = and_parts _ _ other.2 in
+      elim (put_has new rows other.0 other.1) [
+        | inl same ↦ both_ways _ (subst (λ r. differ (rowid r) (rowid new) ≡ false) (sym same) (same_not_differ (rowid new) n is)) parts.1
+        | inr before ↦ both_ways _ (agrees other.0 (all_has P rows other.0 typed before) ∙ not_among (entry new).0 rows none other.0 before) parts.0
+      ])
+
+-- ---- a row that can be stored
+
+abbrev pub IsNumber : Value → Type 0
+IsNumber v = NotNan (number v)
+
+abbrev pub room : List Value → ℕ
+room = sum_by (λ v. 18 + length (bytes v))
+
+unset : (c : ℕ) → bit_at 0 c ≡ 1 → ⊥
+unset c h = let e = bit_at-zero c in omega (arith, h, e)
+
+pub can_store : (row : Row) → AllByRecursion IsNumber row → (0 < length row) × (length row ≤ 2001) → room row ≤ 10 ^ 9 → IsStorable 0 row
+can_store row numbers columns short = record { typed = λ c h. absurd (unset c h); columns = columns; numbers = All-from_recursion IsNumber row numbers; short = short }
+
+-- so is one that is short, and its entry in an index
+pub too_big : (row : Row) (entry : Row) → AllByRecursion IsNumber row → AllByRecursion IsNumber entry → (1 < length row) × (length row ≤ 2001) → (0 < length entry) × (length entry ≤ 2001) → room entry ≤ room row
+    → (¬ IsStorableRow 0 row) ⊎ (¬ IsStorable 0 entry) → 10 ^ 9 < room row
+too_big row entry numbers keys long wide less bad = by (nat_lt (10 ^ 9) (room row)) refl
+  where
+    by : (b : Bool) → nat_lt (10 ^ 9) (room row) ≡ b → 10 ^ 9 < room row
+    by true is = ltb-true _ _ is
+    by false is =
+        let short = ltb-false (10 ^ 9) (room row) is in
+        absurd (elim bad [
+          | inl one ↦ one (can_store row numbers (omega (arith, long.0), long.1) short, long.0)
+          | inr two ↦ two (can_store entry keys wide (omega (arith, short, less)))
+        ])
+
+-- ---- what is put
 
 -- what is too big in a row: the row, or its entry in the one index of its table
 pub oversized_why : (table : Table) (cols : List ℕ) → AllByRecursion (λ (i : Index). i.table ≡ table.tree → i.columns ≡ cols) store_schema.indexes → table_reals table ≡ 0 → index_reals 0 cols ≡ 0
@@ -76,12 +251,12 @@ oversized_why table cols own plain bare row (inr (i, has, on, big)) =
     inr (subst (λ n. ¬ IsStorable n (entry_of cols row)) bare (subst (λ n. ¬ IsStorable (index_reals n cols) (entry_of cols row)) plain (subst (λ c. ¬ IsStorable (index_reals (table_reals table) c) (entry_of c row)) (all_has (λ (j : Index). j.table ≡ table.tree → j.columns ≡ cols) store_schema.indexes i own has on) big)))
 
 module _ (a : Table) where
-  abbrev the_table : Table
-  the_table = bare_table a
+  abbrev its_table : Table
+  its_table = bare_table a
 
   insert_grown : (old new : State) (text : List ℕ) (params : Row) (at : ℕ) (terms : List Term) (width : ℕ) (sources : List Row) (count : ℕ) → old.now.schema ≡ store_schema
-      → command_of (understood store_schema text) ≡ Insert at (Values terms width) → IsPlain (understood store_schema text) → slice_get store_schema.tables at ≡ Some the_table
-      → made_rows the_table terms width params ≡ sources → AllByRecursion IsUnnumbered sources → HasOwnRowids (old.now.trees a.tree) → Executes text params old new (Ok count)
+      → command_of (understood store_schema text) ≡ Insert at (Values terms width) → IsPlain (understood store_schema text) → slice_get store_schema.tables at ≡ Some its_table
+      → made_rows its_table terms width params ≡ sources → AllByRecursion IsUnnumbered sources → HasOwnRowids (old.now.trees a.tree) → Executes text params old new (Ok count)
       → AreGrown (length sources) old.now.trees new.now.trees
   insert_grown old new text params at terms width sources count has is plain found makes bare own h =
       let rows = old.now.trees a.tree in
@@ -89,18 +264,18 @@ module _ (a : Table) where
       wrote_grown a.tree (length sources) old new _ made.0 (numbered_grown sources rows own.1 bare)
 
   -- why one row is not added, where its key is free
-  module _ (listed : Has store_schema.tables the_table) (db : Trees) (sound : IsSound store_schema db) (own : HasOwnRowids (db a.tree)) (source : Row) (bare : IsUnnumbered source) where
+  module _ (listed : Has store_schema.tables its_table) (db : Trees) (sound : IsSound store_schema db) (own : HasOwnRowids (db a.tree)) (source : Row) (bare : IsUnnumbered source) where
     abbrev new_row : Row
     new_row = with_rowid Chosen (db a.tree) source
 
-    one_why : list_all (passes Datatype store_schema db the_table) (new_row ∷ []) ≡ true → list_all (passes NotNull store_schema db the_table) (new_row ∷ []) ≡ true → list_all (passes Check store_schema db the_table) (new_row ∷ []) ≡ true
-        → are_unique store_schema.indexes (with_tree db a.tree (put_row new_row (db a.tree))) the_table (new_row ∷ []) ≡ true
-        → (e : Error) → CantAdd e the_table db (source ∷ []) → IsFull 1 (db a.tree) ⊎ IsOversized store_schema the_table new_row
+    one_why : list_all (passes Datatype store_schema db its_table) (new_row ∷ []) ≡ true → list_all (passes NotNull store_schema db its_table) (new_row ∷ []) ≡ true → list_all (passes Check store_schema db its_table) (new_row ∷ []) ≡ true
+        → are_unique store_schema.indexes (with_tree db a.tree (put_row new_row (db a.tree))) its_table (new_row ∷ []) ≡ true
+        → (e : Error) → CantAdd e its_table db (source ∷ []) → IsFull 1 (db a.tree) ⊎ IsOversized store_schema its_table new_row
     one_why typed present checked unique e (inl refused) = elim (refused_why a listed db sound own (source ∷ []) (bare, tt) typed present checked refused.0 refused.1) [
       | inl full ↦ inl full
       | inr twice ↦ absurd (both_ways _ twice.1 unique)
     ]
-    one_why typed present checked unique e (inr (row, inl same, big)) = inr (subst (IsOversized store_schema the_table) same big)
+    one_why typed present checked unique e (inr (row, inl same, big)) = inr (subst (IsOversized store_schema its_table) same big)
     one_why typed present checked unique e (inr (row, inr none, big)) = absurd none
 
 -- what a statement that adds rows is refused for
@@ -115,6 +290,10 @@ oversized : {K X : Type 0} {P : Row → Type 0} (t : StoreTable K X P) (row : Ro
     → (1 < length row) × (length row ≤ 2001) → (0 < length (entry_of t.places row)) × (length (entry_of t.places row) ≤ 2001) → room (entry_of t.places row) ≤ room row → IsOversized store_schema (bare_table t.table) row → 10 ^ 9 < room row
 oversized t row plain_table bare numbers keys long wide less big = too_big row (entry_of t.places row) numbers keys long wide less (oversized_why (bare_table t.table) t.places t.index plain_table bare row big)
 
+-- the rules that a row obeys by itself
+abbrev IsPassed : Table → Trees → List Row → Type 0
+IsPassed table db rows = (list_all (passes Datatype store_schema db table) rows ≡ true) × (list_all (passes NotNull store_schema db table) rows ≡ true) × (list_all (passes Check store_schema db table) rows ≡ true)
+
 -- A statement adds one row to a table: what the columns make of its parameters, the entry of the row,
 -- and why a rule of the table does not refuse it where its key is free. More than so many values with
 -- so many bytes are too big.
@@ -127,9 +306,7 @@ pub record AddsRow {K X : Type 0} {P : Row → Type 0} (t : StoreTable K X P) (t
   pub given : IsGiven (bare_table t.table) terms width (stamped (bare_table t.table) params)
   pub entry : (id : ℤ) → t.entry (Int id ∷ row) ≡ (key, x)
   pub agrees : (id : ℤ) (r : Row) → P r → agree t.order t.places r t.places (Int id ∷ row) ≡ eq_by_cmp t.cmp key (t.entry r).0
-  pub typed : (db : Trees) (id : ℤ) → list_all (passes Datatype store_schema db (bare_table t.table)) ((Int id ∷ row) ∷ []) ≡ true
-  pub present : (db : Trees) (id : ℤ) → list_all (passes NotNull store_schema db (bare_table t.table)) ((Int id ∷ row) ∷ []) ≡ true
-  pub checked : (db : Trees) (id : ℤ) → list_all (passes Check store_schema db (bare_table t.table)) ((Int id ∷ row) ∷ []) ≡ true
+  pub passed : (db : Trees) (id : ℤ) → IsPassed (bare_table t.table) db ((Int id ∷ row) ∷ [])
   pub big : (id : ℤ) → IsOversized store_schema (bare_table t.table) (Int id ∷ row) → IsTooBig values count
 
 module _ {K X : Type 0} {P : Row → Type 0} (t : StoreTable K X P) (text : List ℕ) (params : Row) (key : K) (x : X) (values count : ℕ) (it : AddsRow t text params key x values count) where
@@ -160,7 +337,7 @@ module _ {K X : Type 0} {P : Row → Type 0} (t : StoreTable K X P) (text : List
       let agrees = λ (r : Row) (h : P r). it.agrees id r h ∙ ap (λ (e : K × X). eq_by_cmp t.cmp e.0 (t.entry r).0) (sym (it.entry id)) in
       let none = ap (λ (e : K × X). find t.cmp e.0 (map t.entry rows)) (it.entry id) ∙ sym (find-keyed t.cmp t.total t.tie key (map t.entry rows)) ∙ ap (find t.cmp key) (sym (t.are db)) ∙ free in
       let clash = no_clash t.cmp t.entry t.order t.places P row id rows refl (t.typed db sound own) agrees none in
-      elim (one_why t.table t.listed db sound own (Null ∷ it.row) refl (it.typed db id) (it.present db id) (it.checked db id) (t.unique_if db (put_row row rows) row clash) e cant) [
+      elim (one_why t.table t.listed db sound own (Null ∷ it.row) refl (it.passed db id).0 (it.passed db id).1 (it.passed db id).2 (t.unique_if db (put_row row rows) row clash) e cant) [
         | inl full ↦ inl full
         | inr big ↦ inr (it.big id big)
       ]
@@ -245,35 +422,31 @@ cell_given tab docid at (cells.Text t) db e h = elim h [ inl bad ↦ true≢fals
 column_row : (tab at : ℤ) (name : List ℕ) → IsUtf8 name → AddsRow tables.columns add_column_text (Int tab ∷ Int at ∷ Text name ∷ []) (tab, at) name 4 (length name)
 unfolding first_key
 column_row tab at name text = record {
-  terms = _;
+  terms = lit Null ∷ col 0 0 ∷ col 0 1 ∷ col 0 2 ∷ [];
   width = 4;
   row = Int tab ∷ Int at ∷ Text name ∷ [];
-  means = add_column_means;
+  means = unfold understood everything in (record { is = refl; plain = (refl, refl); whole = refl });
   made = rw (cast_null, cast_int tab, cast_int at) refl;
   given = λ db e h. elim h [ inl bad ↦ true≢false bad.1 | inr limit ↦ true≢false (sym limit.1) ];
   entry = λ id. ap (λ n. ((tab, at), n)) (text_again name text);
   agrees = λ id r h. then_tie _ _ (turned _ _ _ _ h.tab refl) (last_term (turned _ _ _ _ h.at refl));
-  typed = λ db id. refl;
-  present = λ db id. refl;
-  checked = λ db id. refl;
+  passed = λ db id. (refl, refl, refl);
   big = λ id over.
       let all = oversized tables.columns (Int id ∷ Int tab ∷ Int at ∷ Text name ∷ []) refl refl (int_is_number id, (int_is_number tab, (int_is_number at, (zero_is_number, tt)))) (int_is_number tab, (int_is_number at, (int_is_number id, tt))) (omega arith, omega arith) (omega arith, omega arith) (omega arith) over in omega (arith, all);
 }
 
 skip_row : (tab at : ℤ) → AddsRow tables.skipped add_skip_text (Int tab ∷ Int at ∷ []) (tab, at) tt 3 0
-unfolding first_key
+unfolding understood everything
 skip_row tab at = record {
   terms = _;
   width = 3;
   row = Int tab ∷ Int at ∷ [];
-  means = add_skip_means;
+  means = record { is = refl; plain = (refl, refl); whole = refl };
   made = rw (cast_null, cast_int tab, cast_int at) refl;
   given = λ db e h. elim h [ inl bad ↦ true≢false bad.1 | inr limit ↦ true≢false (sym limit.1) ];
   entry = λ id. refl;
   agrees = λ id r h. then_tie _ _ (turned _ _ _ _ h.tab refl) (last_term (turned _ _ _ _ h.at refl));
-  typed = λ db id. refl;
-  present = λ db id. refl;
-  checked = λ db id. refl;
+  passed = λ db id. (refl, refl, refl);
   big = λ id over.
       let all = oversized tables.skipped (Int id ∷ Int tab ∷ Int at ∷ []) refl refl (int_is_number id, (int_is_number tab, (int_is_number at, tt))) (int_is_number tab, (int_is_number at, (int_is_number id, tt))) (omega arith, omega arith) (omega arith, omega arith) (omega arith) over in omega (arith, all);
 }
@@ -281,17 +454,15 @@ skip_row tab at = record {
 cell_row : (tab docid at : ℤ) (v : Cell) → cell_in (num_of v) (txt_of v) ≡ v → AddsRow tables.cells add_cell_text (Int tab ∷ Int docid ∷ Int at ∷ num_of v ∷ txt_of v ∷ []) (tab, docid, at) v 6 (length (bytes (txt_of v)))
 unfolding first_key
 cell_row tab docid at v again = record {
-  terms = _;
+  terms = add_cell_terms;
   width = 6;
   row = Int tab ∷ Int docid ∷ Int at ∷ num_of v ∷ txt_of v ∷ [];
-  means = add_cell_means;
+  means = unfold understood everything in (record { is = refl; plain = (refl, refl); whole = refl });
   made = rw (cast_null, cast_int tab, cast_int docid, cast_int at, cast_num v, cast_txt v) refl;
   given = cell_given tab docid at v;
   entry = λ id. ap (λ c. ((tab, docid, at), c)) again;
   agrees = λ id r h. then_tie _ _ (turned _ _ _ _ h.tab refl) (then_tie _ _ (turned _ _ _ _ h.docid refl) (last_term (turned _ _ _ _ h.at refl)));
-  typed = λ db id. cell_typed db id tab docid at v;
-  present = λ db id. refl;
-  checked = λ db id. cell_checked db id tab docid at v;
+  passed = λ db id. (cell_typed db id tab docid at v, refl, cell_checked db id tab docid at v);
   big = λ id over.
       let all = oversized tables.cells (Int id ∷ Int tab ∷ Int docid ∷ Int at ∷ num_of v ∷ txt_of v ∷ []) refl refl (int_is_number id, (int_is_number tab, (int_is_number docid, (int_is_number at, (num_number v, (txt_number v, tt)))))) (int_is_number tab, (int_is_number docid, (int_is_number at, (int_is_number id, tt)))) (omega arith, omega arith) (omega arith, omega arith) (omega (arith, num_empty v)) over in (let none = num_empty v in omega (arith, all, none));
 }
@@ -303,52 +474,46 @@ list_big id tab term docid list over =
 list_adds : (tab : ℤ) (term : List ℕ) (docid : ℤ) (list : List ℕ) → AddsRow tables.lists add_list_text (Int tab ∷ Text term ∷ Int docid ∷ Blob list ∷ []) (tab, term, docid) (unwrap_or (unpacked list) []) 5 (length term + length list)
 unfolding first_key
 list_adds tab term docid list = record {
-  terms = _;
+  terms = lit Null ∷ col 0 0 ∷ col 0 1 ∷ col 0 2 ∷ col 0 3 ∷ [];
   width = 5;
   row = Int tab ∷ Text term ∷ Int docid ∷ Blob list ∷ [];
-  means = add_list_means;
+  means = unfold understood everything in (record { is = refl; plain = (refl, refl); whole = refl });
   made = rw (cast_null, cast_int tab, cast_int docid) refl;
   given = λ db e h. elim h [ inl bad ↦ true≢false bad.1 | inr limit ↦ true≢false (sym limit.1) ];
   entry = λ id. refl;
   agrees = λ id r h. then_tie _ _ (turned _ _ _ _ h.tab refl) (then_tie _ _ (turned_text _ _ _ _ h.term refl) (last_term (turned _ _ _ _ h.docid refl)));
-  typed = λ db id. refl;
-  present = λ db id. refl;
-  checked = λ db id. refl;
+  passed = λ db id. (refl, refl, refl);
   big = λ id. list_big id tab term docid list;
 }
 
 size_row : (tab docid at n : ℤ) → AddsRow tables.sizes add_size_text (Int tab ∷ Int docid ∷ Int at ∷ Int n ∷ []) (tab, docid, at) n 5 0
 unfolding first_key
 size_row tab docid at n = record {
-  terms = _;
+  terms = lit Null ∷ col 0 0 ∷ col 0 1 ∷ col 0 2 ∷ col 0 3 ∷ [];
   width = 5;
   row = Int tab ∷ Int docid ∷ Int at ∷ Int n ∷ [];
-  means = add_size_means;
+  means = unfold understood everything in (record { is = refl; plain = (refl, refl); whole = refl });
   made = rw (cast_null, cast_int tab, cast_int docid, cast_int at, cast_int n) refl;
   given = λ db e h. elim h [ inl bad ↦ true≢false bad.1 | inr limit ↦ true≢false (sym limit.1) ];
   entry = λ id. refl;
   agrees = λ id r h. then_tie _ _ (turned _ _ _ _ h.tab refl) (then_tie _ _ (turned _ _ _ _ h.docid refl) (last_term (turned _ _ _ _ h.at refl)));
-  typed = λ db id. refl;
-  present = λ db id. refl;
-  checked = λ db id. refl;
+  passed = λ db id. (refl, refl, refl);
   big = λ id over.
       let all = oversized tables.sizes (Int id ∷ Int tab ∷ Int docid ∷ Int at ∷ Int n ∷ []) refl refl (int_is_number id, (int_is_number tab, (int_is_number docid, (int_is_number at, (int_is_number n, tt))))) (int_is_number tab, (int_is_number docid, (int_is_number at, (int_is_number id, tt)))) (omega arith, omega arith) (omega arith, omega arith) (omega arith) over in omega (arith, all);
 }
 
 note_row : (name : List ℕ) → AddsRow tables.noted add_note_text (Text name ∷ []) (without_case name) name 2 (length name)
-unfolding first_key
+unfolding understood everything
 note_row name = record {
   terms = _;
   width = 2;
   row = Text name ∷ [];
-  means = add_note_means;
+  means = record { is = refl; plain = (refl, refl); whole = refl };
   made = rw (cast_null) refl;
   given = λ db e h. elim h [ inl bad ↦ true≢false bad.1 | inr limit ↦ true≢false (sym limit.1) ];
   entry = λ id. refl;
   agrees = λ id r h. last_term (turned_case _ _ _ _ h.name refl);
-  typed = λ db id. refl;
-  present = λ db id. refl;
-  checked = λ db id. refl;
+  passed = λ db id. (refl, refl, refl);
   big = λ id over.
       let all = oversized tables.noted (Int id ∷ Text name ∷ []) refl refl (int_is_number id, (zero_is_number, tt)) (zero_is_number, (int_is_number id, tt)) (omega arith, omega arith) (omega arith, omega arith) (omega arith) over in omega (arith, all);
 }
@@ -374,17 +539,9 @@ module _ {S : Type 0} (g : Ghosts S) where
 
 -- ---- eight lists that are added by one statement
 
-list_typed : (es : List PackedList) (db : Trees) (rows : List Row) → list_all (passes Datatype store_schema db (posting_table 7)) (numbered Chosen rows (map list_row es)) ≡ true
-list_typed [] db rows = refl
-list_typed (e ∷ es) db rows = list_typed es db _
-
-list_present : (es : List PackedList) (db : Trees) (rows : List Row) → list_all (passes NotNull store_schema db (posting_table 7)) (numbered Chosen rows (map list_row es)) ≡ true
-list_present [] db rows = refl
-list_present (e ∷ es) db rows = list_present es db _
-
-list_checked : (es : List PackedList) (db : Trees) (rows : List Row) → list_all (passes Check store_schema db (posting_table 7)) (numbered Chosen rows (map list_row es)) ≡ true
-list_checked [] db rows = refl
-list_checked (e ∷ es) db rows = list_checked es db _
+list_passed : (es : List PackedList) (db : Trees) (rows : List Row) → IsPassed (posting_table 7) db (numbered Chosen rows (map list_row es))
+list_passed [] db rows = (refl, refl, refl)
+list_passed (e ∷ es) db rows = list_passed es db _
 
 list_bare : (es : List PackedList) → AllByRecursion IsUnnumbered (map list_row es)
 list_bare [] = tt
@@ -419,8 +576,9 @@ module _ (a b c d e f g h : PackedList) where
     where
       by_cause : IsStore old.now → CantAdd why (posting_table 7) old.now.trees (map list_row eight) → IsFull 8 (old.now.trees 7) ⊎ Any IsBigEntry eight
       by_cause kept (inl refused) =
+          let passed = list_passed eight old.now.trees (old.now.trees 7) in
           elim (refused_why (posting_table 7) (inr (inr (inr (inr (inl refl))))) old.now.trees (sound_of old kept) kept.numbered.1.1.1.1.0 (map list_row eight) (list_bare eight)
-          (list_typed eight old.now.trees (old.now.trees 7)) (list_present eight old.now.trees (old.now.trees 7)) (list_checked eight old.now.trees (old.now.trees 7)) refused.0 refused.1) [
+          passed.0 passed.1 passed.2 refused.0 refused.1) [
             | inl full ↦ inl full
             | inr twice ↦ absurd (unruled Unique (refused.2 ∙ ap edit_error twice.0))
           ]

@@ -1,15 +1,7 @@
 -- Reads one after another.
-use Rattle.std.proofs.Common.{◌≡◌, false, Result, Ok, Err, refl, sym, ap, ◌∙◌, subst, arith, IsTrue, inl}
-use Rattle.sqlite.specs.State.{State, HasCleanDisk, Survives}
-use Rattle.sqlite.proofs.StateLemmas.{survives_then}
-use Rattle.std.specs.Prelude.{IfOk, IfErr, OnOk}
-use Rattle.sqlite.specs.Store.{Ghosts}
-use Rattle.sqlite.specs.Held.{Held}
+use Rattle.std.proofs.Common.{◌≡◌, false, Result, Ok, Err, refl, sym, ap, ◌∙◌, subst, arith, IsTrue, inl, IfOk, IfErr, OnOk}
+use Rattle.ft_store.proofs.Common.{State, HasCleanDisk, Survives, survives_then, Ghosts, Held, Database, Trees, IsSound, StoreValue}
 use Rattle.ft_store.specs.declared.fault.StoreFault.{StoreFault}
-use Rattle.sqlite.specs.Effect.{Database}
-use Rattle.sqlite.specs.Tree.{Trees}
-use Rattle.sqlite_catalog.specs.Listing.{IsSound}
-use Rattle.ft_rows.specs.Store.{StoreValue}
 use Rattle.ft_store.specs.Tables.{store_schema}
 use Rattle.ft_store.specs.Rows.{value_of}
 use Rattle.ft_store.specs.Calls.{IsStore, IsStored, IsStoreIfOpen, IsMarked, IsPlainFault, HaveOwnRowids, Keeps, ReadsOnly}
@@ -53,16 +45,6 @@ no_look s mode = record {
   live = λ clean is_open. is_open;
   survives = record { clean = omega arith; shield = λ h. h; counts = omega arith; limit = refl; closes = λ clean is_open. inl is_open; crash = λ clean db h. inl h };
 }
-
-module _ (a b c : State) (one : Looking a b) (kept : HasCleanDisk c → Keeps b c) (two : Survives b c (λ _. IsTrue b.is_open → ⊥)) where
-  pub look_kept : HasCleanDisk c → Keeps a c
-  look_kept clean = kept_then a b c (one.kept (omega (arith, two.clean, clean))) (kept clean)
-
-  pub look_survives : Survives a c (λ _. IsTrue a.is_open → ⊥)
-  look_survives = survives_then a b c _ _ _ (λ _ db none. none) (λ clean db none is_open. none (one.live (omega (arith, two.clean, clean)) is_open)) one.survives two
-
-  pub look_on : c.in_transaction ≡ false → (HasCleanDisk c → IsTrue c.is_open) → Looking a c
-  look_on mode live = record { mode = mode; kept = look_kept; live = λ clean is_open. live clean; survives = look_survives }
 
 -- ---- a read that was answered, and then what is made of its rows
 

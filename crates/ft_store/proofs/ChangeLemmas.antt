@@ -1,41 +1,101 @@
--- What DELETE and INSERT make of the rows of a table.
-use Rattle.std.proofs.Common.{◌≡◌, ◌≢◌, ◌⊎◌, inl, inr, ℕ, ◌/◌, length, ℤ, Bool, true, false, not, ◌&&◌, ◌||◌, cond, List, [], ◌∷◌, map, filter, slice_get, Some, None, Ok, Err, Result, refl, sym, ap, ◌∙◌, subst, is_eq, IsPermutation, IsTrue}
-use Rattle.std.specs.List.{AllByRecursion, list_any, list_all}
-use Rattle.std.proofs.lemmas.Cmp.{tied_itself}
-use Rattle.std.proofs.lemmas.List.Sorted.{list_any-IsPermutation, IsPermutation-map}
-use Rattle.sqlite.specs.declared.types.Value.{Value}
-use Rattle.sqlite.specs.declared.types.Value.TheVariants.{Null, Int}
-use Rattle.sqlite.specs.Order.{Row}
-use Rattle.sqlite_value.specs.Order.{value_cmp}
-use Rattle.sqlite_value.proofs.OrderLemmas.{value_cmp_total}
-use Rattle.sqlite.specs.Tree.{Trees}
-use Rattle.sqlite_trees.specs.Tree.{IsAscending, rowid, has_rowid, without_rowid, put_row}
-use Rattle.sqlite_trees.specs.View.{is_int}
+-- What a query on one table selects, and what DELETE and INSERT make of its rows.
+use Rattle.std.proofs.Common.{◌≡◌, ℕ, ◌+◌, ◌<◌, Bool, true, false, cond, List, [], ◌∷◌, ◌++◌, map, filter, length, refl, sym, ap, ap₂, ◌∙◌, subst, arith, Ordering, Equal, is_lt, IsPermutation, IsSorted, All, ◌≢◌, ◌⊎◌, inl, inr, ◌/◌, ℤ, not, ◌&&◌, ◌||◌, slice_get, Some, None, Ok, Err, Result, is_eq, IsTrue, nat_le, ◌^◌, unwrap_or, ◌-◌}
+use Rattle.ft_store.proofs.Common.{AllByRecursion, list_all, IsTotalOrder, get_or-map, length-map, All-from_recursion, All-permutation}
+use Rattle.ft_store.proofs.Common.{IsPermutation-map, Row, Trees, Term, holds, Query, Output, output, output_cmp, inner, end, matches, IsAnswer}
+use Rattle.ft_store.proofs.Common.{sort_by, map-map, filter-map, all_map, all-filter, all_weaker, all_both, Key, filter_passes, list_any, tied_itself}
+use Rattle.ft_store.proofs.Common.{list_any-IsPermutation, Value, Null, Int, value_cmp, value_cmp_total, IsAscending, rowid, has_rowid, without_rowid}
+use Rattle.ft_store.proofs.Common.{put_row, is_int, edit_of, id_in, is_taken, are_fresh, put_all, unary, Chosen, Given, Table, overlay, Values}
+use Rattle.ft_store.proofs.Common.{Delete, Insert, understood, Database, IsDatabase, value_rows, Written, Task, stamped, Tally, Does, AtPlace, OnRows}
+use Rattle.ft_store.proofs.Common.{State, Executes, mode_of, IsPlain, command_of, statement_of, runs_as, one_step, filter_all, all_of}
+use Rattle.ft_store.proofs.KeyedLemmas.{sorted_is, sort_by-filter}
+use Rattle.ft_store.proofs.Texts.{query_by, table_query, no_limit}
 use Rattle.ft_store.specs.Calls.{HasOwnRowids}
-use Rattle.ft_store.proofs.RowidLemmas.{IsInt, DifferIn, apart_rows, fresh_first}
-use Rattle.sqlite.specs.Edit.{edit_of, id_in, without_all, is_taken, are_fresh, put_all}
+use Rattle.ft_store.proofs.TypedLemmas.{IsInt, DifferIn, apart_rows, fresh_first, int_is}
+use Rattle.sqlite.specs.Edit.{without_all}
 use Rattle.sqlite.specs.Cast.{cast}
-use Rattle.sqlite_sql.specs.Ops.{unary}
 use Rattle.sqlite.specs.Kind.TheVariants.{Integer}
-use Rattle.ft_store.proofs.TypedLemmas.{int_is}
 use Rattle.sqlite_rules.specs.Calls.{ids_of}
-use Rattle.sqlite.specs.Rowids.TheVariants.{Chosen, Given}
-use Rattle.sqlite.specs.Table.{Table}
-use Rattle.sqlite.specs.Term.{Term, holds}
-use Rattle.sqlite.specs.Query.{Output, output, IsAnswer}
-use Rattle.sqlite.specs.Program.{overlay}
-use Rattle.sqlite.specs.Source.TheVariants.{Values}
-use Rattle.sqlite.specs.Command.TheVariants.{Delete, Insert}
-use Rattle.sqlite.specs.Listing.{understood}
-use Rattle.sqlite.specs.Effect.{Database, IsDatabase, value_rows}
-use Rattle.sqlite.specs.Rows.{Written, Task, stamped}
-use Rattle.sqlite.specs.Does.{Tally, Does, AtPlace, OnRows}
-use Rattle.sqlite.specs.State.{State, Executes, mode_of}
-use Rattle.sqlite.proofs.Callers.{IsPlain, command_of, statement_of, runs_as, one_step}
-use Rattle.sqlite_keyed.proofs.ListLemmas.{all_both, all_weaker, filter_all, all_of, map-map}
 use Rattle.ft_store.specs.Tables.{store_schema, a_table}
-use Rattle.ft_store.proofs.TextLemmas.{table_query, no_limit}
-use Rattle.ft_store.proofs.SelectLemmas.{arranged}
+
+-- ---- lists
+
+pub filter_same_on : {X : Type 0} (P : X → Type 0) (p q : X → Bool) → ((x : X) → P x → p x ≡ q x) → (xs : List X) → AllByRecursion P xs → filter p xs ≡ filter q xs
+filter_same_on P p q same [] all = refl
+filter_same_on P p q same (x ∷ xs) all = rw (same x all.0, filter_same_on P p q same xs all.1) refl
+
+map_same_on : {X Y : Type 0} (P : X → Type 0) (f g : X → Y) → ((x : X) → P x → f x ≡ g x) → (xs : List X) → AllByRecursion P xs → map f xs ≡ map g xs
+map_same_on P f g same [] all = refl
+map_same_on P f g same (x ∷ xs) all = ap₂ ◌∷◌ (same x all.0) (map_same_on P f g same xs all.1)
+
+-- ---- one table
+
+pub no_overlay : (db : Trees) (t : ℕ) → overlay db [] t ≡ db t
+no_overlay db t = elim (nat_le (2 ^ 31) t) as (λ b. unwrap_or (cond b (slice_get {X = List Row} [] (t - 2 ^ 31)) None) (db t) ≡ db t) [ true ↦ refl | false ↦ refl ]
+
+one_table : (db : Trees) (tree : ℕ) (terms : List Term) (params : Row) (rows : List Row)
+    → matches (λ _. rows) terms (inner tree end) (params ∷ []) ≡ map (λ r. params ∷ r ∷ []) (filter (λ r. list_all (holds (params ∷ r ∷ [])) terms) rows)
+one_table db tree terms params [] = refl
+one_table db tree terms params (r ∷ rows) =
+    elim (list_all (holds (params ∷ r ∷ [])) terms) as (λ b. cond b ((params ∷ r ∷ []) ∷ []) [] ++ matches (λ _. rows) terms (inner tree end) (params ∷ []) ≡ map (λ s. params ∷ s ∷ []) (cond b (r ∷ filter (λ s. list_all (holds (params ∷ s ∷ [])) terms) rows) (filter (λ s. list_all (holds (params ∷ s ∷ [])) terms) rows)))
+    [ true ↦ ap (λ l. (params ∷ r ∷ []) ∷ l) (one_table db tree terms params rows) | false ↦ one_table db tree terms params rows ]
+
+module _ (db : Trees) (tree : ℕ) (terms : List Term) (show : List ℕ) (order : List (Term × Key)) (limit : Term) (params : Row) where
+  pub arranged : (rows : List Row) (answer : IsAnswer (query_by tree terms show order limit) db params rows)
+      → IsPermutation (map (λ r. output (query_by tree terms show order limit) (params ∷ r ∷ [])) (filter (λ r. list_all (holds (params ∷ r ∷ [])) terms) (db tree))) answer.ordered
+  arranged rows answer =
+      let q = query_by tree terms show order limit in
+      subst (λ l. IsPermutation l answer.ordered) (answer.distinct ∙ ap (map (output q)) (answer.grouped ∙ one_table db tree terms params (db tree)) ∙ map-map (output q) _ _) answer.same
+
+module _ {X : Type 0} (cmp : X → X → Ordering) (total : IsTotalOrder cmp) (of : Row → X) (P : Row → Type 0) (db : Trees) (tree : ℕ)
+    (each : AllByRecursion P (db tree))
+    (terms : List Term) (show : List ℕ) (order : List (Term × Key)) (limit : Term) (params : Row) (test : X → Bool) (back : Output → X) where
+  abbrev pub the_query : Query
+  the_query = query_by tree terms show order limit
+
+  abbrev pub passes : Row → Bool
+  passes r = list_all (holds (params ∷ r ∷ [])) terms
+
+  abbrev pub out : Row → Output
+  out r = output the_query (params ∷ r ∷ [])
+
+  module _ (tests : (r : Row) → P r → passes r ≡ test (of r)) (shows : (r : Row) → P r → passes r ≡ true → back (out r) ≡ of r)
+      (orders : (a b : Row) → P a → P b → passes a ≡ true → passes b ≡ true → output_cmp the_query (out a) (out b) ≡ cmp (of a) (of b)) where
+    abbrev IsOut : Output → Type 0
+    IsOut o = (r : Row) × P r × (passes r ≡ true) × (o ≡ out r)
+
+    abbrev IsPassed : Row → Type 0
+    IsPassed r = P r × (passes r ≡ true)
+
+    all_passed : AllByRecursion IsPassed (filter passes (db tree))
+    all_passed = all_both P (λ r. passes r ≡ true) IsPassed (λ r h k. (h, k)) _ (all-filter P passes (db tree) each) (filter_passes passes (db tree))
+
+    kept_of : map (λ r. back (out r)) (filter passes (db tree)) ≡ filter test (map of (db tree))
+    kept_of =
+        map_same_on IsPassed (λ r. back (out r)) of (λ r h. shows r h.0 h.1) _ all_passed ∙ ap (map of) (filter_same_on P passes (λ r. test (of r)) tests (db tree) each)
+        ∙ sym (filter-map test of (db tree))
+
+    outs : (rows : List Row) (answer : IsAnswer the_query db params rows) → All IsOut answer.ordered
+    outs rows answer =
+        All-permutation IsOut _ _ (arranged db tree terms show order limit params rows answer)
+        (All-from_recursion IsOut _ (all_map IsOut out _ (all_weaker IsPassed (λ r. IsOut (out r)) (λ r h. (r, h.0, h.1, refl)) _ all_passed)))
+
+    pub still_sorted : (rows : List Row) (answer : IsAnswer the_query db params rows) → IsSorted cmp (map back answer.ordered)
+    still_sorted rows answer k d low within =
+        let inside : k + 1 < length answer.ordered = rw length-map at within in
+        let none : Output = ([], []) in
+        let first = outs rows answer k none (omega arith) in
+        let next = outs rows answer (k + 1) none inside in
+        ap is_lt (ap₂ cmp (get_or-map back answer.ordered (k + 1) none d inside ∙ ap back next.3 ∙ shows next.0 next.1 next.2) (get_or-map back answer.ordered k none d (omega arith) ∙ ap back first.3 ∙ shows first.0 first.1 first.2)
+        ∙ sym (orders next.0 first.0 next.1 first.1 next.2 first.2) ∙ ap₂ (output_cmp the_query) (sym next.3) (sym first.3)) ∙ answer.sorted k none low inside
+
+    pub permuted : (rows : List Row) (answer : IsAnswer the_query db params rows) → IsPermutation (filter test (map of (db tree))) (map back answer.ordered)
+    permuted rows answer = subst (λ l. IsPermutation l (map back answer.ordered)) (map-map back out _ ∙ kept_of) (IsPermutation-map back _ _ (arranged db tree terms show order limit params rows answer))
+
+    -- all rows that pass, before LIMIT, where rows that tie are equal
+    pub all_selected : ((a b : X) → cmp a b ≡ Equal → a ≡ b) → (rows : List Row) (answer : IsAnswer the_query db params rows) → map back answer.ordered ≡ filter test (sort_by cmp (map of (db tree)))
+    all_selected tie rows answer =
+        sorted_is cmp total tie (filter test (map of (db tree))) (map back answer.ordered) (permuted rows answer) (still_sorted rows answer)
+        ∙ sort_by-filter cmp total tie test (map of (db tree))
 
 -- ---- the rows that a DELETE leaves
 
@@ -92,15 +152,11 @@ any_map : {X Y : Type 0} (p : Y → Bool) (f : X → Y) (xs : List X) → list_a
 any_map p f [] = refl
 any_map p f (x ∷ xs) = ap (λ b. p (f x) || b) (any_map p f xs)
 
-filter_same_on : {X : Type 0} (p q : X → Bool) (xs : List X) → AllByRecursion (λ x. p x ≡ q x) xs → filter p xs ≡ filter q xs
-filter_same_on p q [] all = refl
-filter_same_on p q (x ∷ xs) all = rw (all.0, filter_same_on p q xs all.1) refl
-
 pub without_passing : (p : Row → Bool) (rows : List Row) (ids : List ℤ) → HasOwnRowids rows → IsPermutation (map (λ r. id_in (rowid r)) (filter p rows)) ids
     → without_all rows ids ≡ filter (λ r. not (p r)) rows
 without_passing p rows ids shaped perm =
     without_each ids rows
-    ∙ filter_same_on _ _ rows (all_weaker _ (λ r. not (list_any (λ id. has_rowid id r) ids) ≡ not (p r))
+    ∙ filter_same_on _ _ _ (λ r h. h) rows (all_weaker _ (λ r. not (list_any (λ id. has_rowid id r) ids) ≡ not (p r))
     (λ r e. ap not (sym (list_any-IsPermutation (λ id. has_rowid id r) _ _ perm) ∙ any_map (λ id. has_rowid id r) _ (filter p rows) ∙ e)) rows (found_again p rows shaped.0 shaped.1))
 
 -- the rowids of the rows that pass, as a DELETE finds them

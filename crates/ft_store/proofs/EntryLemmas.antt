@@ -1,15 +1,8 @@
 -- How lists become entries.
-use Rattle.std.proofs.Common.{◌≡◌, ℕ, ℤ, Bool, true, false, ◌&&◌, cond, List, [], ◌∷◌, ◌++◌, map, refl, sym, ap, ap₂, ◌∙◌, is_eq}
-use Rattle.std.specs.List.{AllByRecursion, flat_map}
-use Rattle.std.specs.Ordering.{int_eq}
-use Rattle.std.specs.FinMap.Entries.{where_key}
-use Rattle.std.proofs.lemmas.List.{map-append}
-use Rattle.sqlite.specs.Order.{Row}
-use Rattle.sqlite_typed.proofs.TestLemmas.{same_bytes}
+use Rattle.std.proofs.Common.{◌≡◌, ℕ, ℤ, Bool, true, false, ◌&&◌, cond, List, [], ◌∷◌, ◌++◌, map, refl, sym, ap, ap₂, ◌∙◌, is_eq, flat_map, int_eq}
+use Rattle.ft_store.proofs.Common.{AllByRecursion, where_key, map-append, Row, same_bytes, ListKey, list_key_cmp, name_cmp, StoredEntry, bare_list}
+use Rattle.ft_store.proofs.Common.{entries_with, entries_of, AreWhole, and_second, flat_more}
 use Rattle.ft_values.specs.declared.rows.Spot.{Spot}
-use Rattle.ft_rows.specs.Store.{ListKey, list_key_cmp, name_cmp}
-use Rattle.ft_rows.specs.Shown.{StoredEntry, bare_list, entries_with, entries_of, AreWhole}
-use Rattle.ft_rows.proofs.ListLemmas.{and_second, flat_more}
 
 -- rows of lists, each with such a property, and one row more
 module _ {X : Type 0} (Is : X → Type 0) (found : Row → X) (row : Row) where

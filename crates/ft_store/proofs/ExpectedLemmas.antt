@@ -1,13 +1,9 @@
 -- Lists that are expected, gone through beside rows.
-use Rattle.std.proofs.Common.{◌≡◌, ℕ, ℤ, zero, suc, ◌+◌, ◌<◌, Bool, true, false, true≢false, cond, not, IsTrue, List, [], ◌∷◌, ◌++◌, map, length, get_or, take, drop, refl, sym, ap, subst, ◌∙◌, arith, append_assoc, append-nil, length-drop}
-use Rattle.std.specs.Prelude.{string_bytes, ◌↔◌, MatchBool}
-use Rattle.std.specs.Ordering.{int_eq}
-use Rattle.std.proofs.lemmas.List.{map-append, append_cancel_left, drop_more, drop-drop}
-use Rattle.sqlite.specs.Order.{Row}
+use Rattle.std.proofs.Common.{◌≡◌, ℕ, ℤ, zero, suc, ◌+◌, ◌<◌, Bool, true, false, true≢false, cond, not, IsTrue, List, [], ◌∷◌, ◌++◌, map, length, get_or, take, drop, refl, sym, ap, subst, ◌∙◌, arith, append_assoc, append-nil, length-drop, string_bytes, ◌↔◌, MatchBool, int_eq, drop-drop}
+use Rattle.ft_store.proofs.Common.{map-append, append_cancel_left, drop_more, Row, ListKey}
 use Rattle.ft_values.specs.declared.rows.Spot.{Spot}
 use Rattle.ft_rows.specs.declared.terms.Posting.{Posting}
 use Rattle.ft_rows.specs.declared.terms.TermLists.{TermLists}
-use Rattle.ft_rows.specs.Store.{ListKey}
 use Rattle.ft_rows.specs.Terms.{spot_of, joined_posting, lists_of_postings, AreFirstList, lists_by_terms}
 use Rattle.ft_store.specs.Found.{found_places}
 use Rattle.ft_store.specs.Expected.{left_under, left_of, HasMore, IsList}

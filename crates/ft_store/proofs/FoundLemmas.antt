@@ -1,31 +1,59 @@
--- The rowids of the tables of a file that was opened: the trees of a file are in the order of their
--- rowids.
-use Rattle.std.proofs.Common.{◌≡◌, ◌≢◌, ◌∙◌, ℕ, List, [], ◌∷◌, filter, sym, ap, subst, inl, inr, Less}
+-- Numbers that stand in the first column of rows, and the rowids of the tables of a file that was opened.
+use Rattle.std.proofs.Common.{◌≡◌, ◌≢◌, ℤ, get_or, arith, List, [], ◌∷◌, map, length, refl, sym, ap, ◌∙◌, is_some, slice_get, option_map, ℕ, filter, subst, inl, inr, Less}
+use Rattle.ft_store.proofs.Common.{length-map, map-map, Value, Int, Row, column, id_in, AllZip, Schema, Table, Trees, value_cmp, value_cmp_total}
+use Rattle.ft_store.proofs.Common.{tied_itself, rowid, IsShaped, IsOrdered, all_from, IsSound, IsTableRow, is_table_row, AreFoundIn}
+use Rattle.sqlite_trees.specs.declared.store.Shape.TheVariants as shape
 use Rattle.std.proofs.Math.Logic.{∥∥₁_elim}
-use Rattle.std.specs.List.{AllZip}
-use Rattle.sqlite.specs.Order.{Row}
-use Rattle.sqlite.specs.Schema.{Schema}
-use Rattle.sqlite.specs.Table.{Table}
-use Rattle.sqlite.specs.Tree.{Trees}
 use Rattle.sqlite_wal.specs.Recovery.{Image}
-use Rattle.sqlite_value.specs.Order.{value_cmp}
-use Rattle.sqlite_value.proofs.OrderLemmas.{value_cmp_total}
-use Rattle.std.specs.Cmp.{tied_itself}
-use Rattle.sqlite_trees.specs.Tree.{rowid}
 use Rattle.sqlite_trees.specs.Objects.{catalog_tree, IsListed}
-use Rattle.sqlite_trees.specs.View.{IsShaped, IsOrdered}
 use Rattle.sqlite_trees.specs.Props.{IsOrdered-prop}
 use Rattle.sqlite_trees.specs.declared.store.Shape.{Shape}
-use Rattle.sqlite_trees.specs.declared.store.Shape.TheVariants as shape
 use Rattle.sqlite_trees.proofs.ListLemmas.{ascending_weaker}
-use Rattle.sqlite_rules.proofs.ListLemmas.{all_from}
-use Rattle.sqlite_catalog.specs.Listing.{IsSound, IsTableRow, is_table_row}
 use Rattle.sqlite_catalog.proofs.LayoutLemmas.{table_shape}
 use Rattle.sqlite_store.specs.Listing.{all_shapes, all_reals}
 use Rattle.sqlite_store.specs.Listed.{catalog_rows, is_listed}
 use Rattle.sqlite_store.proofs.ListingLemmas.{all_ordered}
-use Rattle.sqlite.specs.Files.{AreFoundIn}
 use Rattle.ft_store.specs.Calls.{HasOwnRowids, HaveOwnRowids}
+
+abbrev AreNumbers : List ℤ → List Row → Type 0
+AreNumbers numbers rows = map (λ n. Int n) numbers ≡ map (λ row. column row 0) rows
+
+pub by_number : {X : Type 0} (f : Value → X) (numbers : List ℤ) (rows : List Row) → AreNumbers numbers rows → map (λ n. f (Int n)) numbers ≡ map (λ row. f (column row 0)) rows
+by_number f numbers rows h = sym (map-map f (λ n. Int n) numbers) ∙ ap (map f) h ∙ map-map f (λ (row : Row). column row 0) rows
+
+same_each : (numbers : List ℤ) → numbers ≡ map (λ n. n) numbers
+same_each [] = refl
+same_each (n ∷ numbers) = ap (λ l. n ∷ l) (same_each numbers)
+
+pub numbers_in : (numbers : List ℤ) (rows : List Row) → AreNumbers numbers rows → numbers ≡ map (λ row. id_in (column row 0)) rows
+numbers_in numbers rows h = same_each numbers ∙ by_number id_in numbers rows h
+
+pub some_number : (numbers : List ℤ) (rows : List Row) → AreNumbers numbers rows → is_some (slice_get numbers 0) ≡ is_some (slice_get rows 0)
+some_number [] [] h = refl
+some_number [] (r ∷ rows) h = absurd cc
+some_number (n ∷ numbers) [] h = absurd cc
+some_number (n ∷ numbers) (r ∷ rows) h = refl
+
+pub first_number : (numbers : List ℤ) (rows : List Row) → AreNumbers numbers rows → slice_get numbers 0 ≡ option_map (λ row. id_in (column row 0)) (slice_get rows 0)
+first_number [] [] h = refl
+first_number [] (r ∷ rows) h = absurd cc
+first_number (n ∷ numbers) [] h = absurd cc
+first_number (n ∷ numbers) (r ∷ rows) h = ap (λ l. option_map id_in (slice_get l 0)) h
+
+-- what is said of a table's third column by the first column of the rows that a query gives
+abbrev Seen : List Row → List Row → Type 0
+Seen rows found = (length found ≡ length rows) × ((n : ℤ) → map (λ (r : Row). column r 0) rows ≡ Int n ∷ [] → map (λ (r : Row). column r 2) found ≡ Int n ∷ [])
+
+pub only_one : (numbers : List ℤ) (rows found : List Row) (n : ℤ) → AreNumbers numbers rows → Seen rows found → length numbers ≡ 1 → n ≡ get_or numbers 0 n → map (λ (r : Row). column r 2) found ≡ Int n ∷ []
+only_one [] rows found n h seen one is = absurd (omega (arith, one))
+only_one (m ∷ []) rows found n h seen one is = seen.1 n (sym h ∙ ap (λ x. Int x ∷ []) (sym is))
+only_one (m ∷ k ∷ numbers) rows found n h seen one is = absurd (omega (arith, one))
+
+pub not_one : (numbers : List ℤ) (rows found : List Row) → AreNumbers numbers rows → Seen rows found → length numbers ≢ 1 → length found ≢ 1
+not_one numbers rows found h seen none e =
+    none (sym (length-map numbers (λ n. Int n)) ∙ ap length h ∙ length-map rows (λ (row : Row). column row 0) ∙ sym seen.0 ∙ e)
+
+-- ---- the trees of a file are in the order of their rowids
 
 differ : (a b : Row) → value_cmp (rowid a) (rowid b) ≡ Less → rowid a ≢ rowid b
 differ a b lower same = let tied = ap (value_cmp (rowid a)) (sym same) ∙ tied_itself value_cmp_total (rowid a) in let both = sym lower ∙ tied in cc

@@ -1,21 +1,14 @@
 -- How lists that are added together make the steps of a change.
-use Rattle.std.proofs.Common.{◌≡◌, ℕ, suc, ◌+◌, ◌<◌, Bool, true, false, List, [], ◌∷◌, ◌++◌, map, length, take, get_or, All, Ok, refl, sym, ap, ap₂, ◌∙◌, subst, arith, IsTrue}
-use Rattle.std.specs.Prelude.{if◌then◌else◌, MatchBool}
-use Rattle.std.specs.List.{flat_map}
-use Rattle.std.specs.FinMap.Entries.{put}
-use Rattle.std.proofs.lemmas.List.{nil_from_length, map_push, take_more, get_or-map}
+use Rattle.std.proofs.Common.{◌≡◌, ℕ, suc, ◌+◌, ◌<◌, Bool, true, false, List, [], ◌∷◌, ◌++◌, map, length, take, get_or, All, Ok, refl, sym, ap, ap₂, ◌∙◌, subst, arith, IsTrue, if◌then◌else◌, MatchBool, flat_map}
+use Rattle.ft_store.proofs.Common.{put, nil_from_length, map_push, take_more, get_or-map, Row, State, Executes, Shows, ExecutesInside, IsUnchanged}
+use Rattle.ft_store.proofs.Common.{RowChange, StoreValue, Change, list_key_cmp, all_applied, shown_change}
 use Rattle.std.proofs.lemmas.List.Concat.{flat_map-append}
-use Rattle.sqlite.specs.Order.{Row}
-use Rattle.sqlite.specs.State.{State, Executes, Shows, ExecutesInside, IsUnchanged}
-use Rattle.ft_values.specs.declared.rows.RowChange.{RowChange}
 use Rattle.ft_values.specs.declared.rows.RowChange.TheVariants as row
-use Rattle.ft_rows.specs.Store.{StoreValue, Change, list_key_cmp, all_applied}
 use Rattle.ft_store.specs.Rows.{value_of}
-use Rattle.ft_rows.specs.Changes.{shown_change}
 use Rattle.ft_store.specs.Calls.{IsStore, Steps, Goes}
 use Rattle.ft_store.specs.Groups.{PackedList, entry_values, with_lists, entry_put, PutsList}
 use Rattle.ft_store.proofs.Texts.{add_lists_text}
-use Rattle.ft_store.proofs.WriteLemmas.{does_add_eight}
+use Rattle.ft_store.proofs.StoreTables.{does_add_eight}
 use Rattle.ft_store.proofs.PutLemmas.{packed_back}
 
 -- ---- eight lists

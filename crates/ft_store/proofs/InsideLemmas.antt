@@ -1,40 +1,37 @@
 -- Calls in one transaction, one after the other.
-use Rattle.std.proofs.Common.{◌≡◌, ◌⊎◌, ◌+◌, ◌∙◌, ℕ, List, IsTrue, Result, Ok, Err, arith, inl, inr, refl, sym, subst, ◌<◌, ℤ, pos, map, take, length, get_or}
-use Rattle.std.specs.Prelude.{OnOk, IfErr, String, string_bytes}
-use Rattle.sqlite.specs.Tree.{Trees}
+use Rattle.std.proofs.Common.{◌≡◌, ◌⊎◌, ◌+◌, ◌∙◌, ℕ, List, [], IsTrue, Result, Ok, Err, arith, inl, inr, refl, sym, subst, ◌<◌, ℤ, pos, map, take, length, get_or, OnOk, IfErr, String, string_bytes, MutBor}
+use Rattle.ft_store.proofs.Common.{Database, Executes, Trees, IfErr-weaker, on_ok_weaker, Ghosts, Held, state, State, HasCleanDisk, Survives}
+use Rattle.ft_store.proofs.Common.{ExecutesInside, survives_then, Row, StoreValue, column_key_cmp, with_columns, with_skipped, enumerate_from, Global}
+use Rattle.ft_store.proofs.Common.{put}
 use Rattle.ft_store.specs.declared.fault.StoreFault.TheVariants as fault
 use Rattle.ft_store.specs.Rows.{value_of}
 use Rattle.ft_store.specs.Puts.{AreGrown, IsFull, IsTooBig, KeepsRest, KeepsRestOnOk}
 use Rattle.ft_store.specs.Changes.{ReplacesRow, Changes, ChangesIfOpen, Drops}
-use Rattle.ft_store.proofs.RiseLemmas.{trees_same, trees_then}
-use Rattle.std.proofs.lemmas.Result.{IfErr-weaker, on_ok_weaker}
-use Rattle.std.specs.Borrow.{MutBor}
-use Rattle.sqlite.specs.Store.{Ghosts}
-use Rattle.sqlite.specs.Held.{Held, state}
-use Rattle.sqlite.specs.State.{State, HasCleanDisk, Survives, ExecutesInside}
-use Rattle.sqlite.proofs.StateLemmas.{survives_then}
+use Rattle.ft_store.proofs.CantLemmas.{trees_same, trees_then, take_one}
 use Rattle.ft_store.specs.declared.fault.StoreFault.{StoreFault}
 use Rattle.ft_store.specs.Calls.{IsStore, Steps, StaysInside, StaysUncommitted, IsPlainFault}
 use Rattle.ft_store.specs.Blame.{IsBlamed, RefusesRun, BlamesOutside}
-use Rattle.ft_store.specs.Inside.{DoneInside, RunsOnOk}
-use Rattle.ft_store.proofs.GoneLemmas.{rest_then}
-use Rattle.sqlite.specs.Order.{Row}
-use Rattle.ft_rows.specs.Store.{StoreValue, column_key_cmp, with_columns, with_skipped}
-use Rattle.ft_store.proofs.BlameLemmas.{blamed_then}
-use Rattle.ft_store.proofs.CallLemmas.{keeps_same, keeps_then}
+use Rattle.ft_store.specs.Inside.{DoneInside, RunsOnOk, MakesInside}
+use Rattle.ft_store.proofs.RefusedLemmas.{rest_then}
+use Rattle.ft_store.proofs.BlameLemmas.{blamed_then, keeps_same, keeps_then}
 use Rattle.ft_store.proofs.PutLemmas.{then_step, no_step, column_more, skip_more}
-use Rattle.ft_store.proofs.CantLemmas.{take_one}
-use Rattle.std.specs.List.{enumerate_from}
-use Rattle.std.specs.declared.alloc.Global.{Global}
-use Rattle.std.specs.FinMap.Entries.{put}
+
+-- one call after another, with an answer of its own
+pub stays_more : {S X Y Z : Type 0} {g : Ghosts S} {IsFault : StoreFault → Type 0} {a b c : MutBor (Held S)} {one : Result X StoreFault} {two : Result Y StoreFault} {three : Result Z StoreFault} → StaysInside g a b one IsFault → StaysInside g b c two IsFault
+    → IfErr three IsFault → StaysInside g a c three IsFault
+stays_more first second fault = record {
+  same_reference = second.same_reference ∙ first.same_reference;
+  kept = λ clean. keeps_then _ _ _ (first.kept (omega (arith, second.survives.clean))) (second.kept clean);
+  survives = survives_then _ _ _ _ _ _ (λ _ db none. none) (λ _ db none. none) first.survives second.survives;
+  fault = fault;
+}
 
 pub stays_then : {S X Y : Type 0} (g : Ghosts S) (IsFault : StoreFault → Type 0) (a b c : MutBor (Held S)) (one : Result X StoreFault) (two : Result Y StoreFault) → StaysInside g a b one IsFault → StaysInside g b c two IsFault → StaysInside g a c two IsFault
-stays_then g IsFault a b c one two first second = record {
-  same_reference = second.same_reference ∙ first.same_reference;
-  kept = λ clean. keeps_then (state g a.now) (state g b.now) (state g c.now) (first.kept (omega (arith, second.survives.clean))) (second.kept clean);
-  survives = survives_then (state g a.now) (state g b.now) (state g c.now) _ _ _ (λ _ db none. none) (λ _ db none. none) first.survives second.survives;
-  fault = second.fault;
-}
+stays_then g IsFault a b c one two first second = stays_more first second second.fault
+
+-- an answer that says the same of another result
+pub stays_as : {S X Y : Type 0} {g : Ghosts S} {IsFault : StoreFault → Type 0} {a b : MutBor (Held S)} {one : Result X StoreFault} {two : Result Y StoreFault} → StaysInside g a b one IsFault → IfErr two IsFault → StaysInside g a b two IsFault
+stays_as it fault = record { same_reference = it.same_reference; kept = it.kept; survives = it.survives; fault = fault }
 
 -- nothing is done
 pub stays_same : {S X : Type 0} (g : Ghosts S) (a : MutBor (Held S)) (result : Result X StoreFault) (IsFault : StoreFault → Type 0) → IfErr result IsFault → StaysInside g a a result IsFault
@@ -43,6 +40,15 @@ stays_same g a result IsFault fault = record {
   kept = λ clean. keeps_same (state g a.now);
   survives = record { clean = omega arith; shield = λ h. h; counts = omega arith; limit = refl; closes = λ clean h. inl h; crash = λ clean db h. inl h };
   fault = fault;
+}
+
+-- a statement that is run makes one database of another
+pub runs_make : {S : Type 0} (g : Ghosts S) (a b : MutBor (Held S)) (result : Result (Unit {0}) StoreFault) (text : List ℕ) (Before : Database → Type 0) (After : Database → Database → Type 0) → DoneInside g a b result (RunsOnOk g a.now b.now result text [])
+    → ((count : ℕ) → Before (state g a.now).now → Executes text [] (state g a.now) (state g b.now) (Ok count) → After (state g a.now).now (state g b.now).now) → MakesInside g a b result Before After
+runs_make g a b result text Before After ran makes = record {
+  steps = λ clean inside was.
+      on_ok_weaker result (λ (h : (count : ℕ) × ExecutesInside 0 text [] (state g a.now) (state g b.now) (Ok count)). (makes h.0 (was h.1.1.was_open) h.1.0, h.1.1)) (ran.steps clean inside);
+  stays = ran.stays;
 }
 
 -- a fault that says less

@@ -1,20 +1,122 @@
--- Rows under their keys, as they are filtered, added to and read.
-use Rattle.std.proofs.Common.{◌≡◌, ℕ, ◌+◌, ◌<◌, zero, suc, Bool, true, false, not, ◌||◌, cond, List, [], ◌∷◌, map, filter, length, get_or, Option, Some, None, refl, sym, ap, subst, ◌∙◌, arith, Ordering, Less, Equal, Greater, is_eq, is_lt, is_gt, T, true≢false, IsPermutation, IsSorted}
-use Rattle.std.specs.Ordering.{eq_by_cmp, ordering_then, match_ordering}
-use Rattle.std.specs.Cmp.{IsTotalOrder, tied_itself}
-use Rattle.std.specs.FinMap.Entries.{put, where_key, find, is_sorted, by_order, is_sorted-put, is_sorted-where_key, find-put, find-where_key, same_entries}
-use Rattle.std.proofs.lemmas.Cmp.{on_total, then_total}
-use Rattle.sqlite_keyed.specs.Lists.{sort_by, insert_sorted}
-use Rattle.sqlite_keyed.proofs.ListLemmas.{along_permutation}
-use Rattle.sqlite_value.specs.Order.{Row, value_cmp}
-use Rattle.sqlite_trees.specs.Tree.{put_row, rowid}
-use Rattle.sqlite_rules.specs.Edit.{is_taken, are_fresh, put_all}
+-- Rows under their keys, as they are sorted, filtered, added to and read.
+use Rattle.std.proofs.Common.{◌≡◌, suc, Bool, true, false, cond, List, [], ◌∷◌, filter, refl, sym, ap, ap₂, ◌∙◌, arith, Ordering, Less, Equal, Greater, is_lt, is_gt, true≢false, IsPermutation, IsSorted, add-one, ℕ, ◌+◌, ◌<◌, zero, not, ◌||◌, map, length, get_or, Option, Some, None, subst, is_eq, T}
+use Rattle.ft_store.proofs.Common.{AllByRecursion, IsTotalOrder, ordering_reverse, upto, IsPermutation-sym, IsAscending, sort_by, insert_sorted}
+use Rattle.ft_store.proofs.Common.{all_weaker, along_permutation, IsPermutation-filter, ascending-filter, IsPermutation-sort_by, eq_by_cmp}
+use Rattle.ft_store.proofs.Common.{ordering_then, match_ordering, tied_itself, put, where_key, find, is_sorted, by_order, is_sorted-put}
+use Rattle.ft_store.proofs.Common.{is_sorted-where_key, find-put, find-where_key, same_entries, on_total, then_total, Row, value_cmp, put_row, rowid}
+use Rattle.ft_store.proofs.Common.{is_taken, are_fresh, put_all, without_key}
 use Rattle.ft_store.specs.Groups.{put_each}
-use Rattle.ft_rows.specs.Store.{without_key}
 use Rattle.ft_store.specs.Rows.{keyed}
-use Rattle.ft_store.proofs.OrderLemmas.{tied_first, tied_second}
-use Rattle.ft_store.proofs.SortedLemmas.{sorted_is}
-use Rattle.ft_store.proofs.RowidLemmas.{fresh_first, fresh_later}
+use Rattle.ft_store.proofs.TypedLemmas.{tied_first, tied_second, fresh_first, fresh_later}
+
+-- ---- where only equal elements tie, a list has one sorted order
+
+module _ {X : Type 0} (cmp : X → X → Ordering) (total : IsTotalOrder cmp) (tie : (a b : X) → cmp a b ≡ Equal → a ≡ b) where
+  abbrev above : X → X → Bool
+  above a b = is_gt (cmp a b)
+
+  turned : (a b : X) → above a b ≡ true → above b a ≡ false
+  turned a b h = go (cmp a b) refl h
+    where
+      go : (o : Ordering) → cmp a b ≡ o → is_gt o ≡ true → above b a ≡ false
+      go Less e h = absurd (true≢false (sym h))
+      go Equal e h = absurd (true≢false (sym h))
+      go Greater e h = ap is_gt (total.antisymm b a ∙ ap ordering_reverse e)
+
+  between : (a b x : X) → above a x ≡ true → above b x ≡ false → above a b ≡ true
+  between a b x p q = go (cmp a x) (cmp b x) refl refl p q
+    where
+      go : (o u : Ordering) → cmp a x ≡ o → cmp b x ≡ u → is_gt o ≡ true → is_gt u ≡ false → above a b ≡ true
+      go Greater Less e f p q = ap is_gt (total.antisymm a b ∙ ap ordering_reverse (total.trans b x a f (total.antisymm x a ∙ ap ordering_reverse e)))
+      go Greater Equal e f p q = ap is_gt (total.antisymm a b ∙ ap ordering_reverse (total.congr b x a f ∙ total.antisymm x a ∙ ap ordering_reverse e))
+      go Greater Greater e f p q = absurd (true≢false q)
+      go Less u e f p q = absurd (true≢false (sym p))
+      go Equal u e f p q = absurd (true≢false (sym p))
+
+  level : (a b : X) → above a b ≡ false → above b a ≡ false → a ≡ b
+  level a b p q = go (cmp a b) refl p
+    where
+      go : (o : Ordering) → cmp a b ≡ o → is_gt o ≡ false → a ≡ b
+      go Less e h = absurd (true≢false (sym (ap is_gt (total.antisymm b a ∙ ap ordering_reverse e)) ∙ q))
+      go Equal e h = tie a b e
+      go Greater e h = absurd (true≢false h)
+
+  either_way : (a b : X) (xs : List X) → cond (above a b) (b ∷ a ∷ xs) (a ∷ b ∷ xs) ≡ cond (above b a) (a ∷ b ∷ xs) (b ∷ a ∷ xs)
+  either_way a b xs = go (above a b) (above b a) refl refl
+    where
+      go : (p q : Bool) → above a b ≡ p → above b a ≡ q → cond p (b ∷ a ∷ xs) (a ∷ b ∷ xs) ≡ cond q (a ∷ b ∷ xs) (b ∷ a ∷ xs)
+      go true true e f = absurd (true≢false (sym f ∙ turned a b e))
+      go true false e f = refl
+      go false true e f = refl
+      go false false e f = let same = level a b e f in ap₂ (λ x y. x ∷ y ∷ xs) same (sym same)
+
+  insert_twice : (a b : X) (xs : List X) → insert_sorted cmp a (insert_sorted cmp b xs) ≡ insert_sorted cmp b (insert_sorted cmp a xs)
+  insert_twice a b [] = either_way a b []
+  insert_twice a b (x ∷ xs) = go (above a x) (above b x) refl refl (insert_twice a b xs)
+    where
+      go : (p q : Bool) → above a x ≡ p → above b x ≡ q → insert_sorted cmp a (insert_sorted cmp b xs) ≡ insert_sorted cmp b (insert_sorted cmp a xs)
+          → insert_sorted cmp a (cond q (x ∷ insert_sorted cmp b xs) (b ∷ x ∷ xs)) ≡ insert_sorted cmp b (cond p (x ∷ insert_sorted cmp a xs) (a ∷ x ∷ xs))
+      go true true e f more = rw (e, f) (ap (λ l. x ∷ l) more)
+      go true false e f more = rw (e, f, between a b x e f) refl
+      go false true e f more = rw (e, f, between b a x f e) refl
+      go false false e f more = rw (e, f) (either_way a b (x ∷ xs))
+
+  pub sort_by-permutation : (xs ys : List X) → IsPermutation xs ys → sort_by cmp xs ≡ sort_by cmp ys
+  sort_by-permutation =
+      along_permutation (λ xs ys. sort_by cmp xs ≡ sort_by cmp ys) (λ xs. refl) (λ x xs ys h. ap (insert_sorted cmp x) h) (λ x y xs. insert_twice x y (sort_by cmp xs)) (λ xs ys zs h k. h ∙ k)
+
+  not_above : (x y : X) → is_lt (cmp y x) ≡ false → above x y ≡ false
+  not_above x y h = go (cmp y x) refl h
+    where
+      go : (o : Ordering) → cmp y x ≡ o → is_lt o ≡ false → above x y ≡ false
+      go Less e h = absurd (true≢false h)
+      go Equal e h = ap is_gt (total.antisymm x y ∙ ap ordering_reverse e)
+      go Greater e h = ap is_gt (total.antisymm x y ∙ ap ordering_reverse e)
+
+  sort_by-sorted : (xs : List X) → IsSorted cmp xs → sort_by cmp xs ≡ xs
+  sort_by-sorted [] sorted = refl
+  sort_by-sorted (x ∷ []) sorted = refl
+  sort_by-sorted (x ∷ y ∷ ys) sorted =
+      let tail : IsSorted cmp (y ∷ ys) = λ k d p q. rw add-one (rw add-one at (sorted (suc k) d (omega arith) (omega arith))) in
+      let first : is_lt (cmp y x) ≡ false = sorted 0 x (omega arith) (omega arith) in
+      ap (insert_sorted cmp x) (sort_by-sorted (y ∷ ys) tail) ∙ rw (not_above x y first) refl
+
+  pub sorted_is : (xs ys : List X) → IsPermutation xs ys → IsSorted cmp ys → ys ≡ sort_by cmp xs
+  sorted_is xs ys same sorted = sym (sort_by-sorted ys sorted) ∙ sym (sort_by-permutation xs ys same)
+
+  abbrev AtMost : X → X → Type 0
+  AtMost a b = above a b ≡ false
+
+  all-insert_sorted : (P : X → Type 0) (new : X) (xs : List X) → P new → AllByRecursion P xs → AllByRecursion P (insert_sorted cmp new xs)
+  all-insert_sorted P new [] h all = (h, tt)
+  all-insert_sorted P new (x ∷ xs) h all =
+      elim (is_gt (cmp new x)) as (λ b. AllByRecursion P (cond b (x ∷ insert_sorted cmp new xs) (new ∷ x ∷ xs))) [ true ↦ (all.0, all-insert_sorted P new xs h all.1) | false ↦ (h, all) ]
+
+  rises-insert_sorted : (new : X) (xs : List X) → IsAscending AtMost xs → IsAscending AtMost (insert_sorted cmp new xs)
+  rises-insert_sorted new [] up = (tt, tt)
+  rises-insert_sorted new (x ∷ xs) up = go (above new x) refl (rises-insert_sorted new xs up.1)
+    where
+      go : (b : Bool) → above new x ≡ b → IsAscending AtMost (insert_sorted cmp new xs) → IsAscending AtMost (cond b (x ∷ insert_sorted cmp new xs) (new ∷ x ∷ xs))
+      go true e more = (all-insert_sorted (AtMost x) new xs (turned new x e) up.0, more)
+      go false e more = ((e, all_weaker (AtMost x) (AtMost new) (λ y h. upto total new x y e h) xs up.0), up)
+
+  pub rises-sort_by : (xs : List X) → IsAscending AtMost (sort_by cmp xs)
+  rises-sort_by [] = tt
+  rises-sort_by (x ∷ xs) = rises-insert_sorted x (sort_by cmp xs) (rises-sort_by xs)
+
+  -- inserting into a list in order is putting at its head what is at most each
+  pub sort_by-rising : (xs : List X) → IsAscending AtMost xs → sort_by cmp xs ≡ xs
+  sort_by-rising [] up = refl
+  sort_by-rising (x ∷ []) up = refl
+  sort_by-rising (x ∷ y ∷ ys) up = ap (insert_sorted cmp x) (sort_by-rising (y ∷ ys) up.1) ∙ rw up.0.0 refl
+
+  -- the rows that pass may be taken before or after the sort
+  pub sort_by-filter : (p : X → Bool) (xs : List X) → sort_by cmp (filter p xs) ≡ filter p (sort_by cmp xs)
+  sort_by-filter p xs =
+      sort_by-permutation (filter p xs) (filter p (sort_by cmp xs)) (IsPermutation-filter p xs (sort_by cmp xs) (IsPermutation-sym _ _ (IsPermutation-sort_by cmp total xs)))
+      ∙ sort_by-rising _ (ascending-filter AtMost p _ (rises-sort_by xs))
+
+-- ---- rows under their keys
 
 pub some_first : {X : Type 0} (b : Bool) (x : X) (o : Option X) → cond b (Some x) o ≡ None → (b ≡ false) × (o ≡ None)
 some_first true x o h = absurd cc

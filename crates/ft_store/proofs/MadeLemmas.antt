@@ -1,22 +1,10 @@
 -- Row changes that are made in a transaction, one after the other.
-use Rattle.std.proofs.Common.{◌≡◌, ◌⊎◌, ◌+◌, ◌-◌, ◌<◌, ◌≤◌, ◌∷◌, ◌++◌, ℕ, Bool, true, false, List, [], map, length, take, drop, get_or, All, Result, Ok, Err, IsTrue, refl, sym, ap, subst, ◌∙◌, arith, inl, inr, append_assoc}
-use Rattle.std.specs.Prelude.{Any, IfErr, Some, Vec, if◌then◌else◌}
-use Rattle.std.specs.declared.alloc.Global.{Global}
-use Rattle.std.specs.Borrow.{MutBor}
-use Rattle.std.specs.List.{AllByRecursion, sum_by, between}
-use Rattle.std.proofs.lemmas.List.{map-append, take_all, take-append-drop}
+use Rattle.std.proofs.Common.{◌≡◌, ◌⊎◌, ◌+◌, ◌-◌, ◌<◌, ◌≤◌, ◌∷◌, ◌++◌, ℕ, Bool, true, false, List, [], map, length, take, drop, get_or, All, Result, Ok, Err, IsTrue, refl, sym, ap, subst, ◌∙◌, arith, inl, inr, append_assoc, Any, IfErr, Some, Vec, if◌then◌else◌, MutBor, sum_by, take_all, take-append-drop, take-add}
+use Rattle.ft_store.proofs.Common.{Global, AllByRecursion, between, map-append, All-nil, All-cons, All-append, All-map, All-weaker}
+use Rattle.ft_store.proofs.Common.{recursion_from_All, All-from_recursion, sum_by-append, sum_by-cons, IfOk-weaker, State, HasCleanDisk, Ghosts, Held}
+use Rattle.ft_store.proofs.Common.{state, RowChange, Change, applied, all_applied, shown_change, CanApply}
 use Rattle.std.proofs.lemmas.List.Edits.{between_none, between_more}
-use Rattle.std.proofs.lemmas.List.Elements.{All-nil, All-cons, All-append, All-map, All-weaker, recursion_from_All, All-from_recursion}
-use Rattle.std.proofs.lemmas.List.Sums.{sum_by-append, sum_by-cons}
-use Rattle.std.proofs.lemmas.Result.{IfOk-weaker}
-use Rattle.std.proofs.Math.Seq.{take-add}
-use Rattle.sqlite.specs.State.{State, HasCleanDisk}
-use Rattle.sqlite.specs.Store.{Ghosts}
-use Rattle.sqlite.specs.Held.{Held, state}
-use Rattle.ft_values.specs.declared.rows.RowChange.{RowChange}
 use Rattle.ft_values.specs.declared.rows.RowChange.TheVariants as row
-use Rattle.ft_rows.specs.Store.{Change, applied, all_applied}
-use Rattle.ft_rows.specs.Changes.{shown_change, CanApply}
 use Rattle.ft_store.specs.declared.fault.StoreFault.{StoreFault}
 use Rattle.ft_store.specs.Rows.{value_of}
 use Rattle.ft_store.specs.Calls.{IsStore, Steps, Goes, StaysUncommitted, IsPlainFault, IsChangeFault}
@@ -24,11 +12,10 @@ use Rattle.ft_store.specs.Groups.{PutsList, entry_put, with_lists, GoesOnOk}
 use Rattle.ft_store.specs.Parts.{CanMake, changes_in, IsNext}
 use Rattle.ft_store.specs.Puts.{AreGrown, IsFull, IsBigEntry, GrowsIfAdded, BlamesRows, rows_put, CantPut}
 use Rattle.ft_store.specs.Changes.{Changes, HasMade, MakesSome, MakesAll}
-use Rattle.ft_store.proofs.CantLemmas.{part_why, cant_one, count_rows, group_why}
+use Rattle.ft_store.proofs.CantLemmas.{part_why, cant_one, count_rows, group_why, trees_same, trees_then}
 use Rattle.ft_store.proofs.ChainLemmas.{ok_too, both}
 use Rattle.ft_store.proofs.GroupLemmas.{applied-append, each_puts, goes_of, goes_then}
 use Rattle.ft_store.proofs.InsideLemmas.{stays_same, stays_for, stays_then}
-use Rattle.ft_store.proofs.RiseLemmas.{trees_same, trees_then}
 
 -- ---- what can be made
 

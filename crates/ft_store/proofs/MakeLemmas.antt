@@ -1,64 +1,42 @@
--- How the tables are made.
-use Rattle.std.proofs.Common.{Option, Some, None, Bool, true, map, ◌≡◌, ◌≢◌, ◌⊎◌, inl, inr, ℕ, ◌+◌, ◌*◌, ◌^◌, ◌<◌, ◌≤◌, pos, false, List, [], ◌∷◌, length, Ok, Err, Result, refl, sym, ap, subst, ◌∙◌, arith, IsTrue, IsUtf8, true≢false}
-use Rattle.std.specs.Prelude.{codes}
-use Rattle.std.specs.List.{AllByRecursion}
-use Rattle.sqlite.specs.Schema.{Schema}
-use Rattle.sqlite.specs.Table.{Table}
-use Rattle.sqlite.specs.Command.TheVariants.{CreateTable, Insert}
-use Rattle.sqlite.specs.Change.{created, next_tree}
-use Rattle.sqlite.specs.Does.{Tally, Does, MakesTable, lacks_sequence}
-use Rattle.sqlite.specs.declared.error.Error.{Error}
-use Rattle.sqlite.specs.declared.error.Error.TheVariants.{SqliteFailure}
+-- How the tables are made and marked, and how a store of version 2 becomes one of version 3.
+use Rattle.std.proofs.Common.{Option, Some, None, true, map, ◌≡◌, ◌≢◌, inl, inr, ℕ, ◌+◌, ◌*◌, ◌^◌, ◌<◌, ◌≤◌, pos, false, List, [], ◌∷◌, length, Ok, Err, Result, refl, sym, ap, subst, ◌∙◌, arith, IsTrue, IsUtf8, true≢false, codes, int_cmp, MutBor, fold, ne_eqb, IsSome, filter, not}
+use Rattle.ft_store.proofs.Common.{AllByRecursion, Schema, Table, CreateTable, Insert, created, next_tree, Tally, Does, MakesTable, lacks_sequence}
+use Rattle.ft_store.proofs.Common.{Error, SqliteFailure, is_formed, is_fit, table_reals, index_reals, all_has, value_cmp, everything, understood}
+use Rattle.ft_store.proofs.Common.{Database, IsDatabase, State, Shows, Executes, ExecutesInside, mode_of, HasCleanDisk, runs_as, IsPlain, Row, column}
+use Rattle.ft_store.proofs.Common.{Null, Int, Text, put_row, Term, lit, Values, cell_key_cmp, list_key_cmp, column_key_cmp, name_cmp, nothing_held}
+use Rattle.ft_store.proofs.Common.{all-append, all_both, Ghosts, Held, state, All-from_recursion, Trees, value_rows, Task, Sourced, stamped, OnRows}
+use Rattle.ft_store.proofs.Common.{due, number, int_is_number, with_tree, IsStorableRow, Datatype, NotNull, Check, PrimaryKey, Unique, ForeignKey}
+use Rattle.ft_store.proofs.Common.{Enforced, Has, Edit, edit_of, edited, IsRefused, IsOversized, Chosen, Refusal, Violates, Mismatch, NoRowid}
+use Rattle.ft_store.proofs.Common.{BadReference, TooDeep, Writes as EditWrites, Turns, unique_kept, IsSound, list_all, holds, Delete, command_of}
 use Rattle.sqlite.specs.declared.error.ErrorCode.TheVariants as code
+use lib.Ieee
+use lib.Utf8
 use Rattle.sqlite_catalog.specs.declared.error.Refusal as alter
 use Rattle.sqlite_catalog.specs.declared.error.Refusal.TheVariants as cause
+use Rattle.sqlite_trees.specs.Sound as sound
+use Rattle.std.proofs.lemmas.Str.{IsUtf8-from_is_utf8}
 use Rattle.sqlite_catalog.specs.Calls.{RefusesTable}
 use Rattle.sqlite_catalog.specs.Change.{is_used, is_reserved, automatics}
-use Rattle.sqlite_catalog.specs.Listing.{is_formed, is_fit}
-use Rattle.sqlite_schema.specs.Rules.{table_reals, index_reals}
-use Rattle.sqlite_rules.proofs.ListLemmas.{all_has}
-use Rattle.sqlite_trees.specs.Sound as sound
-use Rattle.sqlite_value.specs.Order.{value_cmp}
 use Rattle.sqlite_resolve.specs.Compile.{table_defined_by}
-use lib.Ieee
-use Rattle.sqlite_tied.specs.Compute.{everything}
-use lib.Utf8
-use Rattle.sqlite.specs.Listing.{understood}
-use Rattle.sqlite.specs.Effect.{Database, IsDatabase}
-use Rattle.sqlite.specs.State.{State, Shows, Writes, Executes, ExecutesInside, mode_of, HasCleanDisk}
-use Rattle.sqlite.proofs.Callers.{runs_as, IsPlain, command_of as command_at}
-use Rattle.sqlite.specs.Order.{Row, column}
-use Rattle.sqlite.specs.declared.types.Value.TheVariants.{Null, Int, Text}
-use Rattle.sqlite_trees.specs.Tree.{put_row}
-use Rattle.sqlite.specs.Term.{Term, lit}
-use Rattle.sqlite.specs.Source.TheVariants.{Values}
-use Rattle.std.specs.Ordering.{int_cmp}
-use Rattle.ft_rows.specs.Store.{cell_key_cmp, list_key_cmp, column_key_cmp, name_cmp, nothing_held}
+use Rattle.sqlite.specs.State.{Writes}
 use Rattle.ft_store.specs.Rows.{keyed, table_entry, column_entry, skip_entry, cell_entry, list_entry, size_entry, note_entry, value_of}
-use Rattle.ft_store.proofs.ChangeLemmas.{inserts, cast_null, cast_int}
-use Rattle.sqlite_keyed.proofs.ListLemmas.{all-append, all_both}
-use Rattle.ft_store.specs.Tables.{store_schema, meta_table, tab_table, col_table, cell_table, posting_table, sizes_table, noted_table, skip_table, no_schema}
-use Rattle.ft_store.proofs.Texts.{make_meta_text, make_tab_text, make_col_text, make_cell_text, make_posting_text, make_sizes_text, make_noted_text, make_skip_text, mark_text}
+use Rattle.ft_store.proofs.ChangeLemmas.{inserts, cast_null, cast_int, went, same_value, deletes}
+use Rattle.ft_store.specs.Tables.{store_schema, meta_table, skip_table, no_schema}
+use Rattle.ft_store.proofs.Texts.{make_skip_text, mark_text, unmark_text, table_query}
 use Rattle.ft_store.specs.Anew.{HasFirst}
-use Rattle.ft_store.specs.Made.{first_tables, IsAllowed, IsEmptyOf, IsUnmarked, MakesTableOf, MakesNext}
-use Rattle.ft_store.proofs.StepLemmas.{shaped_after, same_rows}
-use Rattle.std.specs.Borrow.{MutBor}
-use Rattle.sqlite.specs.Store.{Ghosts}
-use Rattle.sqlite.specs.Held.{Held, state}
+use Rattle.ft_store.specs.Made.{first_tables, IsAllowed, IsEmptyOf, IsUnmarked, MakesTableOf, MakesNext, is_whole, statement_of, IsTabled}
+use Rattle.ft_store.proofs.StoreTables.{shaped_after, same_rows, same_store}
 use Rattle.ft_store.specs.declared.fault.StoreFault.{StoreFault}
-use Rattle.ft_store.specs.Calls.{IsPlainFault, StaysUncommitted, HasOwnRowids, IsStore}
+use Rattle.ft_store.specs.Calls.{IsPlainFault, StaysUncommitted, HasOwnRowids, IsStore, HaveOwnRowids}
 use Rattle.ft_store.specs.Inside.{MakesInside}
 use Rattle.ft_store.specs.Blame.{IsBlamed, BlamesIn}
-use Rattle.ft_store.proofs.BlameLemmas.{blamed_then}
+use Rattle.ft_store.proofs.BlameLemmas.{blamed_then, unless_shut}
 use Rattle.ft_store.proofs.InsideLemmas.{stays_then}
-use Rattle.ft_store.proofs.RefusedLemmas.{write_refused_as}
-
-went : {B E R : Type 0} {b : B} {Stops : E → Type 0} → ((stop : E) × Stops stop × (Ok b ≡ Err stop)) ⊎ R → R
-went (inl stopped) = absurd (let e = stopped.2 in cc)
-went (inr on) = on
-
-same_value : {B E : Type 0} {a b : B} → ◌≡◌ {A = Result B E} (Ok a) (Ok b) → a ≡ b
-same_value e = cc
+use Rattle.ft_store.proofs.RefusedLemmas.{write_refused_as, apart, refers, delete_blamed_in, never_leads}
+use Rattle.std.proofs.lemmas.Nat.Bits.{bit_at-zero}
+use Rattle.std.specs.Float.{NotNan}
+use Rattle.ft_store.specs.declared.same.Layout.TheVariants.{Older}
+use Rattle.ft_store.specs.Older.{older_schema, older_value, IsStoreBy}
 
 -- a table is there that has no row, and the others have their rows
 pub record Creates (old now : Database) (tables : Schema) (table : Table) : Type 0 where
@@ -125,7 +103,11 @@ never_stops s text table made allowed db has (Some e) (inr (why, refuses, is)) =
 
 -- such a text is refused only by what lies outside the database
 pub create_blamed : (old new : State) (s : Schema) (text : List ℕ) (table : Table) → MakesTableOf s text table → IsAllowed s text table → (IsTrue old.is_open → old.now.schema ≡ s) → (e : Error) → e ≢ SqliteFailure code.OutOfMemory → ExecutesInside 0 text [] old new (Err e) → IsBlamed old new
-create_blamed old new s text table made allowed kept e other ran = by_open old.is_open refl
+create_blamed old new s text table made allowed kept e other ran = unless_shut old new (λ blamed. blamed) (λ is.
+    elim (write_refused_as old new text [] (kept is) CreateTable made.command made.plain allowed.whole tt refl e other ran) [
+      | inl blamed ↦ blamed
+      | inr cant ↦ absurd (stopped (kept is) cant.0 (subst (λ t. Does old.step_limit (mode_of old) [] old.now t None CreateTable (Err cant.0)) made.whole cant.2))
+    ])
   where
     stopped : old.now.schema ≡ s → (stop : Option Error) → ¬ Does old.step_limit (mode_of old) [] old.now text None CreateTable (Err stop)
     stopped has stop (inr (a, made_all, is)) = (let f = is in cc)
@@ -135,234 +117,29 @@ create_blamed old new s text table made allowed kept e other ran = by_open old.i
         let plain : lacks_sequence mid.schema ≡ false = ap lacks_sequence schema ∙ made.uncounted in
         let f = rw plain at sequence in cc
 
-    by_open : (o : Bool) → old.is_open ≡ o → IsBlamed old new
-    by_open false is = inr (inl is)
-    by_open true is =
-        elim (write_refused_as old new text [] (kept is) CreateTable made.command made.plain allowed.whole tt refl e other ran) [
-          | inl blamed ↦ blamed
-          | inr cant ↦ absurd (stopped (kept is) cant.0 (subst (λ t. Does old.step_limit (mode_of old) [] old.now t None CreateTable (Err cant.0)) made.whole cant.2))
-        ]
-
 -- ---- the tables, one after the other
 
-makes_meta : MakesTableOf (first_tables 0) make_meta_text (meta_table 0)
-unfolding understood everything Rattle.std.specs.Fmt.digits
-makes_meta = record { command = refl; plain = (refl, refl); whole = refl; defined = refl; uncounted = refl }
-
-allows_meta : IsAllowed (first_tables 0) make_meta_text (meta_table 0)
-unfolding understood everything Rattle.std.specs.Fmt.digits sound.fits_kind sound.is_free_name sound.begins sound.same_name value_cmp lib.Ieee.is_nan lib.Ieee.lt lib.Utf8.encode
-allows_meta = record {
-  whole = refl;
-  utf8 = ((make_meta_text, (refl, refl)), (codes "meta", (refl, refl)));
-  free = refl;
-  indexes = tt;
-  unreserved = refl;
-  formed = refl;
-  fits = refl;
-  room = omega arith;
-  reals = omega arith;
-  key_reals = tt;
-  short = omega arith;
-}
-
-meta_next : created (first_tables 0) (meta_table 0) ≡ first_tables 1
-unfolding Rattle.std.specs.Fmt.digits
-meta_next = refl
-
-pub next_meta : MakesNext 0 make_meta_text
-next_meta = record { table = meta_table 0; makes = makes_meta; allowed = allows_meta; next = meta_next }
-
-makes_tab : MakesTableOf (first_tables 1) make_tab_text (tab_table 0)
-unfolding understood everything Rattle.std.specs.Fmt.digits
-makes_tab = record { command = refl; plain = (refl, refl); whole = refl; defined = refl; uncounted = refl }
-
-allows_tab : IsAllowed (first_tables 1) make_tab_text (tab_table 0)
-unfolding understood everything Rattle.std.specs.Fmt.digits sound.fits_kind sound.is_free_name sound.begins sound.same_name value_cmp lib.Ieee.is_nan lib.Ieee.lt lib.Utf8.encode
-allows_tab = record {
-  whole = refl;
-  utf8 = ((make_tab_text, (refl, refl)), (codes "tab", (refl, refl)));
-  free = refl;
-  indexes = (refl, tt);
-  unreserved = refl;
-  formed = refl;
-  fits = refl;
-  room = omega arith;
-  reals = omega arith;
-  key_reals = (omega arith, tt);
-  short = omega arith;
-}
-
-tab_next : created (first_tables 1) (tab_table 0) ≡ first_tables 2
-unfolding Rattle.std.specs.Fmt.digits
-tab_next = refl
-
-pub next_tab : MakesNext 1 make_tab_text
-next_tab = record { table = tab_table 0; makes = makes_tab; allowed = allows_tab; next = tab_next }
-
-makes_col : MakesTableOf (first_tables 2) make_col_text (col_table 0)
-unfolding understood everything Rattle.std.specs.Fmt.digits
-makes_col = record { command = refl; plain = (refl, refl); whole = refl; defined = refl; uncounted = refl }
-
-allows_col : IsAllowed (first_tables 2) make_col_text (col_table 0)
-unfolding understood everything Rattle.std.specs.Fmt.digits sound.fits_kind sound.is_free_name sound.begins sound.same_name value_cmp lib.Ieee.is_nan lib.Ieee.lt lib.Utf8.encode
-allows_col = record {
-  whole = refl;
-  utf8 = ((make_col_text, (refl, refl)), (codes "col", (refl, refl)));
-  free = refl;
-  indexes = (refl, tt);
-  unreserved = refl;
-  formed = refl;
-  fits = refl;
-  room = omega arith;
-  reals = omega arith;
-  key_reals = (omega arith, tt);
-  short = omega arith;
-}
-
-col_next : created (first_tables 2) (col_table 0) ≡ first_tables 3
-unfolding Rattle.std.specs.Fmt.digits
-col_next = refl
-
-pub next_col : MakesNext 2 make_col_text
-next_col = record { table = col_table 0; makes = makes_col; allowed = allows_col; next = col_next }
-
-makes_cell : MakesTableOf (first_tables 3) make_cell_text (cell_table 0)
-unfolding understood everything Rattle.std.specs.Fmt.digits
-makes_cell = record { command = refl; plain = (refl, refl); whole = refl; defined = refl; uncounted = refl }
-
-allows_cell : IsAllowed (first_tables 3) make_cell_text (cell_table 0)
-unfolding understood everything Rattle.std.specs.Fmt.digits sound.fits_kind sound.is_free_name sound.begins sound.same_name value_cmp lib.Ieee.is_nan lib.Ieee.lt lib.Utf8.encode
-allows_cell = record {
-  whole = refl;
-  utf8 = ((make_cell_text, (refl, refl)), (codes "cell", (refl, refl)));
-  free = refl;
-  indexes = (refl, tt);
-  unreserved = refl;
-  formed = refl;
-  fits = refl;
-  room = omega arith;
-  reals = omega arith;
-  key_reals = (omega arith, tt);
-  short = omega arith;
-}
-
-cell_next : created (first_tables 3) (cell_table 0) ≡ first_tables 4
-unfolding Rattle.std.specs.Fmt.digits
-cell_next = refl
-
-pub next_cell : MakesNext 3 make_cell_text
-next_cell = record { table = cell_table 0; makes = makes_cell; allowed = allows_cell; next = cell_next }
-
-makes_posting : MakesTableOf (first_tables 4) make_posting_text (posting_table 0)
-unfolding understood everything Rattle.std.specs.Fmt.digits
-makes_posting = record { command = refl; plain = (refl, refl); whole = refl; defined = refl; uncounted = refl }
-
-allows_posting : IsAllowed (first_tables 4) make_posting_text (posting_table 0)
-unfolding understood everything Rattle.std.specs.Fmt.digits sound.fits_kind sound.is_free_name sound.begins sound.same_name value_cmp lib.Ieee.is_nan lib.Ieee.lt lib.Utf8.encode
-allows_posting = record {
-  whole = refl;
-  utf8 = ((make_posting_text, (refl, refl)), (codes "posting", (refl, refl)));
-  free = refl;
-  indexes = (refl, tt);
-  unreserved = refl;
-  formed = refl;
-  fits = refl;
-  room = omega arith;
-  reals = omega arith;
-  key_reals = (omega arith, tt);
-  short = omega arith;
-}
-
-posting_next : created (first_tables 4) (posting_table 0) ≡ first_tables 5
-unfolding Rattle.std.specs.Fmt.digits
-posting_next = refl
-
-pub next_posting : MakesNext 4 make_posting_text
-next_posting = record { table = posting_table 0; makes = makes_posting; allowed = allows_posting; next = posting_next }
-
-makes_sizes : MakesTableOf (first_tables 5) make_sizes_text (sizes_table 0)
-unfolding understood everything Rattle.std.specs.Fmt.digits
-makes_sizes = record { command = refl; plain = (refl, refl); whole = refl; defined = refl; uncounted = refl }
-
-allows_sizes : IsAllowed (first_tables 5) make_sizes_text (sizes_table 0)
-unfolding understood everything Rattle.std.specs.Fmt.digits sound.fits_kind sound.is_free_name sound.begins sound.same_name value_cmp lib.Ieee.is_nan lib.Ieee.lt lib.Utf8.encode
-allows_sizes = record {
-  whole = refl;
-  utf8 = ((make_sizes_text, (refl, refl)), (codes "sizes", (refl, refl)));
-  free = refl;
-  indexes = (refl, tt);
-  unreserved = refl;
-  formed = refl;
-  fits = refl;
-  room = omega arith;
-  reals = omega arith;
-  key_reals = (omega arith, tt);
-  short = omega arith;
-}
-
-sizes_next : created (first_tables 5) (sizes_table 0) ≡ first_tables 6
-unfolding Rattle.std.specs.Fmt.digits
-sizes_next = refl
-
-pub next_sizes : MakesNext 5 make_sizes_text
-next_sizes = record { table = sizes_table 0; makes = makes_sizes; allowed = allows_sizes; next = sizes_next }
-
-makes_noted : MakesTableOf (first_tables 6) make_noted_text (noted_table 0)
-unfolding understood everything Rattle.std.specs.Fmt.digits
-makes_noted = record { command = refl; plain = (refl, refl); whole = refl; defined = refl; uncounted = refl }
-
-allows_noted : IsAllowed (first_tables 6) make_noted_text (noted_table 0)
-unfolding understood everything Rattle.std.specs.Fmt.digits sound.fits_kind sound.is_free_name sound.begins sound.same_name value_cmp lib.Ieee.is_nan lib.Ieee.lt lib.Utf8.encode
-allows_noted = record {
-  whole = refl;
-  utf8 = ((make_noted_text, (refl, refl)), (codes "noted", (refl, refl)));
-  free = refl;
-  indexes = (refl, tt);
-  unreserved = refl;
-  formed = refl;
-  fits = refl;
-  room = omega arith;
-  reals = omega arith;
-  key_reals = (omega arith, tt);
-  short = omega arith;
-}
-
-noted_next : created (first_tables 6) (noted_table 0) ≡ first_tables 7
-unfolding Rattle.std.specs.Fmt.digits
-noted_next = refl
-
-pub next_noted : MakesNext 6 make_noted_text
-next_noted = record { table = noted_table 0; makes = makes_noted; allowed = allows_noted; next = noted_next }
+-- what the tests of such a text compute with
+unfoldable pub tests_compute : Unit {0}
+unfolding understood everything Rattle.std.specs.Str.is_utf8 Rattle.std.specs.Str.chars Rattle.std.specs.Fmt.digits sound.fits_kind sound.is_free_name sound.begins sound.same_name value_cmp lib.Ieee.is_nan lib.Ieee.lt lib.Utf8.encode
+tests_compute = tt
 
 pub makes_skip : MakesTableOf (first_tables 7) make_skip_text (skip_table 0)
-unfolding understood everything Rattle.std.specs.Fmt.digits
+unfolding tests_compute
 makes_skip = record { command = refl; plain = (refl, refl); whole = refl; defined = refl; uncounted = refl }
 
 pub allows_skip : IsAllowed (first_tables 7) make_skip_text (skip_table 0)
-unfolding understood everything Rattle.std.specs.Fmt.digits sound.fits_kind sound.is_free_name sound.begins sound.same_name value_cmp lib.Ieee.is_nan lib.Ieee.lt lib.Utf8.encode
+unfolding tests_compute
 allows_skip = record {
-  whole = refl;
-  utf8 = ((make_skip_text, (refl, refl)), (codes "skip", (refl, refl)));
-  free = refl;
-  indexes = (refl, tt);
-  unreserved = refl;
-  formed = refl;
-  fits = refl;
-  room = omega arith;
-  reals = omega arith;
-  key_reals = (omega arith, tt);
-  short = omega arith;
+  whole = refl; utf8 = (IsUtf8-from_is_utf8 _ refl, IsUtf8-from_is_utf8 _ refl); free = refl; indexes = (refl, tt); unreserved = refl; formed = refl;
+  fits = refl; room = omega arith; reals = omega arith; key_reals = (omega arith, tt); short = omega arith;
 }
 
-skip_next : created (first_tables 7) (skip_table 0) ≡ first_tables 8
-unfolding Rattle.std.specs.Fmt.digits
-skip_next = refl
-
-next_skip : MakesNext 7 make_skip_text
-next_skip = record { table = skip_table 0; makes = makes_skip; allowed = allows_skip; next = skip_next }
-
 pub next_last : (at : ℕ) → 7 ≤ at → at < 8 → MakesNext at make_skip_text
-next_last at low below = let is : at ≡ 7 = omega (arith, low, below) in rw is next_skip
+unfolding tests_compute
+next_last at low below =
+    let is : at ≡ 7 = omega (arith, low, below) in
+    rw is (record { table = skip_table 0; makes = makes_skip; allowed = allows_skip; next = refl })
 
 pub shows_then : (a b c : State) → Shows a b b.now a.committed true → Shows b c c.now b.committed true → Shows a c c.now a.committed true
 shows_then a b c one two = record { was_open = one.was_open; is_open = two.is_open; now_is = refl; committed_is = two.committed_is ∙ one.committed_is; mode = two.mode }
@@ -375,7 +152,7 @@ marked_row = Int (pos 1) ∷ Null ∷ Int (pos 3) ∷ []
 abbrev pub mark_terms : List Term
 mark_terms = lit (Int (pos 1)) ∷ lit Null ∷ lit (Int (pos 3)) ∷ []
 
-pub mark_is : command_at (understood store_schema mark_text) ≡ Insert 0 (Values mark_terms 3)
+pub mark_is : command_of (understood store_schema mark_text) ≡ Insert 0 (Values mark_terms 3)
 unfolding understood everything
 mark_is = refl
 
@@ -399,6 +176,9 @@ marks old new count was h =
       same_rows old.now.trees new.now.trees wrote.others.1,
     )
 
+pub own : {rows : List Row} → rows ≡ [] → HasOwnRowids rows
+own e = subst HasOwnRowids (sym e) (tt, tt)
+
 -- tables without a row are those of a store that holds nothing
 pub unmarked_of : (db : Database) → IsEmptyOf store_schema db → IsUnmarked db × (value_of db.trees ≡ nothing_held)
 unmarked_of db was =
@@ -421,9 +201,6 @@ unmarked_of db was =
         noted = keyed name_cmp (map note_entry (none.1.1.1.1.1.0 i));
       },
     )
-  where
-    own : {rows : List Row} → rows ≡ [] → HasOwnRowids rows
-    own e = subst HasOwnRowids (sym e) (tt, tt)
 
 -- ---- tables made one after the other
 
@@ -472,3 +249,184 @@ all_made g a b n all so =
           (unmarked_of _ (subst (λ n. IsEmptyOf (first_tables n) (state g b.now).now) is seen.0), seen.1);
       stays = so.stays;
     }
+
+-- ---- the mark is refused only by what lies outside the database
+
+-- the row can be stored
+storable : IsStorableRow 0 marked_row
+unfolding lib.Ieee.is_nan
+storable = (
+  record {
+    typed = λ c is. absurd (omega (arith, is, bit_at-zero c));
+    columns = (omega arith, omega arith);
+    numbers = All-from_recursion (λ v. NotNan (number v)) marked_row (int_is_number (pos 1), (tt, (int_is_number (pos 3), tt)));
+    short = omega arith;
+  },
+  omega arith,
+)
+
+-- the row is put into an empty `meta`
+module _ (db : Trees) (sound : IsSound store_schema db) (none : db 0 ≡ []) (rows : List Row) (is : (edit_of db (meta_table 0) [] Chosen 0 rows).news ≡ marked_row ∷ []) where
+  abbrev put : Edit
+  put = edit_of db (meta_table 0) [] Chosen 0 rows
+
+  small : ¬ IsOversized store_schema (meta_table 0) marked_row
+  small (inl big) = big storable
+  small (inr (i, listed, of, big)) = elim listed [
+    | inl e ↦ omega (arith, of, ap (λ i. i.table) e)
+    | inr (inl e) ↦ omega (arith, of, ap (λ i. i.table) e)
+    | inr (inr (inl e)) ↦ omega (arith, of, ap (λ i. i.table) e)
+    | inr (inr (inr (inl e))) ↦ omega (arith, of, ap (λ i. i.table) e)
+    | inr (inr (inr (inr (inl e)))) ↦ omega (arith, of, ap (λ i. i.table) e)
+    | inr (inr (inr (inr (inr (inl e))))) ↦ omega (arith, of, ap (λ i. i.table) e)
+    | inr (inr (inr (inr (inr (inr (inl e)))))) ↦ omega (arith, of, ap (λ i. i.table) e)
+    | inr (inr (inr (inr (inr (inr (inr none_other)))))) ↦ none_other
+  ]
+
+  after : with_tree db 0 (edited db put) 0 ≡ marked_row ∷ []
+  after = ap (fold (λ all r. put_row r all) (db 0)) is ∙ ap (put_row marked_row) none
+
+  turned : Turns store_schema db (with_tree db 0 (edited db put)) (meta_table 0) [] [] (marked_row ∷ [])
+  turned = record {
+    apart = apart;
+    listed = inl refl;
+    others = λ t known other. rw (ne_eqb t.tree 0 other) refl;
+    from = λ r h. inl (subst (λ l. Has l r) after h);
+    stays = λ r h. absurd h;
+    added = λ r h. subst (λ l. Has l r) (sym after) h;
+    was = λ r h. absurd h;
+    split = λ r h. absurd (subst (λ l. Has l r) none h);
+  }
+
+  mark_not_refused : (why : Refusal) → ¬ IsRefused store_schema Enforced db put why
+  mark_not_refused (Violates Datatype) h = true≢false (rw is at h)
+  mark_not_refused (Violates NotNull) h = true≢false (rw is at h)
+  mark_not_refused (Violates Check) h = true≢false (rw is at h)
+  mark_not_refused (Violates PrimaryKey) h = true≢false (rw (is, none) at h)
+  mark_not_refused (Violates Unique) h = h (unique_kept store_schema db (with_tree db 0 (edited db put)) (meta_table 0) _ _ (marked_row ∷ []) turned refl (sound.obeys.rules Unique))
+  mark_not_refused (Violates ForeignKey) h = h
+  mark_not_refused Mismatch h = true≢false (rw is at h)
+  mark_not_refused NoRowid h = true≢false (rw is at h)
+  mark_not_refused BadReference h = true≢false (rw is at h)
+  mark_not_refused TooDeep h = h
+
+  never_fails : (why : Option Refusal) → ¬ EditWrites store_schema Enforced db put (Err why)
+  never_fails why (inl refused) = mark_not_refused refused.0 refused.1
+  never_fails why (inr (inl (row, new, big, same))) = elim (subst (λ l. Has l row) is new) [ inl e ↦ small (subst (IsOversized store_schema (meta_table 0)) e big) | inr none_other ↦ none_other ]
+  never_fails why (inr (inr went)) = never_leads went.2.0 went.0 why went.2.1
+
+mark_whole : is_whole mark_text 0 (understood store_schema mark_text) ≡ true
+unfolding understood everything
+mark_whole = refl
+
+cast_news : (db : Trees) (rows : List Row) → rows ≡ value_rows (stamped (meta_table 0) []) 3 1 mark_terms → (edit_of db (meta_table 0) [] Chosen 0 rows).news ≡ marked_row ∷ []
+cast_news db rows given = rw (given, cast_int (pos 1), cast_null, cast_int (pos 3)) refl
+
+sourced : (limit : Option ℕ) (db : Database) (stop : Option Error) → Sourced limit db (stamped (meta_table 0) []) (Values mark_terms 3) (Err stop) → IsSome limit
+sourced limit db None h = absurd h
+sourced limit db (Some e) (inl typed) = absurd (true≢false typed.1)
+sourced limit db (Some e) (inr limited) = limited.1
+
+mark_limited : (old : State) (stop : Option Error) (text : List ℕ) → IsUnmarked old.now → Does old.step_limit (mode_of old) [] old.now text None (Insert 0 (Values mark_terms 3)) (Err stop) → IsSome old.step_limit
+mark_limited old stop text was does =
+    let db = old.now.trees in
+    let command = Insert 0 (Values mark_terms 3) in
+    let sound : IsSound store_schema db = subst (λ c. IsSound c db) was.tabled.schema was.tabled.sound in
+    let task : Task = record { limit = old.step_limit; keys = (mode_of old).keys; schema = store_schema; table = meta_table 0; params = [] } in
+    let begun = subst (λ c. Does old.step_limit (mode_of old) [] (record old.now { schema = c }) text None command (Err stop)) was.tabled.schema does in
+    let on : OnRows task (mode_of old) None command db (Err stop) = begun in
+    elim on [
+      | inl writes ↦ elim writes.1 [
+        | inl asked ↦ sourced old.step_limit (record { schema = store_schema; trees = db }) asked.0 asked.1
+        | inr asked ↦ absurd (let news = cast_news db asked.0 asked.1.1 in elim asked.2 [
+          | inl counted ↦ (let e = counted.1 in cc)
+          | inr counted ↦ elim counted.2 [
+            | inl wrote ↦ never_fails db sound was.unmarked asked.0 news wrote.1.0 wrote.1.1
+            | inr wrote ↦ elim wrote.2 [
+              | inl topped ↦ (let e = topped.1 in cc)
+              | inr topped ↦ (let e = topped.2 in cc)
+            ]
+          ]
+        ])
+      ]
+      | inr wrote ↦ absurd (elim wrote.2 [
+        | inl tested ↦ tested.1.0 (refers (due (mode_of old)) wrote.0.trees)
+        | inr tested ↦ elim tested.2 [
+          | inl shown ↦ (let e = shown.1 in cc)
+          | inr shown ↦ (let e = shown.2 in cc)
+        ]
+      ])
+    ]
+
+-- the row that marks the tables is refused only by what lies outside the database
+pub mark_blamed : (old new : State) → (IsTrue old.is_open → IsUnmarked old.now) → (e : Error) → e ≢ SqliteFailure code.OutOfMemory → ExecutesInside 0 mark_text [] old new (Err e) → IsBlamed old new
+mark_blamed old new kept e other ran = unless_shut old new (λ blamed. blamed) (λ is.
+    elim (write_refused_as old new mark_text [] (kept is).tabled.schema (Insert 0 (Values mark_terms 3)) mark_is mark_plain mark_whole tt refl e other ran) [
+      | inl blamed ↦ blamed
+      | inr cant ↦ inr (inr (mark_limited old cant.0 (statement_of mark_text (understood store_schema mark_text)) (kept is) cant.2))
+    ])
+
+-- ---- the table that is added
+
+with_skip : created older_schema (skip_table 0) ≡ store_schema
+unfolding Rattle.std.specs.Fmt.digits
+with_skip = refl
+
+pub add_blamed : (old new : State) → (IsTrue old.is_open → IsStoreBy Older old.now) → (e : Error) → e ≢ SqliteFailure code.OutOfMemory → ExecutesInside 0 make_skip_text [] old new (Err e) → IsBlamed old new
+add_blamed old new was = create_blamed old new older_schema make_skip_text (skip_table 0) makes_skip allows_skip (λ is_open. (was is_open).schema)
+
+pub adds : (old new : State) (count : ℕ) → IsStoreBy Older old.now → Executes make_skip_text [] old new (Ok count) → IsTabled new.now × (value_of new.now.trees ≡ older_value old.now.trees)
+adds old new count was h =
+    let it = creates old new make_skip_text older_schema (skip_table 0) count makes_skip was.schema h in
+    let rows = it.others in
+    let kept : HaveOwnRowids older_schema.tables new.now.trees =
+    all_both (λ t. new.now.trees t.tree ≡ old.now.trees t.tree) (λ t. HasOwnRowids (old.now.trees t.tree)) (λ (t : Table). HasOwnRowids (new.now.trees t.tree)) (λ t e own. subst HasOwnRowids (sym e) own) older_schema.tables rows was.numbered in (
+      record {
+        schema = it.schema ∙ with_skip;
+        sound = it.sound;
+        numbered = all-append (λ (t : Table). HasOwnRowids (new.now.trees t.tree)) older_schema.tables (skip_table 13 ∷ []) kept (subst HasOwnRowids (sym it.empty) (tt, tt), tt);
+      },
+      same_store
+          (ap (λ r. keyed int_cmp (map table_entry r)) rows.1.0) (ap (λ r. keyed column_key_cmp (map column_entry r)) rows.1.1.0) (ap (λ r. keyed column_key_cmp (map skip_entry r)) it.empty)
+          (ap (λ r. keyed cell_key_cmp (map cell_entry r)) rows.1.1.1.0) (ap (λ r. keyed list_key_cmp (map list_entry r)) rows.1.1.1.1.0) (ap (λ r. keyed cell_key_cmp (map size_entry r)) rows.1.1.1.1.1.0)
+          (ap (λ r. keyed name_cmp (map note_entry r)) rows.1.1.1.1.1.1.0),
+    )
+
+-- ---- the version that is taken out
+
+unmark_is : command_of (understood store_schema unmark_text) ≡ Delete 0 (record { lets = []; body = table_query 0 [] (0 ∷ []) [] })
+unfolding understood everything
+unmark_is = refl
+
+unmark_plain : IsPlain (understood store_schema unmark_text)
+unfolding understood everything
+unmark_plain = (refl, refl)
+
+unmark_whole : is_whole unmark_text 0 (understood store_schema unmark_text) ≡ true
+unfolding understood everything
+unmark_whole = refl
+
+pub unmark_blamed : (old new : State) → (IsTrue old.is_open → IsTabled old.now) → (e : Error) → e ≢ SqliteFailure code.OutOfMemory → ExecutesInside 0 unmark_text [] old new (Err e) → IsBlamed old new
+unmark_blamed old new was =
+    delete_blamed_in old new unmark_text [] 0 (meta_table 0) [] unmark_is unmark_plain unmark_whole refl (inl refl) (λ db. refl) (λ db has no. true≢false (rw has at no)) (λ is_open. let kept = was is_open in (kept.schema, kept.sound))
+
+none_of : (rows : List Row) → filter (λ r. not (list_all (holds ([] ∷ r ∷ [])) [])) rows ≡ []
+none_of [] = refl
+none_of (r ∷ rows) = none_of rows
+
+pub unmarks : (old new : State) (count : ℕ) → IsTabled old.now → Executes unmark_text [] old new (Ok count) → IsUnmarked new.now × (value_of new.now.trees ≡ value_of old.now.trees)
+unmarks old new count was h =
+    let wrote = deletes old new unmark_text [] 0 (meta_table 0) [] count was.schema unmark_is unmark_plain refl refl was.numbered.0 h in
+    let empty = wrote.written ∙ none_of (old.now.trees 0) in (
+      record {
+        tabled = record {
+          schema = wrote.schema;
+          sound = wrote.sound;
+          numbered = shaped_after 0 old.now.trees new.now.trees store_schema.tables wrote.others was.numbered (subst HasOwnRowids (sym empty) (tt, tt));
+        };
+        unmarked = empty;
+      },
+      same_rows old.now.trees new.now.trees wrote.others.1,
+    )
+
+-- ---- what was looked at

@@ -1,28 +1,17 @@
 -- No two tables of a store have one name.
-use Rattle.std.proofs.Common.{◌≡◌, ◌≢◌, ℕ, ℤ, Bool, true, false, ◌==◌, List, [], ◌∷◌, map, None, refl, sym, ap, ◌∙◌, arith, Ordering, Less, Equal, Greater, true≢false, T}
-use Rattle.std.specs.List.{AllByRecursion, list_any}
+use Rattle.std.proofs.Common.{◌≡◌, ◌≢◌, ℕ, ℤ, Bool, true, false, ◌==◌, List, [], ◌∷◌, map, None, refl, sym, ap, ◌∙◌, arith, Ordering, Less, Equal, Greater, true≢false, T, int_cmp}
+use Rattle.ft_store.proofs.Common.{AllByRecursion, list_any, str_to_ascii_lowercase, str_eq_ignore_ascii_case, eq_by_cmp, put, find, by_order}
+use Rattle.ft_store.proofs.Common.{bytes_eq-Decides, nat_tests, Row, column, bytes, without_case, Trees, IsAscending, IsSound, AreInOrder}
+use Rattle.ft_store.proofs.Common.{cell_key_cmp, list_key_cmp, column_key_cmp, name_cmp, AreNamedApart, int_cmp_total}
 use Rattle.std.specs.Char.{to_ascii_lowercase}
-use Rattle.std.specs.Str.{str_to_ascii_lowercase, str_eq_ignore_ascii_case}
-use Rattle.std.specs.Ordering.{int_cmp, eq_by_cmp}
-use Rattle.std.specs.FinMap.Entries.{put, find, by_order}
-use Rattle.std.proofs.lemmas.Slice.Eq.{bytes_eq-Decides}
-use Rattle.std.proofs.lemmas.Bool.Decides.{nat_tests}
-use Rattle.sqlite.specs.Order.{Row, column}
-use Rattle.sqlite_value.specs.Order.{bytes}
-use Rattle.sqlite_value.specs.Keys.{without_case}
-use Rattle.sqlite.specs.Tree.{Trees}
-use Rattle.sqlite_trees.specs.Tree.{IsAscending}
 use Rattle.ft_store.specs.Calls.{HasOwnRowids}
-use Rattle.sqlite_catalog.specs.Listing.{IsSound}
 use Rattle.ft_store.specs.Tables.{store_schema}
-use Rattle.ft_rows.specs.Store.{AreInOrder, cell_key_cmp, list_key_cmp, column_key_cmp, name_cmp}
 use Rattle.ft_store.specs.Rows.{keyed, table_entry, column_entry, skip_entry, cell_entry, list_entry, size_entry, note_entry, value_of}
 use Rattle.ft_values.specs.Names.{repeats_name}
-use Rattle.ft_rows.specs.Shown.{AreNamedApart}
 use Rattle.ft_store.proofs.KeyedLemmas.{AreApart, some_first, itself, is_sorted-keyed}
-use Rattle.ft_store.proofs.OrderLemmas.{tied_names, name_total, tied_ints, cell_key_total, tied_cell_keys, list_key_total, tied_list_keys, column_key_total, tied_column_keys}
-use Rattle.std.proofs.lemmas.Cmp.{int_cmp_total}
-use Rattle.ft_store.proofs.ApartLemmas.{case_entry, cases_apart}
+use Rattle.ft_store.proofs.TypedLemmas.{tied_names, name_total, tied_ints, cell_key_total, tied_cell_keys, list_key_total, tied_list_keys}
+use Rattle.ft_store.proofs.TypedLemmas.{column_key_total, tied_column_keys}
+use Rattle.ft_store.proofs.StoreTables.{case_entry, cases_apart}
 
 -- ---- what holds of all rows, and of each two
 

@@ -1,22 +1,14 @@
 -- How the steps of a change are put together.
-use Rattle.std.proofs.Common.{◌≡◌, ℕ, ◌+◌, ◌<◌, ℤ, pos, not, cond, List, [], ◌∷◌, ◌++◌, map, length, get_or, take, None, refl, sym, ap, ◌∙◌, subst, arith, IsTrue, is_eq}
-use Rattle.std.specs.Prelude.{unwrap_or, option_map, string_bytes, String}
-use Rattle.std.specs.declared.alloc.Global.{Global}
-use Rattle.std.specs.List.{enumerate_from}
-use Rattle.std.specs.Ordering.{int_cmp, int_eq}
-use Rattle.std.specs.FinMap.Entries.{put, where_key, find, find-where_key}
-use Rattle.std.specs.Cmp.{tied_itself}
-use Rattle.std.proofs.lemmas.Cmp.{int_cmp_total}
-use Rattle.std.proofs.lemmas.List.{take_more, map-append, length-map, length-take-le}
-use Rattle.sqlite.specs.State.{State}
+use Rattle.std.proofs.Common.{◌≡◌, ℕ, ◌+◌, ◌<◌, ℤ, pos, not, cond, List, [], ◌∷◌, ◌++◌, map, length, get_or, take, None, refl, sym, ap, ◌∙◌, subst, arith, IsTrue, is_eq, unwrap_or, option_map, string_bytes, String, int_cmp, int_eq, length-take-le}
+use Rattle.ft_store.proofs.Common.{Global, enumerate_from, put, where_key, find, find-where_key, tied_itself, int_cmp_total, take_more, map-append}
+use Rattle.ft_store.proofs.Common.{length-map, State, ColumnKey, column_key_cmp, StoreValue, with_columns, with_skipped}
 use Rattle.ft_values.specs.declared.rows.Spot.{Spot}
 use Rattle.ft_rows.specs.Packed.{CanPack, packed, unpacked}
-use Rattle.ft_rows.specs.Store.{ColumnKey, column_key_cmp, StoreValue, with_columns, with_skipped}
 use Rattle.ft_store.specs.Rows.{value_of}
 use Rattle.ft_store.specs.Calls.{IsStore, Steps}
 use Rattle.ft_rows.proofs.PackedLemmas.{packed_is_read}
 use Rattle.ft_store.proofs.KeyedLemmas.{respects}
-use Rattle.ft_store.proofs.OrderLemmas.{tied_ints}
+use Rattle.ft_store.proofs.TypedLemmas.{tied_ints}
 
 pub steps_then : (a b c : State) (v w : StoreValue) → Steps a b v → Steps b c w → Steps a c w
 steps_then a b c v w one two = record {

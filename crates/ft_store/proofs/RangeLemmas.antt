@@ -1,18 +1,9 @@
 -- The texts that begin so are a range.
-use Rattle.std.proofs.Common.{◌≡◌, ℤ, ℕ, ◌+◌, ◌/◌, ◌%◌, ◌<◌, Bool, true, false, ◌&&◌, cond, List, [], ◌∷◌, ◌++◌, length, encode_utf8, encode_utf8_all, IsUtf8, refl, sym, ap, subst, ◌∙◌, Ordering, Less, Equal, Greater, is_lt, is_le, arith, true≢false, eq-eqb, ltb, T, inl, inr}
-use lib.Dec.{ltb→lt}
+use Rattle.std.proofs.Common.{◌≡◌, ℕ, ◌+◌, ◌/◌, ◌%◌, ◌<◌, Bool, true, false, ◌&&◌, cond, List, [], ◌∷◌, ◌++◌, length, encode_utf8, encode_utf8_all, IsUtf8, refl, sym, ap, subst, ◌∙◌, Ordering, Less, Equal, Greater, is_lt, is_le, arith, true≢false, eq-eqb, ltb, T, inl, inr, ltb→lt, mod-lt, nat_eq, nat_cmp}
+use Rattle.ft_store.proofs.Common.{all_scalars, AllByRecursion, starts_with, ordering_then, ordering_reverse, nat_tests, nat_cmp_total, ranked}
+use Rattle.ft_store.proofs.Common.{all-append, bound_value}
 use lib.Utf8.{scalar, scalar_cases}
-use Rattle.std.specs.Str.{all_scalars}
-use Rattle.std.proofs.Math.Nat.{mod-lt}
-use Rattle.std.specs.Prelude.{nat_eq}
-use Rattle.std.specs.List.{AllByRecursion, starts_with}
-use Rattle.std.specs.Ordering.{ordering_then, ordering_reverse, nat_cmp, int_eq}
 use Rattle.std.specs.Cmp.Lexicographic.{slice_cmp}
-use Rattle.std.proofs.lemmas.Bool.Decides.{nat_tests}
-use Rattle.std.proofs.lemmas.Cmp.{nat_cmp_total, ranked}
-use Rattle.sqlite_keyed.proofs.ListLemmas.{all-append}
-use Rattle.ft_rows.specs.Store.{ListKey}
-use Rattle.sqlite.specs.Values.{bound_value}
 use Rattle.ft_store.specs.Range.{after_last, limit_of}
 
 abbrev below : List ℕ → List ℕ → Bool
@@ -149,14 +140,6 @@ all_low (c ∷ cs) h = all-append (λ b. b < 255) (encode_utf8 c) (encode_utf8_a
 -- no byte of UTF-8 is 255
 pub below_255 : (text : List ℕ) → IsUtf8 text → AllByRecursion (λ b. b < 255) text
 below_255 text h = subst (AllByRecursion (λ b. b < 255)) h.1.1 (all_low h.0 h.1.0)
-
--- all texts begin with the empty one
-pub all_begin : (tab : ℤ) (from : List ℕ) → from ≡ [] → ◌≡◌ {A = ListKey → Bool} (λ k. int_eq tab k.0) (λ k. int_eq tab k.0 && starts_with nat_eq k.1 from)
-all_begin tab from none = (λ i k. and_true (int_eq tab k.0) i) ∙ ap {B = ListKey → Bool} (λ (f : List ℕ) (k : ListKey). int_eq tab k.0 && starts_with nat_eq k.1 f) (sym none)
-  where
-    and_true : (b : Bool) → b ≡ (b && true)
-    and_true true = refl
-    and_true false = refl
 
 pub none_of : (xs : List ℕ) → length xs ≡ 0 → xs ≡ []
 none_of [] h = refl

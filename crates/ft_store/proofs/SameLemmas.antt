@@ -1,13 +1,7 @@
 -- Keys and checks of a table.
-use Rattle.std.proofs.Common.{ℕ, suc, zero, ◌≡◌, ◌<◌, ◌≤◌, ◌∙◌, ◌↔◌, sym, ap, List, [], ◌∷◌, ◌++◌, ◌-◌, Bool, true, false, length, get_or, slice_index_or, nat_eq, IsTrue, arith, rules}
-use Rattle.std.specs.Prelude.{bytes_eq}
-use Rattle.std.proofs.lemmas.Slice.Eq.{bytes_eq-Decides}
-use Rattle.std.proofs.lemmas.List.{append_cancel_left, append_cancel_right}
-use Rattle.sqlite_value.specs.declared.keys.Order.{Order}
+use Rattle.std.proofs.Common.{ℕ, suc, zero, ◌≡◌, ◌<◌, ◌≤◌, ◌∙◌, ◌↔◌, sym, ap, List, [], ◌∷◌, ◌++◌, ◌-◌, Bool, true, false, length, get_or, slice_index_or, nat_eq, IsTrue, arith, rules, bytes_eq}
+use Rattle.ft_store.proofs.Common.{bytes_eq-Decides, append_cancel_left, append_cancel_right, Order, Is, Term, lit, col, op2, Null}
 use Rattle.sqlite_sql.specs.declared.ops.BinaryOp.{BinaryOp}
-use Rattle.sqlite_sql.specs.declared.ops.BinaryOp.TheVariants.{Is}
-use Rattle.sqlite.specs.Term.{Term, lit, col, op2}
-use Rattle.sqlite.specs.declared.types.Value.TheVariants.{Null}
 use Rattle.sqlite_schema.specs.declared.code.Op.{Op}
 use Rattle.sqlite_schema.specs.declared.code.Op.TheVariants.{Literal, Column, Unary, Binary, Case}
 use Rattle.sqlite_schema.specs.Code.{term_to, op_term, terms_in}

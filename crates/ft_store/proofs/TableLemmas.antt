@@ -1,12 +1,24 @@
--- How tables are listed.
-use Rattle.std.proofs.Common.{◌≡◌, ℕ, ℤ, List, [], ◌∷◌, map, refl, sym, ap, ◌∙◌}
-use Rattle.std.specs.Prelude.{string_bytes}
-use Rattle.std.specs.Ordering.{int_eq}
-use Rattle.std.specs.FinMap.Entries.{where_key}
-use Rattle.sqlite_keyed.proofs.ListLemmas.{map-map}
+-- How texts show, and how tables are listed.
+use Rattle.std.proofs.Common.{◌≡◌, IsUtf8, ℕ, Bool, true, false, cond, List, [], ◌∷◌, refl, ℤ, map, sym, ap, ◌∙◌, string_bytes, int_eq}
+use Rattle.ft_store.proofs.Common.{is_utf8, where_key, map-map, StoreValue, ColumnKey, column_key_cmp, shown_column, shown_skip, shown_table}
+use Rattle.ft_store.proofs.Common.{table_listed}
+use Rattle.std.proofs.lemmas.Str.{IsUtf8-from_is_utf8, is_utf8-from_IsUtf8}
+use Rattle.ft_store.specs.Rows.{text_in}
 use Rattle.ft_values.specs.declared.rows.TabRow.{TabRow}
-use Rattle.ft_rows.specs.Store.{StoreValue, ColumnKey, column_key_cmp}
-use Rattle.ft_rows.specs.Shown.{shown_column, shown_skip, shown_table, table_listed}
+
+-- ---- texts that show
+
+pub text_again : (stored : List ℕ) → IsUtf8 stored → text_in stored ≡ stored
+text_again stored is = rw (is_utf8-from_IsUtf8 stored is) refl
+
+pub text_unreadable : (stored : List ℕ) → ¬ (IsUtf8 stored) → text_in stored ≡ 0 ∷ []
+text_unreadable stored none = go (is_utf8 stored) refl
+  where
+    go : (b : Bool) → is_utf8 stored ≡ b → cond b stored (0 ∷ []) ≡ 0 ∷ []
+    go true is = absurd (none (IsUtf8-from_is_utf8 stored is))
+    go false is = refl
+
+-- ---- tables that are listed
 
 numbers_back : (tab : ℤ) (xs : List ℤ) → map (λ s. s.0.1) (map (shown_skip tab) xs) ≡ xs
 numbers_back tab [] = refl

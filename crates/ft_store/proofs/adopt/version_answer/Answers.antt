@@ -1,15 +1,11 @@
-use Rattle.std.proofs.Common.{◌≡◌, refl, ap, subst, ◌∙◌, arith, rules, not}
-use Rattle.sqlite.specs.Held.{state}
-use Rattle.sqlite.specs.State.{HasCleanDisk}
+use Rattle.std.proofs.Common.{◌≡◌, refl, ap, subst, ◌∙◌, arith, rules, not, IfErr}
+use Rattle.ft_store.proofs.Common.{state, HasCleanDisk, IfErr-weaker}
 use Rattle.ft_store.specs.Calls.{Keeps}
 use Rattle.ft_store.specs.Adopted.{TellsAs, GivesVersion, error_cause}
-use Rattle.std.proofs.lemmas.Result.{IfErr-weaker}
-use Rattle.std.specs.Prelude.{IfErr}
 use Rattle.ft_store.specs.declared.fault.StoreFault.TheVariants as fault
 use Rattle.ft_store.specs.Blame.{IsBlamed}
 use Rattle.ft_store.proofs.BlameLemmas.{blamed_on}
-use Rattle.ft_store.proofs.ForeignLemmas.{error_blamed}
-use Rattle.ft_store.proofs.AdoptLemmas.{gives_of, undone_keeps}
+use Rattle.ft_store.proofs.AdoptLemmas.{error_blamed, gives_of, undone_keeps}
 use Rattle.ft_store.proofs.adopt.version_answer.Goals as goal
 
 pub returns-clause-told : goal.returns-clause-told

@@ -1,8 +1,7 @@
-use Rattle.std.proofs.Common.{All, subst}
-use Rattle.std.proofs.lemmas.List.{take_all}
-use Rattle.std.proofs.lemmas.List.Elements.{All-more}
+use Rattle.std.proofs.Common.{All, subst, take_all}
+use Rattle.ft_store.proofs.Common.{All-more}
 use Rattle.ft_store.specs.Anew.{IsShortNote}
-use Rattle.ft_store.proofs.NoteLemmas.{short_note}
+use Rattle.ft_store.proofs.ClearLemmas.{short_note}
 use Rattle.ft_store.proofs.clear.are_short.Goals as goal
 
 pub loop-row-preserved : goal.loop-row-preserved

@@ -1,7 +1,5 @@
 use Rattle.std.proofs.Common.{sym, subst, to_z-of_z}
-use Rattle.sqlite.specs.Effect.{Database}
-use Rattle.sqlite.specs.Held.{state}
-use Rattle.ft_rows.specs.Store.{without_index}
+use Rattle.ft_store.proofs.Common.{Database, state, without_index}
 use Rattle.ft_store.specs.Inside.{without_contents}
 use Rattle.ft_store.specs.Anew.{AreFree, AreNotes}
 use Rattle.ft_store.proofs.InsideLemmas.{only}

@@ -1,7 +1,7 @@
 use Rattle.std.proofs.Common.{to_z-of_z}
-use Rattle.ft_rows.specs.Store.{without_index}
+use Rattle.ft_store.proofs.Common.{without_index}
 use Rattle.ft_store.specs.Inside.{without_contents}
-use Rattle.ft_store.proofs.GoneLemmas.{drop_contents}
+use Rattle.ft_store.proofs.RefusedLemmas.{drop_contents}
 use Rattle.ft_store.proofs.InsideLemmas.{drops_then}
 use Rattle.ft_store.proofs.clear.delete_documents.Goals as goal
 

@@ -1,6 +1,6 @@
 use Rattle.std.proofs.Common.{to_z-of_z}
 use Rattle.ft_store.specs.Inside.{without_lists, without_sizes}
-use Rattle.ft_store.proofs.GoneLemmas.{drop_sizes}
+use Rattle.ft_store.proofs.RefusedLemmas.{drop_sizes}
 use Rattle.ft_store.proofs.InsideLemmas.{drops_then}
 use Rattle.ft_store.proofs.clear.delete_index.Goals as goal
 

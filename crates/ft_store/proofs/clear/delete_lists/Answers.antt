@@ -1,14 +1,11 @@
 use Rattle.std.proofs.Common.{arith, inl, to_z-of_z}
-use Rattle.std.proofs.lemmas.Result.{on_ok_weaker}
-use Rattle.sqlite.specs.Held.{state}
-use Rattle.sqlite.specs.State.{HasCleanDisk}
+use Rattle.ft_store.proofs.Common.{on_ok_weaker, state, HasCleanDisk}
 use Rattle.ft_store.specs.Calls.{IsPlainFault}
 use Rattle.ft_store.proofs.BlameLemmas.{blamed_then}
-use Rattle.ft_store.proofs.GoneLemmas.{drop_lists}
+use Rattle.ft_store.proofs.RefusedLemmas.{drop_lists}
 use Rattle.ft_store.proofs.InsideLemmas.{stays_then, only}
-use Rattle.ft_store.proofs.RiseLemmas.{trees_then}
-use Rattle.ft_store.proofs.ThinLemmas.{thins_then}
-use Rattle.ft_store.proofs.ClearLemmas.{ok_both}
+use Rattle.ft_store.proofs.CantLemmas.{trees_then}
+use Rattle.ft_store.proofs.ClearLemmas.{thins_then, ok_both}
 use Rattle.ft_store.proofs.clear.delete_lists.Goals as goal
 
 pub returns : goal.returns

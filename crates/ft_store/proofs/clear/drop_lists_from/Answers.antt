@@ -1,5 +1,5 @@
 use Rattle.std.proofs.Common.{to_z-of_z}
-use Rattle.ft_store.proofs.GoneLemmas.{drop_lists_from}
+use Rattle.ft_store.proofs.RefusedLemmas.{drop_lists_from}
 use Rattle.ft_store.proofs.clear.drop_lists_from.Goals as goal
 
 pub returns : goal.returns

@@ -1,12 +1,9 @@
-use Rattle.std.proofs.Common.{inl, inr, arith, rules}
-use Rattle.std.proofs.lemmas.Result.{on_ok_weaker}
-use Rattle.sqlite.specs.Held.{state}
-use Rattle.sqlite.specs.State.{HasCleanDisk}
+use Rattle.std.proofs.Common.{arith}
+use Rattle.ft_store.proofs.Common.{on_ok_weaker, state, HasCleanDisk}
 use Rattle.ft_store.specs.Calls.{IsPlainFault}
 use Rattle.ft_store.proofs.AnewLemmas.{first_of, store_documents}
-use Rattle.ft_store.proofs.BlameLemmas.{blamed_then}
 use Rattle.ft_store.proofs.InsideLemmas.{stays_then}
-use Rattle.ft_store.proofs.ClearLemmas.{documents_steps, documents_grown, never_full, ok_both}
+use Rattle.ft_store.proofs.ClearLemmas.{documents_steps, documents_grown, ok_both}
 use Rattle.ft_store.proofs.clear.empty_documents.Goals as goal
 
 pub returns-clause-done : goal.returns-clause-done
@@ -33,19 +30,3 @@ returns-clause-grown g c = λ free notes clean inside store.
     let kept = store_documents old.now mid.now was one.0 in
     on_ok_weaker c.put_notes.result (λ both. documents_grown c.args._tab old.now mid.now c.args.notes.now was notes new.now.trees free one.0 both.0 both.1)
     (ok_both _ _ c.put_notes.result (c.put_notes.ensures.changes.grown clean one.1.mode one.1.is_open kept) (c.put_notes.ensures.others clean one.1.mode one.1.is_open kept))
-
-pub returns-in_err-renew_documents-clause-refused : goal.returns-in_err-renew_documents-clause-refused
-returns-in_err-renew_documents-clause-refused g c = λ free notes clean inside store is.
-    c.renew_documents.ensures.refused clean inside (λ o. first_of (state g.S.Store c.args.tx.now.conn.now).now (store o)) (search rules)
-
-pub returns-clause-refused : goal.returns-clause-refused
-returns-clause-refused g c = λ free notes clean inside store is.
-    let old = state g.S.Store c.args.tx.now.conn.now in
-    let mid = state g.S.Store c.renew_documents.new.tx.conn.now in
-    let new = state g.S.Store c.put_notes.new.tx.conn.now in
-    let clean_mid : HasCleanDisk mid = omega (arith, c.put_notes.ensures.changes.done.stays.survives.clean, clean) in
-    let one = c.in_ok-renew_documents.ensures.done.steps clean_mid inside (λ o. first_of old.now (store o)) in
-    let was = store one.1.was_open in
-    let kept = store_documents old.now mid.now was one.0 in
-    blamed_then old mid new _ _ clean_mid c.renew_documents.ensures.done.stays.survives c.put_notes.ensures.changes.done.stays.survives
-    (elim (c.put_notes.ensures.changes.refused clean one.1.mode one.1.is_open kept is) [ inl blamed ↦ blamed | inr full ↦ absurd (never_full c.args._tab old.now mid.now c.args.notes.now was notes (mid.now.trees 11) one.0.2.1.1.1.0 full) ])

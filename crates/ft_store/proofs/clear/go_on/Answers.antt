@@ -1,7 +1,7 @@
-use Rattle.std.proofs.Common.{rules, sym, ◌∙◌}
-use Rattle.sqlite.specs.Held.{state}
+use Rattle.std.proofs.Common.{rules}
+use Rattle.ft_store.proofs.Common.{state}
 use Rattle.ft_store.proofs.BlameLemmas.{not_memory}
-use Rattle.ft_store.proofs.LookLemmas.{blank_runs, blank_blamed, is_inside}
+use Rattle.ft_store.proofs.ClearLemmas.{blank_runs, blank_blamed}
 use Rattle.ft_store.proofs.clear.go_on.Goals as goal
 
 pub returns-clause-done : goal.returns-clause-done
@@ -13,11 +13,6 @@ returns-clause-done g c = record {
       blank_runs old new c.in_ok-_count._count (store ran.1.was_open).schema ran.0;
   stays = search rules;
 }
-
-pub returns-clause-inside : goal.returns-clause-inside
-returns-clause-inside g c = λ clean.
-    let inside = is_inside c.args.tx.now.conn.now.in_transaction (λ out. let e = sym c.in_ok-_count.was ∙ (c.execute.ensures.ended out).0 in cc) in
-    (c.in_ok-_count.ensures.runs clean inside).1.mode
 
 pub returns-in_err-_count-clause-refused : goal.returns-in_err-_count-clause-refused
 returns-in_err-_count-clause-refused g c = λ clean inside store is.

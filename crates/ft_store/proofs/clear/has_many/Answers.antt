@@ -1,8 +1,7 @@
 use Rattle.std.proofs.Common.{rules, pos, [], ◌∷◌, to_z-of_z}
-use Rattle.sqlite.specs.Term.{lit}
-use Rattle.sqlite.specs.declared.types.Value.TheVariants.{Int}
-use Rattle.ft_store.proofs.TextLemmas.{is_param}
-use Rattle.ft_store.proofs.ProbeTexts.{many_lists}
+use Rattle.ft_store.proofs.Common.{lit, Int}
+use Rattle.ft_store.proofs.Texts.{is_param, many_lists}
+use Rattle.ft_store.proofs.InsideLemmas.{stays_as}
 use Rattle.ft_store.proofs.clear.has_many.Goals as goal
 
 pub returns-in_err-found-clause-refused : goal.returns-in_err-found-clause-refused
@@ -14,5 +13,5 @@ returns-clause-done g c = record {
   steps = λ clean inside store.
       let found = (simp (to_z-of_z, c.ranges.tab) at (rw c.to_sql.ensures at c.in_ok-found.ensures.done.steps)) 7 (is_param 1 0 ∷ []) (lit (Int (pos 1))) (lit (Int (pos 200))) (many_lists c.args.tab) clean inside store in
       (found.0, found.1, tt);
-  stays = record { same_reference = c.look.ensures.done.stays.same_reference; kept = c.look.ensures.done.stays.kept; survives = c.look.ensures.done.stays.survives; fault = search rules };
+  stays = stays_as c.look.ensures.done.stays (search rules);
 }

@@ -1,10 +1,8 @@
-use Rattle.std.proofs.Common.{◌∙◌, [], ◌∷◌, pos, sym, ap, rules, FitsSigned, w64, to_z-of_z}
-use Rattle.std.specs.Prelude.{◌==◌}
-use Rattle.sqlite.specs.Held.{state}
-use Rattle.sqlite.specs.Term.{lit}
-use Rattle.sqlite.specs.declared.types.Value.TheVariants.{Int}
+use Rattle.std.proofs.Common.{◌∙◌, [], ◌∷◌, pos, sym, ap, rules, FitsSigned, w64, to_z-of_z, ◌==◌}
+use Rattle.ft_store.proofs.Common.{state, lit, Int}
 use Rattle.ft_store.specs.Anew.{IsNear, probe_tree, probe_term}
-use Rattle.ft_store.proofs.FreeLemmas.{empty_rows, free_of}
+use Rattle.ft_store.proofs.ClearLemmas.{empty_rows, free_of}
+use Rattle.ft_store.proofs.InsideLemmas.{stays_as}
 use Rattle.ft_store.proofs.clear.is_free.Goals as goal
 
 pub returns-in_err-found-clause-refused : goal.returns-in_err-found-clause-refused
@@ -27,5 +25,5 @@ returns-clause-done g c = record {
         λ free.
             free_of c.args.at text c.args.tab c.probe_number-number.result old new found.items (c.probe_text.ensures c.requires) near (store it.1).schema (empty_rows found.items (sym (ap (λ n. n == 0) found.ok.0) ∙ sym c.is_empty.ensures ∙ free)) it.2,
       );
-  stays = record { same_reference = c.look.ensures.done.stays.same_reference; kept = c.look.ensures.done.stays.kept; survives = c.look.ensures.done.stays.survives; fault = search rules };
+  stays = stays_as c.look.ensures.done.stays (search rules);
 }

@@ -1,15 +1,8 @@
 use Rattle.std.proofs.Common.{rules, ◌∙◌, arith, ap, sym, subst}
-use Rattle.sqlite.specs.Held.{state}
-use Rattle.sqlite.specs.Effect.{Database}
-use Rattle.sqlite.specs.Values.{bound}
-use Rattle.sqlite.specs.Listing.{understood}
-use Rattle.sqlite.specs.State.{HasCleanDisk}
-use Rattle.sqlite.proofs.Callers.{IsPlain}
-use Rattle.sqlite.proofs.StateLemmas.{survives_then}
+use Rattle.ft_store.proofs.Common.{state, Database, bound, understood, HasCleanDisk, IsPlain, survives_then}
 use Rattle.ft_store.specs.Calls.{IsStore}
-use Rattle.ft_store.proofs.CallLemmas.{keeps_then}
-use Rattle.ft_store.proofs.BlameLemmas.{not_memory, blamed_then}
-use Rattle.ft_store.proofs.LookLemmas.{shown_commit, refused_commit, shown_from, look_blamed}
+use Rattle.ft_store.proofs.BlameLemmas.{shown_commit, refused_commit, keeps_then, not_memory, blamed_then}
+use Rattle.ft_store.proofs.ClearLemmas.{shown_from, look_blamed}
 use Rattle.ft_store.proofs.clear.look.Goals as goal
 
 pub returns-in_err-query_all-clause-done : goal.returns-in_err-query_all-clause-done

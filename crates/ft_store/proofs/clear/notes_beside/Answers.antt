@@ -1,18 +1,14 @@
 use Rattle.std.proofs.Common.{◌≡◌, ◌∙◌, [], map, subst, arith, rules, to_z-of_z}
-use Rattle.sqlite.specs.Effect.{Database}
-use Rattle.sqlite.specs.Held.{state}
-use Rattle.sqlite.specs.State.{HasCleanDisk, Survives}
-use Rattle.sqlite.proofs.StateLemmas.{survives_then}
-use Rattle.ft_rows.specs.Store.{name_cmp}
+use Rattle.ft_store.proofs.Common.{Database, state, HasCleanDisk, Survives, survives_then, name_cmp}
 use Rattle.ft_store.specs.Rows.{keyed, note_entry}
 use Rattle.ft_store.specs.Found.{found_note}
 use Rattle.ft_store.specs.Anew.{AreFree}
-use Rattle.ft_store.proofs.TextLemmas.{no_limit, no_offset}
-use Rattle.ft_store.proofs.ProbeTexts.{all_notes}
+use Rattle.ft_store.proofs.Texts.{no_limit, no_offset, all_notes}
 use Rattle.ft_store.proofs.AnswerLemmas.{noted_shown, all_kept}
 use Rattle.ft_store.proofs.BlameLemmas.{blamed_then}
-use Rattle.ft_store.proofs.CallLemmas.{keeps_then}
-use Rattle.ft_store.proofs.LookLemmas.{stands_then, stands_store}
+use Rattle.ft_store.proofs.ClearLemmas.{stands_then, stands_store}
+use Rattle.ft_store.specs.Calls.{IsPlainFault}
+use Rattle.ft_store.proofs.InsideLemmas.{stays_then, stays_more}
 use Rattle.ft_store.proofs.clear.notes_beside.Goals as goal
 
 pub returns-in_err-notes-clause-refused : goal.returns-in_err-notes-clause-refused
@@ -57,16 +53,7 @@ returns-then-are_short-clause-done g c =
               },
             ),
           );
-      stays = record {
-        same_reference = c.look.ensures.done.stays.same_reference ∙ c.is_alone.ensures.done.stays.same_reference ∙ c.has_many.ensures.done.stays.same_reference;
-        kept = λ clean.
-            let clean_2 : HasCleanDisk two_at = omega (arith, c.look.ensures.done.stays.survives.clean, clean) in
-            let clean_1 : HasCleanDisk one_at = omega (arith, c.is_alone.ensures.done.stays.survives.clean, clean_2) in
-            keeps_then old two_at new (keeps_then old one_at two_at (c.has_many.ensures.done.stays.kept clean_1) (c.is_alone.ensures.done.stays.kept clean_2)) (c.look.ensures.done.stays.kept clean);
-        survives = survives_then old two_at new _ _ _ (λ _ db none. none) (λ _ db none. none)
-            (survives_then old one_at two_at _ _ _ (λ _ db none. none) (λ _ db none. none) c.has_many.ensures.done.stays.survives c.is_alone.ensures.done.stays.survives) c.look.ensures.done.stays.survives;
-        fault = search rules;
-      };
+      stays = stays_more (stays_then g.S.Store IsPlainFault _ _ _ _ _ c.has_many.ensures.done.stays c.is_alone.ensures.done.stays) c.look.ensures.done.stays (search rules);
     }
 
 pub returns-else-are_short-clause-done : goal.returns-else-are_short-clause-done
@@ -84,17 +71,5 @@ returns-else-are_short-clause-done g c =
           let both = stands_then old one_at two_at one.0 two.0 in
           let found = c.in_ok-notes.ensures.done.steps 11 [] no_limit no_offset all_notes clean two.0.inside (stands_store old two_at both store) in
           (stands_then old two_at new both found.0, one.1, tt);
-      stays = record {
-        same_reference = c.look.ensures.done.stays.same_reference ∙ c.is_alone.ensures.done.stays.same_reference ∙ c.has_many.ensures.done.stays.same_reference;
-        kept = λ clean.
-            let clean_2 : HasCleanDisk two_at = omega (arith, c.look.ensures.done.stays.survives.clean, clean) in
-            let clean_1 : HasCleanDisk one_at = omega (arith, c.is_alone.ensures.done.stays.survives.clean, clean_2) in
-            keeps_then old two_at new (keeps_then old one_at two_at (c.has_many.ensures.done.stays.kept clean_1) (c.is_alone.ensures.done.stays.kept clean_2)) (c.look.ensures.done.stays.kept clean);
-        survives = survives_then old two_at new _ _ _ (λ _ db none. none) (λ _ db none. none)
-            (survives_then old one_at two_at _ _ _ (λ _ db none. none) (λ _ db none. none) c.has_many.ensures.done.stays.survives c.is_alone.ensures.done.stays.survives) c.look.ensures.done.stays.survives;
-        fault = search rules;
-      };
+      stays = stays_more (stays_then g.S.Store IsPlainFault _ _ _ _ _ c.has_many.ensures.done.stays c.is_alone.ensures.done.stays) c.look.ensures.done.stays (search rules);
     }
-
-pub returns-then-are_short-clause-short : goal.returns-then-are_short-clause-short
-returns-then-are_short-clause-short g c = let are = c.are_short.ensures c.if-are_short.true in rw c.as_slice.ensures.value at are.1

@@ -1,21 +1,10 @@
-use Rattle.std.proofs.Common.{rules, length, take, map, sym, subst, refl, Ok, List, ◌+◌, arith}
-use Rattle.std.proofs.lemmas.List.{take_all}
-use Rattle.sqlite.specs.Held.{state}
-use Rattle.sqlite.specs.State.{HasCleanDisk}
-use Rattle.sqlite.specs.Order.{Row}
-use Rattle.ft_rows.specs.Store.{name_cmp}
-use Rattle.ft_store.specs.Found.{found_note}
-use Rattle.ft_store.specs.Groups.{put_each}
-use Rattle.ft_store.specs.Changes.{ChangesIfOpen}
-use Rattle.ft_store.proofs.CantLemmas.{take_one, room_left}
-use Rattle.ft_store.proofs.GoneLemmas.{rest_then}
-use Rattle.ft_store.proofs.InsideLemmas.{if_open, went_on, becomes, stops, nothing_done, open_then}
-use Rattle.ft_store.proofs.NoteLemmas.{note_more}
-use Rattle.ft_store.proofs.RiseLemmas.{full_since, full_more}
+use Rattle.std.proofs.Common.{rules, length, take, sym, refl, Ok, ◌+◌, arith}
+use Rattle.ft_store.proofs.Common.{state, HasCleanDisk}
+use Rattle.ft_store.proofs.CantLemmas.{take_one, room_left, full_since, full_more}
+use Rattle.ft_store.proofs.RefusedLemmas.{rest_then}
+use Rattle.ft_store.proofs.InsideLemmas.{if_open, went_on, becomes, stops, open_then}
+use Rattle.ft_store.proofs.ClearLemmas.{note_more}
 use Rattle.ft_store.proofs.clear.put_notes.Goals as goal
-
-pub loop-note-init : goal.loop-note-init
-loop-note-init g c = (nothing_done g.S.Store c.args.tx.now.conn, λ clean inside is_open store. ((λ _. refl), ((λ _. refl), ((λ _. refl), ((λ _. refl), ((λ _. refl), ((λ _. refl), tt)))))))
 
 pub loop-note-preserved : goal.loop-note-preserved
 loop-note-preserved g c =
@@ -32,14 +21,6 @@ loop-note-preserved g c =
           let before = c.loop-note.invariant.0.done.steps clean_was inside is_open store in
           rest_then 11 old was.now.trees now (c.loop-note.invariant.1 clean_was inside is_open store) (c.in_ok-put_again.ensures.others clean before.shown.mode (λ _. before.store)),
     )
-
-pub returns-clause-changes : goal.returns-clause-changes
-returns-clause-changes g c =
-    let it = subst (λ (l : List Row). ChangesIfOpen g.S.Store c.args.tx.now.conn c.loop-note.tx.conn (Ok tt) (λ v. record v { noted = put_each name_cmp (map found_note l) v.noted }) (length l) (λ _. ⊥)) (take_all c.loop-note.note-index c.args.notes.now c.loop-note-test.false) c.loop-note.invariant.0 in
-    record { done = it.done; grown = it.grown; refused = λ clean inside is_open store is. absurd (let no = is in cc) }
-
-pub returns-clause-others : goal.returns-clause-others
-returns-clause-others g c = c.loop-note.invariant.1
 
 pub returns-in_err-put_again-clause-changes : goal.returns-in_err-put_again-clause-changes
 returns-in_err-put_again-clause-changes g c =

@@ -1,5 +1,5 @@
 use Rattle.std.proofs.Common.{map, take, length, Ok}
-use Rattle.ft_rows.specs.Store.{name_cmp}
+use Rattle.ft_store.proofs.Common.{name_cmp}
 use Rattle.ft_store.specs.Found.{found_note}
 use Rattle.ft_store.specs.Groups.{put_each}
 use Rattle.ft_store.specs.Puts.{KeepsRestIfOpen}

@@ -1,6 +1,5 @@
 use Rattle.std.proofs.Common.{ℕ, ◌<◌, IsTrue}
-use Rattle.sqlite.specs.Held.{state}
-use Rattle.sqlite.specs.State.{HasCleanDisk}
+use Rattle.ft_store.proofs.Common.{state, HasCleanDisk}
 use Rattle.ft_store.specs.Scan.{tree_at}
 use Rattle.ft_store.specs.Calls.{HasOwnRowids}
 use Rattle.ft_store.proofs.ChainLemmas.{Looking}

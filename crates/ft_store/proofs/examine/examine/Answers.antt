@@ -1,7 +1,5 @@
 use Rattle.std.proofs.Common.{rules, inl, inr, sym, subst, arith}
-use Rattle.sqlite.specs.Effect.{Database}
-use Rattle.sqlite.specs.Held.{state}
-use Rattle.sqlite.specs.State.{HasCleanDisk}
+use Rattle.ft_store.proofs.Common.{Database, state, HasCleanDisk}
 use Rattle.ft_store.specs.Calls.{HaveOwnRowids}
 use Rattle.ft_store.specs.Older.{schema_of}
 use Rattle.ft_store.proofs.BlameLemmas.{blamed_then}

@@ -1,17 +1,10 @@
-use Rattle.std.proofs.Common.{sym, subst, arith, rules}
-use Rattle.std.proofs.lemmas.Result.{IfOk-weaker}
-use Rattle.sqlite.specs.Given.{IsPlain}
-use Rattle.sqlite.specs.Listing.{understood}
-use Rattle.sqlite.specs.Held.{state}
+use Rattle.std.proofs.Common.{arith, rules}
+use Rattle.ft_store.proofs.Common.{IfOk-weaker, state}
 use Rattle.ft_store.specs.Scan.{tree_at}
 use Rattle.ft_store.specs.Older.{schema_of}
-use Rattle.ft_store.proofs.CallLemmas.{shown_open}
-use Rattle.ft_store.proofs.ScanLemmas.{scanned, all_rise}
-use Rattle.ft_store.proofs.ExamineLemmas.{numbers_rise, rowids_blamed}
+use Rattle.ft_store.proofs.BlameLemmas.{shown_open}
+use Rattle.ft_store.proofs.ExamineLemmas.{scanned, all_rise, numbers_rise, rowids_blamed}
 use Rattle.ft_store.proofs.examine.is_numbered.Goals as goal
-
-pub gather-requires-clause-asked : goal.gather-requires-clause-asked
-gather-requires-clause-asked g c = record { settled = c.requires.rest.settled; shown = λ clean is_open. subst (λ s. IsPlain (understood s c.rowids_query.result.now)) (sym (c.requires.rest.shown clean is_open)) (c.rowids_query.ensures c.args.layout c.requires.within).plain }
 
 pub returns-clause-numbered : goal.returns-clause-numbered
 returns-clause-numbered g c = record {

@@ -1,5 +1,5 @@
 use Rattle.std.proofs.Common.{arith}
-use Rattle.ft_store.proofs.ScanLemmas.{scans_meta, scans_tab, scans_col, scans_cell, scans_posting, scans_sizes, scans_noted, scans_last}
+use Rattle.ft_store.proofs.ExamineLemmas.{scans_meta, scans_tab, scans_col, scans_cell, scans_posting, scans_sizes, scans_noted, scans_last}
 use Rattle.ft_store.proofs.examine.rowids_query.Goals as goal
 
 pub returns-in-0 : goal.returns-in-0

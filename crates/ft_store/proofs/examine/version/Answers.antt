@@ -1,12 +1,8 @@
 use Rattle.std.proofs.Common.{sym, subst, arith, pos, FitsSigned, w64, to_z-of_z, rules}
-use Rattle.sqlite.specs.Given.{IsPlain}
-use Rattle.sqlite_catalog.specs.Listing.{IsSound}
-use Rattle.sqlite.specs.Listing.{understood}
-use Rattle.sqlite.specs.Held.{state}
-use Rattle.ft_store.proofs.CallLemmas.{shown_open}
-use Rattle.ft_store.proofs.FoundNumbers.{only_one, not_one}
-use Rattle.ft_store.proofs.ExamineLemmas.{version_blamed}
-use Rattle.ft_store.proofs.ScanLemmas.{version_text, version_plain, version_seen}
+use Rattle.ft_store.proofs.Common.{IsPlain, IsSound, understood, state}
+use Rattle.ft_store.proofs.BlameLemmas.{shown_open}
+use Rattle.ft_store.proofs.FoundLemmas.{only_one, not_one}
+use Rattle.ft_store.proofs.ExamineLemmas.{version_blamed, version_text, version_plain, version_seen}
 use Rattle.ft_store.proofs.ChainLemmas.{reads_on}
 use Rattle.ft_store.proofs.examine.version.Goals as goal
 

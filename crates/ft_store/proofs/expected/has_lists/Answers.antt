@@ -1,15 +1,10 @@
-use Rattle.std.proofs.Common.{rules, ◌++◌, map, drop, sym, ap, subst, ◌∙◌, arith, to_z-of_z}
-use Rattle.std.specs.Ordering.{int_eq}
-use Rattle.sqlite.specs.Given.{IsPlain}
-use Rattle.sqlite.specs.Listing.{understood}
-use Rattle.sqlite.specs.Held.{state}
+use Rattle.std.proofs.Common.{rules, ◌++◌, map, drop, sym, ap, subst, ◌∙◌, arith, to_z-of_z, int_eq}
+use Rattle.ft_store.proofs.Common.{IsPlain, understood, state}
 use Rattle.ft_rows.specs.Terms.{lists_by_terms}
 use Rattle.ft_store.specs.Found.{found_places}
-use Rattle.ft_store.proofs.Texts.{lists_text}
-use Rattle.ft_store.proofs.TextLemmas.{lists_means}
-use Rattle.ft_store.proofs.AnswerLemmas.{lists_stored_shown, placed}
+use Rattle.ft_store.proofs.Texts.{lists_text, lists_means}
+use Rattle.ft_store.proofs.AnswerLemmas.{lists_stored_shown, placed, lists_blamed}
 use Rattle.ft_store.proofs.ExpectedLemmas.{some_left, at_end, others_at_end}
-use Rattle.ft_store.proofs.AskedLemmas.{lists_blamed}
 use Rattle.ft_store.proofs.expected.has_lists.Goals as goal
 use Rattle.ft_store.proofs.expected.has_lists.Goals.{then-whole, else-whole}
 

@@ -1,7 +1,7 @@
 use Rattle.std.proofs.Common.{ℕ, Bool, cond, List, ap₂, subst}
+use Rattle.ft_store.proofs.Common.{file_state}
 use Rattle.sqlite_disk.specs.Events.{Event, replay}
 use Rattle.sqlite_wal.specs.Recovery.{Image}
-use Rattle.sqlite.specs.Files.{file_state}
 use Rattle.sqlite.specs.Start.{FindsIn}
 use Rattle.ft_store.proofs.files.open_database.Goals as goal
 

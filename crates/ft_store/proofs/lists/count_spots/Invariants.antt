@@ -1,6 +1,5 @@
-use Rattle.std.proofs.Common.{◌≡◌, ◌-◌, ◌^◌, map, min}
-use Rattle.std.specs.Prelude.{take}
-use Rattle.ft_rows.specs.Shown.{shown_list, spot_count}
+use Rattle.std.proofs.Common.{◌≡◌, ◌-◌, ◌^◌, map, min, take}
+use Rattle.ft_store.proofs.Common.{shown_list, spot_count}
 use Rattle.ft_store.proofs.lists.count_spots.Given as goal
 
 abbrev pub invariant-loop-list : goal.invariant-loop-list

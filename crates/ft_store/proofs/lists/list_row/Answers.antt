@@ -1,10 +1,7 @@
-use Rattle.std.proofs.Common.{◌≡◌, [], rules, sym, ap, ◌∙◌, to_z-of_z, FitsSigned, w64}
-use Rattle.std.specs.Prelude.{unwrap_or}
-use Rattle.sqlite.specs.Order.{column}
-use Rattle.sqlite_value.specs.Order.{bytes}
+use Rattle.std.proofs.Common.{◌≡◌, [], rules, sym, ap, ◌∙◌, to_z-of_z, FitsSigned, w64, unwrap_or}
+use Rattle.ft_store.proofs.Common.{column, bytes, id_in}
 use Rattle.sqlite_value.specs.Value.{owned}
 use Rattle.sqlite.specs.declared.types.ValueRef.{ValueRef}
-use Rattle.sqlite_rules.specs.Edit.{id_in}
 use Rattle.ft_rows.specs.Packed.{unpacked}
 use Rattle.ft_rows.proofs.ReadLemmas.{some_places}
 use Rattle.ft_store.proofs.lists.list_row.Goals as goal
@@ -24,8 +21,3 @@ returns-in-Some-clause-found c =
       );
       fault = search rules;
     }
-
-pub returns-in-None-clause-found : goal.returns-in-None-clause-found
-returns-in-None-clause-found c =
-    let list : c.in-Blob.bytes.now ≡ bytes (column c.args.row.now 1) = ap (λ (v : ValueRef). bytes (owned v)) (sym c.in-Blob.is) ∙ ap bytes c.in_ok-bytes.ensures.ok.1 in
-    record { found = ap (λ o. unwrap_or o []) (ap unpacked (sym list) ∙ (rw c.in-None.is at c.in_ok-spots.ensures)); fault = search rules }

@@ -1,21 +1,10 @@
-use Rattle.std.proofs.Common.{[], ◌∷◌, ◌∙◌, ap, ◌≡◌, ◌&&◌, map, sym, subst, arith, to_z-of_z}
-use Rattle.std.specs.Prelude.{nat_eq}
-use Rattle.std.specs.List.{starts_with}
-use Rattle.std.specs.Ordering.{int_eq}
-use Rattle.sqlite.specs.Given.{IsPlain}
-use Rattle.sqlite.specs.Listing.{understood}
-use Rattle.sqlite.specs.declared.types.Value.TheVariants.{Int, Text}
-use Rattle.sqlite.specs.State.{Shown}
+use Rattle.std.proofs.Common.{[], ◌∷◌, ◌∙◌, ap, ◌≡◌, ◌&&◌, map, sym, subst, arith, to_z-of_z, nat_eq, int_eq}
+use Rattle.ft_store.proofs.Common.{starts_with, IsPlain, understood, Int, Text, Shown, state, IfOk-weaker, shown_entry, entries_of}
 use Rattle.ft_store.specs.Range.{after_last, limit_of}
-use Rattle.sqlite.specs.Held.{state}
-use Rattle.std.proofs.lemmas.Result.{IfOk-weaker}
-use Rattle.ft_rows.specs.Shown.{shown_entry, entries_of}
 use Rattle.ft_store.specs.Calls.{AreTold}
 use Rattle.ft_store.proofs.RangeLemmas.{below_255, bound_limit}
-use Rattle.ft_store.proofs.Texts.{prefix_text}
-use Rattle.ft_store.proofs.TextLemmas.{prefix_means}
-use Rattle.ft_store.proofs.AnswerLemmas.{prefix_stored_shown, placed}
-use Rattle.ft_store.proofs.AskedLemmas.{prefix_blamed}
+use Rattle.ft_store.proofs.Texts.{prefix_text, prefix_means}
+use Rattle.ft_store.proofs.AnswerLemmas.{prefix_stored_shown, placed, prefix_blamed}
 use Rattle.ft_store.proofs.lists.prefix.Goals as goal
 
 pub select_entries-requires : goal.select_entries-requires

@@ -1,18 +1,10 @@
 use Rattle.std.proofs.Common.{[], ◌∷◌, ap, sym, subst, ◌∙◌, arith, to_z-of_z}
-use Rattle.sqlite.specs.Given.{IsPlain}
-use Rattle.sqlite.specs.Listing.{understood}
-use Rattle.sqlite.specs.declared.types.Value.TheVariants.{Int, Text}
-use Rattle.sqlite.specs.State.{Shown}
+use Rattle.ft_store.proofs.Common.{IsPlain, understood, Int, Text, Shown, state, IfOk-weaker, AreWhole}
 use Rattle.ft_store.specs.Range.{after_last, limit_of}
-use Rattle.sqlite.specs.Held.{state}
-use Rattle.std.proofs.lemmas.Result.{IfOk-weaker}
-use Rattle.ft_rows.specs.Shown.{AreWhole}
 use Rattle.ft_store.proofs.RangeLemmas.{below_255, bound_limit}
-use Rattle.ft_store.proofs.Texts.{bare_prefix_text}
-use Rattle.ft_store.proofs.TextLemmas.{bare_prefix_means}
-use Rattle.ft_store.proofs.AnswerLemmas.{bare_prefix_shown}
+use Rattle.ft_store.proofs.Texts.{bare_prefix_text, bare_prefix_means}
+use Rattle.ft_store.proofs.AnswerLemmas.{bare_prefix_shown, bare_prefix_blamed}
 use Rattle.ft_store.proofs.EntryLemmas.{whole_bare, bare_whole}
-use Rattle.ft_store.proofs.AskedLemmas.{bare_prefix_blamed}
 use Rattle.ft_store.proofs.lists.prefix_lists.Goals as goal
 
 pub select_lists-requires : goal.select_lists-requires

@@ -1,5 +1,5 @@
 use Rattle.std.proofs.Common.{◌≡◌, ◌++◌, map, take}
-use Rattle.ft_rows.specs.Shown.{shown_entry}
+use Rattle.ft_store.proofs.Common.{shown_entry}
 use Rattle.ft_store.proofs.lists.push_entries.Given as goal
 
 abbrev pub invariant-loop-spot : goal.invariant-loop-spot

@@ -1,6 +1,5 @@
-use Rattle.std.proofs.Common.{◌≡◌, map, take}
-use Rattle.std.specs.List.{flat_map}
-use Rattle.ft_rows.specs.Shown.{shown_list, shown_entry, entries_with}
+use Rattle.std.proofs.Common.{◌≡◌, map, take, flat_map}
+use Rattle.ft_store.proofs.Common.{shown_list, shown_entry, entries_with}
 use Rattle.ft_store.proofs.lists.term_entries.Given as goal
 
 abbrev pub invariant-loop-list : goal.invariant-loop-list

@@ -1,14 +1,8 @@
 use Rattle.std.proofs.Common.{sym, subst, ◌∙◌, arith, to_z-of_z}
-use Rattle.sqlite.specs.Given.{IsPlain}
-use Rattle.sqlite.specs.Listing.{understood}
-use Rattle.sqlite.specs.Held.{state}
-use Rattle.std.proofs.lemmas.Result.{IfOk-weaker}
-use Rattle.ft_rows.specs.Shown.{AreWhole}
-use Rattle.ft_store.proofs.Texts.{term_text}
-use Rattle.ft_store.proofs.TextLemmas.{term_means}
-use Rattle.ft_store.proofs.AnswerLemmas.{term_shown}
+use Rattle.ft_store.proofs.Common.{IsPlain, understood, state, IfOk-weaker, AreWhole}
+use Rattle.ft_store.proofs.Texts.{term_text, term_means}
+use Rattle.ft_store.proofs.AnswerLemmas.{term_shown, term_blamed}
 use Rattle.ft_store.proofs.EntryLemmas.{whole_bare, bare_whole}
-use Rattle.ft_store.proofs.AskedLemmas.{term_blamed}
 use Rattle.ft_store.proofs.lists.term_lists.Goals as goal
 
 pub select_lists-requires : goal.select_lists-requires

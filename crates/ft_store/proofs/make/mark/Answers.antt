@@ -1,20 +1,15 @@
-use Rattle.std.proofs.Common.{[], ℕ, Ok}
-use Rattle.std.proofs.lemmas.Result.{on_ok_weaker}
-use Rattle.sqlite.specs.State.{ExecutesInside}
-use Rattle.sqlite.specs.Held.{state}
+use Rattle.std.proofs.Common.{◌≡◌}
+use Rattle.ft_store.proofs.Common.{state}
 use Rattle.ft_store.proofs.Texts.{mark_text}
-use Rattle.ft_store.proofs.MakeLemmas.{marks}
-use Rattle.ft_store.proofs.MarkLemmas.{mark_blamed}
+use Rattle.ft_store.proofs.MakeLemmas.{marks, mark_blamed}
+use Rattle.ft_store.specs.Made.{IsUnmarked}
+use Rattle.ft_store.specs.Calls.{IsStore}
+use Rattle.ft_store.specs.Rows.{value_of}
+use Rattle.ft_store.proofs.InsideLemmas.{runs_make}
 use Rattle.ft_store.proofs.make.mark.Goals as goal
 
 pub returns-clause-done : goal.returns-clause-done
-returns-clause-done g c = record {
-  steps = λ clean inside was.
-      let old = state g.S.Store c.args.tx.now.conn.now in
-      let new = state g.S.Store c.run.new.tx.conn.now in
-      on_ok_weaker c.run.result (λ (ran : (count : ℕ) × ExecutesInside 0 mark_text [] old new (Ok count)). (marks old new ran.0 (was ran.1.1.was_open) ran.1.0, ran.1.1)) (c.run.ensures.done.steps clean inside);
-  stays = c.run.ensures.done.stays;
-}
+returns-clause-done g c = runs_make g.S.Store _ _ _ mark_text IsUnmarked (λ old new. IsStore new × (value_of new.trees ≡ value_of old.trees)) c.run.ensures.done (marks _ _)
 
 pub returns-clause-refused : goal.returns-clause-refused
 returns-clause-refused g c = λ clean inside was is.

@@ -1,19 +1,16 @@
-use Rattle.std.proofs.Common.{[], ℕ, Ok}
-use Rattle.std.proofs.lemmas.Result.{on_ok_weaker}
-use Rattle.sqlite.specs.State.{ExecutesInside}
-use Rattle.sqlite.specs.Held.{state}
+use Rattle.ft_store.proofs.Common.{state}
 use Rattle.ft_store.proofs.Texts.{make_skip_text}
-use Rattle.ft_store.proofs.MigrateLemmas.{add_blamed, adds}
+use Rattle.ft_store.proofs.MakeLemmas.{add_blamed, adds}
+use Rattle.ft_store.proofs.InsideLemmas.{runs_make}
+use Rattle.std.proofs.Common.{◌≡◌}
+use Rattle.ft_store.specs.declared.same.Layout.TheVariants.{Older}
+use Rattle.ft_store.specs.Older.{IsStoreBy, older_value}
+use Rattle.ft_store.specs.Made.{IsTabled}
+use Rattle.ft_store.specs.Rows.{value_of}
 use Rattle.ft_store.proofs.migrate.add_table.Goals as goal
 
 pub returns-clause-done : goal.returns-clause-done
-returns-clause-done g c = record {
-  steps = λ clean inside was.
-      let old = state g.S.Store c.args.tx.now.conn.now in
-      let new = state g.S.Store c.run.new.tx.conn.now in
-      on_ok_weaker c.run.result (λ (ran : (count : ℕ) × ExecutesInside 0 make_skip_text [] old new (Ok count)). (adds old new ran.0 (was ran.1.1.was_open) ran.1.0, ran.1.1)) (c.run.ensures.done.steps clean inside);
-  stays = c.run.ensures.done.stays;
-}
+returns-clause-done g c = runs_make g.S.Store _ _ _ make_skip_text (IsStoreBy Older) (λ old new. IsTabled new × (value_of new.trees ≡ older_value old.trees)) c.run.ensures.done (adds _ _)
 
 pub returns-clause-refused : goal.returns-clause-refused
 returns-clause-refused g c = λ clean inside was is.

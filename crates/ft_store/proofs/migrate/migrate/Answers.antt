@@ -1,9 +1,6 @@
 use Rattle.std.proofs.Common.{rules}
 use Rattle.ft_store.proofs.migrate.migrate.Goals as goal
 
-pub returns-in_err-add_table-clause-made : goal.returns-in_err-add_table-clause-made
-returns-in_err-add_table-clause-made g c = record { all = search rules; none = search rules; live = search rules; mode = search rules; crash = search rules; fault = search rules }
-
 pub returns-in_err-unmark-clause-made : goal.returns-in_err-unmark-clause-made
 returns-in_err-unmark-clause-made g c = record { all = search rules; none = search rules; live = search rules; mode = search rules; crash = search rules; fault = search rules }
 

@@ -1,6 +1,6 @@
 use Rattle.std.proofs.Common.{◌∙◌, sym}
-use Rattle.std.proofs.lemmas.Result.{IfOk-weaker}
-use Rattle.ft_store.proofs.ShownLemmas.{text_again, text_unreadable}
+use Rattle.ft_store.proofs.Common.{IfOk-weaker}
+use Rattle.ft_store.proofs.TableLemmas.{text_again, text_unreadable}
 use Rattle.ft_store.proofs.read.shown_text.Goals as goal
 
 pub returns-in-Ok : goal.returns-in-Ok

@@ -1,6 +1,6 @@
 use Rattle.std.proofs.Common.{rules, suc}
+use Rattle.ft_store.proofs.Common.{Or}
 use Rattle.ft_store.proofs.SameLemmas.{two, not_two}
-use Rattle.sqlite_sql.specs.declared.ops.BinaryOp.TheVariants.{Or}
 use Rattle.ft_store.proofs.same.is_cell_test.Goals as goal
 
 pub returns-then-is_null_test : goal.returns-then-is_null_test

@@ -1,7 +1,5 @@
-use Rattle.std.proofs.Common.{Some, ap, ◌∙◌}
-use Rattle.std.specs.Prelude.{codes, bytes_eq}
-use Rattle.std.proofs.lemmas.Bool.Decides.{Decides-eqb}
-use Rattle.std.proofs.lemmas.Slice.Eq.{strip_prefix_is, strip_suffix_is}
+use Rattle.std.proofs.Common.{Some, ap, ◌∙◌, codes, bytes_eq}
+use Rattle.ft_store.proofs.Common.{Decides-eqb, strip_prefix_is, strip_suffix_is}
 use Rattle.ft_store.proofs.SameLemmas.{between}
 use Rattle.ft_store.proofs.same.is_index_name.Goals as goal
 

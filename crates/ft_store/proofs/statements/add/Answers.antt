@@ -1,5 +1,5 @@
 use Rattle.std.proofs.Common.{rules}
-use Rattle.ft_store.proofs.CallLemmas.{broken_keeps}
+use Rattle.ft_store.proofs.BlameLemmas.{broken_keeps}
 use Rattle.ft_store.proofs.statements.add.Goals as goal
 
 pub returns-in-Err-SqliteFailure-ConstraintViolation-clause-done : goal.returns-in-Err-SqliteFailure-ConstraintViolation-clause-done

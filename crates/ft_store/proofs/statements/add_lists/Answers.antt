@@ -1,5 +1,4 @@
-use Rattle.std.proofs.lemmas.Result.{IfOk-weaker}
-use Rattle.sqlite.specs.Values.{bound}
+use Rattle.ft_store.proofs.Common.{IfOk-weaker, bound}
 use Rattle.ft_store.proofs.AddedLemmas.{adds_grown, adds_why}
 use Rattle.ft_store.proofs.GroupLemmas.{adds_eight}
 use Rattle.ft_store.proofs.statements.add_lists.Goals as goal

@@ -1,8 +1,5 @@
 use Rattle.std.proofs.Common.{ℕ, Ok, inl}
-use Rattle.std.proofs.lemmas.Result.{on_ok_weaker}
-use Rattle.sqlite.specs.Values.{bound}
-use Rattle.sqlite.specs.State.{ExecutesInside}
-use Rattle.sqlite.specs.Held.{state}
+use Rattle.ft_store.proofs.Common.{on_ok_weaker, bound, ExecutesInside, state}
 use Rattle.ft_store.proofs.statements.delete.Goals as goal
 
 pub returns : goal.returns

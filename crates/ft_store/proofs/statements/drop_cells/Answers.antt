@@ -1,5 +1,5 @@
 use Rattle.std.proofs.Common.{to_z-of_z}
-use Rattle.ft_store.proofs.GoneLemmas.{drop_cells}
+use Rattle.ft_store.proofs.RefusedLemmas.{drop_cells}
 use Rattle.ft_store.proofs.statements.drop_cells.Goals as goal
 
 pub returns : goal.returns

@@ -1,5 +1,5 @@
 use Rattle.std.proofs.Common.{to_z-of_z}
-use Rattle.ft_store.proofs.GoneLemmas.{drop_list}
+use Rattle.ft_store.proofs.RefusedLemmas.{drop_list}
 use Rattle.ft_store.proofs.statements.drop_list.Goals as goal
 
 pub returns : goal.returns

@@ -1,5 +1,5 @@
 use Rattle.std.proofs.Common.{to_z-of_z}
-use Rattle.ft_store.proofs.GoneLemmas.{drop_size}
+use Rattle.ft_store.proofs.RefusedLemmas.{drop_size}
 use Rattle.ft_store.proofs.statements.drop_size.Goals as goal
 
 pub returns : goal.returns

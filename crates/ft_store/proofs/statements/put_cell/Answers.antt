@@ -1,6 +1,6 @@
 use Rattle.std.proofs.Common.{to_z-of_z}
-use Rattle.ft_values.specs.Cells.{shown_value}
-use Rattle.ft_store.proofs.WriteLemmas.{bound_num, bound_txt}
+use Rattle.ft_store.proofs.Common.{shown_value}
+use Rattle.ft_store.proofs.StoreTables.{bound_num, bound_txt}
 use Rattle.ft_store.proofs.AddedLemmas.{put_cell}
 use Rattle.ft_store.proofs.statements.put_cell.Goals as goal
 

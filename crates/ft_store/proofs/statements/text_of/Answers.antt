@@ -1,7 +1,7 @@
 use Rattle.std.proofs.Common.{◌≡◌, ap, subst, IsUtf8, string_bytes}
-use Rattle.ft_values.specs.Cells.{shown_value}
+use Rattle.ft_store.proofs.Common.{shown_value}
 use Rattle.ft_values.specs.Cells as cells
-use Rattle.ft_store.proofs.ShownLemmas.{text_again}
+use Rattle.ft_store.proofs.TableLemmas.{text_again}
 use Rattle.ft_store.proofs.statements.text_of.Goals as goal
 
 pub returns-in-Text-clause-again : goal.returns-in-Text-clause-again

@@ -1,13 +1,9 @@
-use Rattle.std.proofs.Common.{◌≡◌, ◌∙◌, false, not, List, Ok, Some, None, refl, sym, ap, subst, IsTrue, rules, inl, inr, arith, ◌⊎◌}
-use Rattle.sqlite.specs.Order.{Row}
-use Rattle.sqlite.specs.Values.{bound}
-use Rattle.sqlite.specs.State.{HasCleanDisk, Shown, Survives}
-use Rattle.sqlite.specs.Held.{Held, state}
+use Rattle.std.proofs.Common.{◌≡◌, ◌∙◌, false, not, List, Ok, None, refl, sym, ap, subst, IsTrue, rules, inl, inr, arith, ◌⊎◌}
+use Rattle.ft_store.proofs.Common.{Row, bound, HasCleanDisk, Shown, Survives, Held, state}
 use Rattle.ft_store.specs.Calls.{Keeps}
-use Rattle.ft_store.proofs.CallLemmas.{refused_keeps, kept_either, commits_nothing}
-use Rattle.ft_store.proofs.StreamLemmas.{begun, one_row, rows_shown, moved_unchanged, moved_survives, stopped_keeps, keeps_unchanged}
+use Rattle.ft_store.proofs.BlameLemmas.{refused_keeps, kept_either, commits_nothing, begun, rows_shown, moved_unchanged, moved_survives}
+use Rattle.ft_store.proofs.BlameLemmas.{keeps_unchanged, query_blamed, next_blamed, row_untaken, not_memory}
 use Rattle.ft_store.specs.Blame.{IsBlamed, IsUnasked, GivesUntaken}
-use Rattle.ft_store.proofs.BlameLemmas.{query_blamed, next_blamed, row_untaken, not_memory}
 use Rattle.ft_store.proofs.stream.gather.Goals as goal
 
 pub returns-in_err-rows-clause-given : goal.returns-in_err-rows-clause-given
@@ -29,44 +25,6 @@ pub rows-init : goal.rows-init
 rows-init g c =
     (begun g.S.Store c.args.sql.now (bound c.args.params.now) c.args.conn.now c.requires.asked.shown c.in_ok-rows.rows.conn.now _ (c.in_ok-rows.ensures.mode c.requires.asked.settled) c.in_ok-rows.ensures.survives c.in_ok-rows.ensures.begun c.requires.none, refl, refl)
 
-pub rows-preserved : goal.rows-preserved
-rows-preserved g c =
-    let moved = c.next.follows.holds-at-none in (
-      one_row g.S.Store c.args.sql.now (bound c.args.params.now) c.args.conn.now c.requires.asked.shown c.rows.rows c.next.follows.lender-at-none c.next.result moved _ c.rows.invariant.0 c.in-Some.row (c.in_ok-row.was ∙ ap Ok c.in-Some.is) _ c.in_ok-whole-in-Some.ensures.added,
-      moved.same_reference ∙ c.rows.invariant.1,
-      c.in_ok-whole-in-Some.ensures.expects ∙ c.rows.invariant.2,
-    )
-
-pub returns-in_err-row-clause-given : goal.returns-in_err-row-clause-given
-returns-in_err-row-clause-given g c =
-    let moved = c.next.follows.holds-at-none in
-    let ended = c.conn-in_err-row-1.given.1 (sym (moved.same_reference ∙ c.rows.invariant.1 ∙ c.in_ok-rows.ensures.same_reference)) ∙ c.drop-rows.ensures in
-    record {
-      rows = search rules;
-      read = record {
-        kept = subst (λ (now : Held g.row.S.Denot). HasCleanDisk (state g.S.Store now) → Keeps (state g.S.Store c.args.conn.now) (state g.S.Store now)) (sym ended) (stopped_keeps g.S.Store c.args.sql.now (bound c.args.params.now) c.args.conn.now c.requires.asked.shown c.rows.rows c.next.follows.lender-at-none c.next.result moved _ c.rows.invariant.0 _ c.in_err-row.was (c.is_autocommit-settled.ensures.settled (c.is_autocommit-settled.ensures.value ∙ ap not c.requires.asked.settled)));
-        live = search rules;
-        mode = subst (λ (now : Held g.row.S.Denot). now.in_transaction ≡ false) (sym ended) (moved.mode c.rows.invariant.0.mode);
-        survives = subst (λ (now : Held g.row.S.Denot). Survives (state g.S.Store c.args.conn.now) (state g.S.Store now) (λ _. IsTrue (state g.S.Store c.args.conn.now).is_open → ⊥)) (sym ended) (moved_survives g.S.Store c.args.sql.now (bound c.args.params.now) c.args.conn.now c.requires.asked.shown c.rows.rows c.next.follows.lender-at-none c.next.result moved _ c.rows.invariant.0);
-        fault = search rules;
-      };
-    }
-
-pub returns-in_err-whole-in-Some-clause-given : goal.returns-in_err-whole-in-Some-clause-given
-returns-in_err-whole-in-Some-clause-given g c =
-    let moved = c.next.follows.holds-at-none in
-    let ended = c.conn-in_err-whole-in-Some-1.given.1 (sym (moved.same_reference ∙ c.rows.invariant.1 ∙ c.in_ok-rows.ensures.same_reference)) ∙ c.drop-rows-in_err-whole-in-Some.ensures in
-    record {
-      rows = search rules;
-      read = record {
-        kept = subst (λ (now : Held g.row.S.Denot). HasCleanDisk (state g.S.Store now) → Keeps (state g.S.Store c.args.conn.now) (state g.S.Store now)) (sym ended) (λ clean. keeps_unchanged _ _ (moved_unchanged g.S.Store c.args.sql.now (bound c.args.params.now) c.args.conn.now c.requires.asked.shown c.rows.rows c.next.follows.lender-at-none c.next.result moved _ c.rows.invariant.0 (Some c.in-Some.row) (c.in_ok-row.was ∙ ap Ok c.in-Some.is) clean));
-        live = search rules;
-        mode = subst (λ (now : Held g.row.S.Denot). now.in_transaction ≡ false) (sym ended) (moved.mode c.rows.invariant.0.mode);
-        survives = subst (λ (now : Held g.row.S.Denot). Survives (state g.S.Store c.args.conn.now) (state g.S.Store now) (λ _. IsTrue (state g.S.Store c.args.conn.now).is_open → ⊥)) (sym ended) (moved_survives g.S.Store c.args.sql.now (bound c.args.params.now) c.args.conn.now c.requires.asked.shown c.rows.rows c.next.follows.lender-at-none c.next.result moved _ c.rows.invariant.0);
-        fault = search rules;
-      };
-    }
-
 pub returns-in-None-clause-given : goal.returns-in-None-clause-given
 returns-in-None-clause-given g c =
     let moved = c.next.follows.holds-at-none in
@@ -80,20 +38,6 @@ returns-in-None-clause-given g c =
         live = subst (λ (now : Held g.row.S.Denot). HasCleanDisk (state g.S.Store now) → IsTrue (state g.S.Store now).is_open) (sym ended) (λ clean. (moved_unchanged g.S.Store c.args.sql.now (bound c.args.params.now) c.args.conn.now c.requires.asked.shown c.rows.rows c.next.follows.lender-at-none c.next.result moved _ c.rows.invariant.0 None (c.in_ok-row.was ∙ ap Ok c.in-None.is) clean).0.is_open);
         mode = subst (λ (now : Held g.row.S.Denot). now.in_transaction ≡ false) (sym ended) (moved.mode c.rows.invariant.0.mode);
         survives = subst (λ (now : Held g.row.S.Denot). Survives (state g.S.Store c.args.conn.now) (state g.S.Store now) (λ _. IsTrue (state g.S.Store c.args.conn.now).is_open → ⊥)) (sym ended) (moved_survives g.S.Store c.args.sql.now (bound c.args.params.now) c.args.conn.now c.requires.asked.shown c.rows.rows c.next.follows.lender-at-none c.next.result moved _ c.rows.invariant.0);
-        fault = search rules;
-      };
-    }
-
-pub returns-clause-given : goal.returns-clause-given
-returns-clause-given g c =
-    let ended = c.conn-2-1.given.1 (sym (c.rows.invariant.1 ∙ c.in_ok-rows.ensures.same_reference)) ∙ c.drop-rows-2.ensures in
-    record {
-      rows = search rules;
-      read = record {
-        kept = subst (λ (now : Held g.row.S.Denot). HasCleanDisk (state g.S.Store now) → Keeps (state g.S.Store c.args.conn.now) (state g.S.Store now)) (sym ended) (λ clean. keeps_unchanged _ _ (c.rows.invariant.0.given clean).2);
-        live = search rules;
-        mode = subst (λ (now : Held g.row.S.Denot). now.in_transaction ≡ false) (sym ended) (c.rows.invariant.0.mode);
-        survives = subst (λ (now : Held g.row.S.Denot). Survives (state g.S.Store c.args.conn.now) (state g.S.Store now) (λ _. IsTrue (state g.S.Store c.args.conn.now).is_open → ⊥)) (sym ended) (c.rows.invariant.0.survives);
         fault = search rules;
       };
     }

@@ -1,5 +1,5 @@
 use Rattle.std.proofs.Common.{◌≡◌}
-use Rattle.sqlite.specs.Values.{bound}
+use Rattle.ft_store.proofs.Common.{bound}
 use Rattle.ft_store.specs.Streamed.{Gathering}
 use Rattle.ft_store.proofs.stream.gather.Given as goal
 

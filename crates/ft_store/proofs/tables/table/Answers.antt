@@ -1,21 +1,11 @@
-use Rattle.std.proofs.Common.{sym, subst, refl, ap, ◌∙◌, arith, to_z-of_z, rules}
-use Rattle.std.specs.Ordering.{int_eq}
-use Rattle.std.specs.FinMap.Entries.{where_key}
-use Rattle.sqlite.specs.Effect.{Database}
-use Rattle.sqlite.specs.Held.{state}
-use Rattle.sqlite.specs.State.{HasCleanDisk}
-use Rattle.ft_rows.specs.Store.{column_key_cmp}
+use Rattle.std.proofs.Common.{sym, subst, refl, ap, ◌∙◌, arith, to_z-of_z, rules, int_eq}
+use Rattle.ft_store.proofs.Common.{where_key, Database, state, HasCleanDisk, column_key_cmp, IsPlain, understood, id_in}
 use Rattle.ft_store.specs.Rows.{value_of}
 use Rattle.ft_store.proofs.ChainLemmas.{kept_store, kept_then, reads_then}
 use Rattle.ft_store.proofs.TableLemmas.{listed}
-use Rattle.sqlite.specs.Given.{IsPlain}
-use Rattle.sqlite.specs.Listing.{understood}
-use Rattle.sqlite.specs.Edit.{id_in}
-use Rattle.ft_store.proofs.FoundNumbers.{by_number}
-use Rattle.ft_store.proofs.Texts.{columns_text, skips_text}
-use Rattle.ft_store.proofs.TextLemmas.{columns_means, skips_means}
-use Rattle.ft_store.proofs.AnswerLemmas.{columns_shown, skips_shown}
-use Rattle.ft_store.proofs.AskedLemmas.{columns_blamed, skips_blamed}
+use Rattle.ft_store.proofs.FoundLemmas.{by_number}
+use Rattle.ft_store.proofs.Texts.{columns_text, skips_text, columns_means, skips_means}
+use Rattle.ft_store.proofs.AnswerLemmas.{columns_shown, skips_shown, columns_blamed, skips_blamed}
 use Rattle.ft_store.proofs.BlameLemmas.{blamed_then}
 use Rattle.ft_store.proofs.tables.table.Goals as goal
 
@@ -48,18 +38,6 @@ returns-clause-given g c = record {
   read = record {
     kept = λ clean. kept_then (state g.S.Store c.args.conn.now) (state g.S.Store c.select.new.conn) (state g.S.Store c.select-2.new.conn) (c.select.ensures.given.read.kept (omega (arith, c.select-2.ensures.given.read.survives.clean, clean))) (c.select-2.ensures.given.read.kept clean);
     live = c.in_ok-skipped.ensures.given.read.live;
-    mode = c.select-2.ensures.given.read.mode;
-    survives = reads_then (state g.S.Store c.args.conn.now) (state g.S.Store c.select.new.conn) (state g.S.Store c.select-2.new.conn) c.in_ok-columns.ensures.given.read.live c.select.ensures.given.read.survives c.select-2.ensures.given.read.survives;
-    fault = search rules;
-  };
-}
-
-pub returns-in_err-skipped-clause-given : goal.returns-in_err-skipped-clause-given
-returns-in_err-skipped-clause-given g c = record {
-  rows = search rules;
-  read = record {
-    kept = λ clean. kept_then (state g.S.Store c.args.conn.now) (state g.S.Store c.select.new.conn) (state g.S.Store c.select-2.new.conn) (c.select.ensures.given.read.kept (omega (arith, c.select-2.ensures.given.read.survives.clean, clean))) (c.select-2.ensures.given.read.kept clean);
-    live = search rules;
     mode = c.select-2.ensures.given.read.mode;
     survives = reads_then (state g.S.Store c.args.conn.now) (state g.S.Store c.select.new.conn) (state g.S.Store c.select-2.new.conn) c.in_ok-columns.ensures.given.read.live c.select.ensures.given.read.survives c.select-2.ensures.given.read.survives;
     fault = search rules;

@@ -1,23 +1,11 @@
-use Rattle.std.proofs.Common.{pos, subst, ◌≡◌, map, sym, ap, ◌∙◌, arith, rules, FitsSigned, w64, to_z-of_z}
-use Rattle.std.specs.Prelude.{string_bytes}
-use Rattle.std.proofs.lemmas.List.{take_all}
-use Rattle.sqlite.specs.Effect.{Database}
-use Rattle.sqlite.specs.Held.{state}
-use Rattle.sqlite.specs.State.{HasCleanDisk}
-use Rattle.sqlite_keyed.proofs.ListLemmas.{map-map}
+use Rattle.std.proofs.Common.{pos, subst, ◌≡◌, map, sym, ap, ◌∙◌, arith, rules, FitsSigned, w64, to_z-of_z, string_bytes, take_all, int_cmp}
+use Rattle.ft_store.proofs.Common.{Database, state, HasCleanDisk, map-map, shown_table, table_listed, IsPlain, understood}
 use Rattle.ft_store.specs.Rows.{value_of}
 use Rattle.ft_store.specs.Found.{id_and_name}
-use Rattle.ft_rows.specs.Shown.{shown_table, table_listed}
-use Rattle.ft_store.proofs.CallLemmas.{one_more}
+use Rattle.ft_store.proofs.BlameLemmas.{one_more}
 use Rattle.ft_store.proofs.ChainLemmas.{Reading, reading_then}
-use Rattle.std.specs.Ordering.{int_cmp}
-use Rattle.sqlite.specs.Given.{IsPlain}
-use Rattle.sqlite.specs.Listing.{understood}
-use Rattle.ft_store.proofs.Texts.{names_text}
-use Rattle.ft_store.proofs.TextLemmas.{names_means}
-use Rattle.ft_store.proofs.AnswerLemmas.{names_shown, all_kept}
-use Rattle.ft_store.proofs.AskedLemmas.{names_blamed}
-use Rattle.ft_store.proofs.BlameLemmas.{blamed_then}
+use Rattle.ft_store.proofs.Texts.{names_text, names_means}
+use Rattle.ft_store.proofs.AnswerLemmas.{names_shown, all_kept, names_blamed}
 use Rattle.ft_store.proofs.tables.tables.Goals as goal
 
 pub select-requires : goal.select-requires
@@ -68,9 +56,3 @@ returns-in_err-push-clause-given g c =
 pub returns-in_err-names-clause-refused : goal.returns-in_err-names-clause-refused
 returns-in_err-names-clause-refused g c = λ texts clean is.
     names_blamed (state g.S.Store c.args.conn.now) (state g.S.Store c.select.new.conn) texts (c.requires.store (omega (arith, c.select.ensures.given.read.survives.clean, clean))) (c.select.ensures.refused clean (search rules))
-
-pub returns-in_err-table-clause-refused : goal.returns-in_err-table-clause-refused
-returns-in_err-table-clause-refused g c = λ texts clean is.
-    let was = state g.S.Store c.loop-named.conn in
-    blamed_then (state g.S.Store c.args.conn.now) was (state g.S.Store c.table.new.conn) _ _ (omega (arith, c.table.ensures.given.read.survives.clean, clean)) c.loop-named.invariant.0.survives c.table.ensures.given.read.survives
-    (c.table.ensures.refused clean (search rules))

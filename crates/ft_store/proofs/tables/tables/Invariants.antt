@@ -1,9 +1,7 @@
 use Rattle.std.proofs.Common.{◌≡◌, map, take}
-use Rattle.sqlite.specs.Held.{state}
-use Rattle.sqlite.specs.State.{HasCleanDisk}
+use Rattle.ft_store.proofs.Common.{state, HasCleanDisk, shown_table, table_listed}
 use Rattle.ft_store.specs.Rows.{value_of}
 use Rattle.ft_store.specs.Found.{id_and_name}
-use Rattle.ft_rows.specs.Shown.{shown_table, table_listed}
 use Rattle.ft_store.proofs.ChainLemmas.{Reading}
 use Rattle.ft_store.proofs.tables.tables.Given as goal
 

@@ -1,6 +1,5 @@
 use Rattle.std.proofs.Common.{◌≡◌, ◌∙◌, map, length, ap, arith}
-use Rattle.std.proofs.lemmas.List.{length-map}
-use Rattle.sqlite.specs.Values.{bound}
+use Rattle.ft_store.proofs.Common.{length-map, bound}
 use Rattle.ft_store.specs.Groups.{entry_put}
 use Rattle.ft_store.proofs.MadeLemmas.{eight_made}
 use Rattle.ft_store.proofs.write.add_group.Goals as goal

@@ -1,12 +1,7 @@
-use Rattle.std.proofs.Common.{rules, length, map, arith, inl, inr, refl, ◌+◌, Ok, to_z-of_z}
-use Rattle.std.specs.Prelude.{string_bytes}
-use Rattle.std.specs.List.{enumerate_from}
-use Rattle.std.specs.Ordering.{int_cmp}
-use Rattle.std.specs.FinMap.Entries.{put}
-use Rattle.sqlite.specs.Held.{state}
-use Rattle.ft_rows.specs.Store.{StoreValue, without_rows, with_columns, with_skipped}
+use Rattle.std.proofs.Common.{rules, length, map, arith, inl, inr, refl, ◌+◌, Ok, to_z-of_z, string_bytes, int_cmp}
+use Rattle.ft_store.proofs.Common.{enumerate_from, put, state, StoreValue, without_rows, with_columns, with_skipped}
 use Rattle.ft_store.proofs.InsideLemmas.{gives_up, open_on, changes_then}
-use Rattle.ft_store.proofs.RiseLemmas.{full_since, full_more}
+use Rattle.ft_store.proofs.CantLemmas.{full_since, full_more}
 use Rattle.ft_store.proofs.write.add_table.Goals as goal
 
 pub returns-in_err-rename : goal.returns-in_err-rename

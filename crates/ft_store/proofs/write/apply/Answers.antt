@@ -1,10 +1,7 @@
-use Rattle.std.proofs.Common.{[], ◌∷◌, ap, sym, subst, map, to_z-of_z, FitsSigned, w64, rules}
-use Rattle.std.specs.Prelude.{string_bytes}
-use Rattle.std.proofs.lemmas.List.{length-map}
-use Rattle.ft_values.specs.Cells.{shown_value}
-use Rattle.ft_rows.specs.Store.{AddTable, DropTable, PutCell, DropCells, DropEntries, PutSize, DropSize, ClearIndex, Note}
-use Rattle.ft_rows.specs.Changes.{shown_change}
-use Rattle.ft_store.specs.Changes.{MakesAll}
+use Rattle.std.proofs.Common.{ap, sym, map, to_z-of_z, FitsSigned, w64, rules, string_bytes}
+use Rattle.ft_store.proofs.Common.{length-map, shown_value, AddTable, PutCell, DropCells, DropEntries, PutSize, DropSize, ClearIndex, Note}
+use Rattle.ft_store.proofs.Common.{shown_change}
+use Rattle.ft_rows.specs.Store.{DropTable}
 use Rattle.ft_store.proofs.MadeLemmas.{one_made}
 use Rattle.ft_store.proofs.write.apply.Goals as goal
 
@@ -31,13 +28,6 @@ returns-in-DropCells g c =
     let tab : FitsSigned w64 c.in-DropCells.tab = search rules in
     let docid : FitsSigned w64 c.in-DropCells.docid = search rules in
     one_made g.S.Store _ _ _ (DropCells c.in-DropCells.tab c.in-DropCells.docid) _ (sym (ap shown_change c.in-DropCells.is)) tt (simp (to_z-of_z, tab, docid) at c.drop_cells.ensures)
-
-pub returns-in-PutEntries : goal.returns-in-PutEntries
-returns-in-PutEntries g c =
-    let tab : FitsSigned w64 c.in-PutEntries.tab = search rules in
-    let docid : FitsSigned w64 c.in-PutEntries.docid = search rules in
-    subst (λ x. MakesAll g.S.Store c.args.tx.now.conn c.put_entries.new.tx.conn c.put_entries.result (x ∷ [])) (sym (ap shown_change c.in-PutEntries.is))
-    (simp (to_z-of_z, tab, docid) at (rw (c.as_str-in-PutEntries.ensures.value, c.as_slice-in-PutEntries.ensures.value) at c.put_entries.ensures))
 
 pub returns-in-DropEntries : goal.returns-in-DropEntries
 returns-in-DropEntries g c =

@@ -1,9 +1,6 @@
-use Rattle.std.proofs.Common.{refl, rules, arith, ◌+◌, Ok}
-use Rattle.ft_store.proofs.MadeLemmas.{nothing_made, ends_all, first_made, all_made}
+use Rattle.std.proofs.Common.{rules, arith, ◌+◌, Ok}
+use Rattle.ft_store.proofs.MadeLemmas.{ends_all, first_made, all_made}
 use Rattle.ft_store.proofs.write.apply_all.Goals as goal
-
-pub loop-at-init : goal.loop-at-init
-loop-at-init g c = (omega arith, nothing_made g.S.Store c.args.tx.now.conn tt _ _ refl)
 
 pub loop-at-preserved : goal.loop-at-preserved
 loop-at-preserved g c =

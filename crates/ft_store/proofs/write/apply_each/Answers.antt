@@ -1,10 +1,7 @@
-use Rattle.std.proofs.Common.{refl, rules, subst, arith, ◌+◌, Ok}
+use Rattle.std.proofs.Common.{rules, subst, arith, ◌+◌, Ok}
 use Rattle.ft_store.specs.Changes.{MakesAll}
-use Rattle.ft_store.proofs.MadeLemmas.{nothing_made, ends_all, one_between, first_made, all_made}
+use Rattle.ft_store.proofs.MadeLemmas.{ends_all, one_between, first_made, all_made}
 use Rattle.ft_store.proofs.write.apply_each.Goals as goal
-
-pub loop-change-init : goal.loop-change-init
-loop-change-init g c = nothing_made g.S.Store c.args.tx.now.conn tt _ _ refl
 
 pub loop-change-preserved : goal.loop-change-preserved
 loop-change-preserved g c =

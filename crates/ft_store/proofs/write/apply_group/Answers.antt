@@ -1,6 +1,5 @@
-use Rattle.std.proofs.Common.{[], ap, map, rules, sym, append-nil}
-use Rattle.std.specs.Prelude.{Bool, if◌then◌else◌}
-use Rattle.ft_rows.specs.Changes.{shown_change}
+use Rattle.std.proofs.Common.{[], ap, map, rules, sym, append-nil, Bool, if◌then◌else◌}
+use Rattle.ft_store.proofs.Common.{shown_change}
 use Rattle.ft_store.proofs.MadeLemmas.{made_so, ends_all, part_made}
 use Rattle.ft_store.proofs.write.apply_group.Goals as goal
 

@@ -1,6 +1,5 @@
-use Rattle.std.proofs.Common.{◌≡◌, All, Err, rules, subst, sym}
-use Rattle.std.specs.Prelude.{IfErr}
-use Rattle.ft_rows.specs.Changes.{CanApply}
+use Rattle.std.proofs.Common.{◌≡◌, All, Err, rules, subst, sym, IfErr}
+use Rattle.ft_store.proofs.Common.{CanApply}
 use Rattle.ft_store.specs.Calls.{IsChangeFault}
 use Rattle.ft_store.proofs.MadeLemmas.{all_apply, rows_fault}
 use Rattle.ft_store.proofs.write.change.Goals as goal

@@ -1,5 +1,5 @@
 use Rattle.std.proofs.Common.{[], ◌++◌, Ok, map, refl, rules}
-use Rattle.ft_rows.specs.Changes.{shown_change}
+use Rattle.ft_store.proofs.Common.{shown_change}
 use Rattle.ft_store.proofs.MadeLemmas.{nothing_made, next_is, next_made}
 use Rattle.ft_store.proofs.write.change_parts.Goals as goal
 

@@ -1,5 +1,5 @@
 use Rattle.std.proofs.Common.{◌≡◌, ◌++◌, List, length, Ok}
-use Rattle.ft_rows.specs.Store.{Change}
+use Rattle.ft_store.proofs.Common.{Change}
 use Rattle.ft_store.specs.Parts.{changes_in}
 use Rattle.ft_store.specs.Changes.{MakesSome}
 use Rattle.ft_store.proofs.write.change_parts.Given as goal

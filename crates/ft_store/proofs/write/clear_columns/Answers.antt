@@ -1,6 +1,6 @@
 use Rattle.std.proofs.Common.{rules, to_z-of_z}
 use Rattle.ft_store.specs.Inside.{without_skips, without_columns}
-use Rattle.ft_store.proofs.GoneLemmas.{drop_skips, drop_columns}
+use Rattle.ft_store.proofs.RefusedLemmas.{drop_skips, drop_columns}
 use Rattle.ft_store.proofs.InsideLemmas.{drops_then, gives_up}
 use Rattle.ft_store.proofs.write.clear_columns.Goals as goal
 

@@ -1,9 +1,6 @@
-use Rattle.std.proofs.Common.{◌∙◌, ◌<◌, map, length, ap, sym, arith}
-use Rattle.std.specs.Vec.{vec_items}
-use Rattle.std.proofs.lemmas.List.{length-map, get_or-map}
-use Rattle.sqlite.specs.Values.{bound}
+use Rattle.std.proofs.Common.{◌∙◌, ◌<◌, map, length, ap, sym, arith, vec_items}
+use Rattle.ft_store.proofs.Common.{length-map, get_or-map, bound, RowChange}
 use Rattle.ft_store.specs.Groups.{entry_put}
-use Rattle.ft_values.specs.declared.rows.RowChange.{RowChange}
 use Rattle.ft_store.proofs.GroupLemmas.{one_more_bound}
 use Rattle.ft_store.proofs.write.list_values.Goals as goal
 

@@ -1,6 +1,5 @@
-use Rattle.std.proofs.Common.{◌≡◌, map, take}
-use Rattle.std.specs.List.{flat_map}
-use Rattle.sqlite.specs.Values.{bound}
+use Rattle.std.proofs.Common.{◌≡◌, map, take, flat_map}
+use Rattle.ft_store.proofs.Common.{bound}
 use Rattle.ft_store.specs.Groups.{entry_values, entry_put}
 use Rattle.ft_store.proofs.write.list_values.Given as goal
 

@@ -1,10 +1,7 @@
-use Rattle.std.proofs.Common.{◌∙◌, map, ap, sym, subst}
-use Rattle.std.specs.Vec.{vec_items}
-use Rattle.std.proofs.lemmas.List.{map_push}
-use Rattle.std.proofs.lemmas.List.Elements.{All-more}
+use Rattle.std.proofs.Common.{◌∙◌, map, ap, sym, subst, vec_items}
+use Rattle.ft_store.proofs.Common.{map_push, All-more, RowChange}
 use Rattle.ft_rows.specs.Packed.{CanPack, packed}
 use Rattle.ft_store.specs.Groups.{entry_put, PutsList}
-use Rattle.ft_values.specs.declared.rows.RowChange.{RowChange}
 use Rattle.ft_store.proofs.GroupLemmas.{one_more_list}
 use Rattle.ft_store.proofs.write.packed_lists.Goals as goal
 

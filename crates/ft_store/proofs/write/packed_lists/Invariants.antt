@@ -1,5 +1,4 @@
-use Rattle.std.proofs.Common.{◌≡◌, map, take, All}
-use Rattle.std.specs.Vec.{vec_items}
+use Rattle.std.proofs.Common.{◌≡◌, map, take, All, vec_items}
 use Rattle.ft_store.specs.Groups.{entry_put, PutsList}
 use Rattle.ft_store.proofs.write.packed_lists.Given as goal
 

@@ -1,19 +1,9 @@
-use Rattle.std.proofs.Common.{rules, length, take, map, subst, refl, inl, inr, Ok, ◌+◌, ℤ, List, arith, to_z-of_z}
-use Rattle.std.specs.Prelude.{String, string_bytes}
-use Rattle.std.specs.List.{enumerate_from}
-use Rattle.std.specs.declared.alloc.Global.{Global}
-use Rattle.std.proofs.lemmas.Int.{ints}
-use Rattle.std.proofs.lemmas.List.{take_all}
-use Rattle.sqlite.specs.Held.{state}
-use Rattle.ft_rows.specs.Store.{with_columns}
+use Rattle.std.proofs.Common.{rules, length, take, map, subst, refl, inl, inr, Ok, ◌+◌, ℤ, List, arith, to_z-of_z, String, string_bytes, take_all}
+use Rattle.ft_store.proofs.Common.{enumerate_from, Global, ints, state, with_columns}
 use Rattle.ft_store.specs.Changes.{ChangesIfOpen}
-use Rattle.ft_store.proofs.CantLemmas.{room_left, big_name}
-use Rattle.ft_store.proofs.RiseLemmas.{full_since, full_more}
-use Rattle.ft_store.proofs.InsideLemmas.{if_open, columns_on, stops, nothing_done, open_then}
+use Rattle.ft_store.proofs.CantLemmas.{room_left, big_name, full_since, full_more}
+use Rattle.ft_store.proofs.InsideLemmas.{if_open, columns_on, stops, open_then}
 use Rattle.ft_store.proofs.write.put_columns.Goals as goal
-
-pub loop-at-init : goal.loop-at-init
-loop-at-init g c = nothing_done g.S.Store c.args.tx.now.conn
 
 pub loop-at-preserved : goal.loop-at-preserved
 loop-at-preserved g c =

@@ -1,7 +1,5 @@
-use Rattle.std.proofs.Common.{map, take, length, Ok}
-use Rattle.std.specs.Prelude.{string_bytes}
-use Rattle.std.specs.List.{enumerate_from}
-use Rattle.ft_rows.specs.Store.{with_columns}
+use Rattle.std.proofs.Common.{map, take, length, Ok, string_bytes}
+use Rattle.ft_store.proofs.Common.{enumerate_from, with_columns}
 use Rattle.ft_store.specs.Changes.{ChangesIfOpen}
 use Rattle.ft_store.proofs.write.put_columns.Given as goal
 

@@ -1,5 +1,5 @@
 use Rattle.std.proofs.Common.{refl, to_z-of_z}
-use Rattle.ft_rows.specs.Store.{PutEntries}
+use Rattle.ft_store.proofs.Common.{PutEntries}
 use Rattle.ft_store.proofs.MadeLemmas.{one_made}
 use Rattle.ft_store.proofs.PutLemmas.{packed_back}
 use Rattle.ft_store.proofs.write.put_entries.Goals as goal

@@ -1,15 +1,9 @@
-use Rattle.std.proofs.Common.{rules, length, take, subst, refl, Ok, ◌+◌, ℤ, List, pos, get_or, FitsSigned, w64, to_z-of_z}
-use Rattle.std.proofs.lemmas.List.{take_all}
-use Rattle.sqlite.specs.Held.{state}
-use Rattle.ft_rows.specs.Store.{with_skipped}
+use Rattle.std.proofs.Common.{rules, length, take, subst, refl, Ok, ◌+◌, ℤ, List, pos, get_or, FitsSigned, w64, to_z-of_z, take_all}
+use Rattle.ft_store.proofs.Common.{state, with_skipped}
 use Rattle.ft_store.specs.Changes.{ChangesIfOpen}
-use Rattle.ft_store.proofs.CantLemmas.{room_left}
-use Rattle.ft_store.proofs.RiseLemmas.{full_since, full_more}
-use Rattle.ft_store.proofs.InsideLemmas.{if_open, skips_on, stops, nothing_done, open_then}
+use Rattle.ft_store.proofs.CantLemmas.{room_left, full_since, full_more}
+use Rattle.ft_store.proofs.InsideLemmas.{if_open, skips_on, stops, open_then}
 use Rattle.ft_store.proofs.write.put_skips.Goals as goal
-
-pub loop-column-init : goal.loop-column-init
-loop-column-init g c = nothing_done g.S.Store c.args.tx.now.conn
 
 pub loop-column-preserved : goal.loop-column-preserved
 loop-column-preserved g c =

@@ -1,5 +1,5 @@
 use Rattle.std.proofs.Common.{take, length, Ok}
-use Rattle.ft_rows.specs.Store.{with_skipped}
+use Rattle.ft_store.proofs.Common.{with_skipped}
 use Rattle.ft_store.specs.Changes.{ChangesIfOpen}
 use Rattle.ft_store.proofs.write.put_skips.Given as goal
 

@@ -1,11 +1,5 @@
-use Rattle.std.proofs.Common.{[], ◌∷◌, ℕ, Ok, arith, inl, inr, refl, subst, to_z-of_z}
-use Rattle.std.proofs.lemmas.Result.{on_ok_weaker}
-use Rattle.std.specs.Ordering.{int_cmp}
-use Rattle.std.specs.FinMap.Entries.{put}
-use Rattle.sqlite.specs.Held.{state}
-use Rattle.sqlite.specs.State.{ExecutesInside, HasCleanDisk}
-use Rattle.sqlite.specs.declared.types.Value.TheVariants.{Int, Text}
-use Rattle.ft_rows.specs.Store.{StoreValue}
+use Rattle.std.proofs.Common.{[], ◌∷◌, ℕ, Ok, arith, inl, inr, refl, subst, to_z-of_z, int_cmp}
+use Rattle.ft_store.proofs.Common.{on_ok_weaker, put, state, ExecutesInside, HasCleanDisk, Int, Text, StoreValue}
 use Rattle.ft_store.specs.Rows.{value_of}
 use Rattle.ft_store.specs.Calls.{IsPlainFault}
 use Rattle.ft_store.specs.Puts.{IsOthers}
@@ -14,7 +8,7 @@ use Rattle.ft_store.proofs.AddNameLemmas.{adds_name, add_name_why, others_before
 use Rattle.ft_store.proofs.BlameLemmas.{blamed_then}
 use Rattle.ft_store.proofs.InsideLemmas.{stays_then}
 use Rattle.ft_store.proofs.PutLemmas.{then_step, free_table}
-use Rattle.ft_store.proofs.RiseLemmas.{trees_then}
+use Rattle.ft_store.proofs.CantLemmas.{trees_then}
 use Rattle.ft_store.proofs.write.rename.Goals as goal
 
 pub returns : goal.returns

@@ -1,10 +1,6 @@
-use Rattle.std.proofs.Common.{rules, ◌<ℤ◌, ◌≡◌, FitsSigned, w64, to_z-of_z, ap, true≢false, sym, ◌∙◌}
-use Rattle.sqlite.specs.declared.types.Value.TheVariants.{Int}
-use Rattle.sqlite_rules.specs.Edit.{id_in}
-use Rattle.sqlite_trees.specs.Tree.{rowid}
-use Rattle.std.specs.Prelude.{IfSome}
-use Rattle.ft_store.proofs.ScanLemmas.{joined_on}
-use Rattle.ft_store.proofs.ExamineLemmas.{rises_on, last_there}
+use Rattle.std.proofs.Common.{rules, ◌<ℤ◌, ◌≡◌, FitsSigned, w64, to_z-of_z, ap, true≢false, sym, ◌∙◌, IfSome}
+use Rattle.ft_store.proofs.Common.{Int, id_in, rowid}
+use Rattle.ft_store.proofs.ExamineLemmas.{joined_on, rises_on, last_there}
 use Rattle.ft_store.proofs.examine.RisingGathered.add.Goals as goal
 
 pub returns-then-whole-clause-added : goal.returns-then-whole-clause-added

@@ -1,10 +1,7 @@
 use Rattle.std.proofs.Common.{◌≡◌, ◌≢◌, List, [], ◌++◌, ◌∙◌, map, ap₂, rules, IsUtf8}
-use Rattle.sqlite.specs.Order.{column}
-use Rattle.sqlite_value.specs.Order.{bytes}
+use Rattle.ft_store.proofs.Common.{column, bytes, ListKey, shown_entry, entries_with, entries_of_list}
 use Rattle.ft_values.specs.declared.rows.Spot.{Spot}
-use Rattle.ft_rows.specs.Store.{ListKey}
 use Rattle.ft_store.specs.Found.{found_spots, found_places}
-use Rattle.ft_rows.specs.Shown.{shown_entry, entries_with, entries_of_list}
 use Rattle.ft_store.proofs.EntryLemmas.{all_more, others_more, other_last, entries_more}
 use Rattle.ft_store.proofs.lists.EntriesOfGathered.add.Goals as goal
 

@@ -1,8 +1,6 @@
 -- what is found is taken or not, and its rowids are apart since it comes from files
 use Rattle.std.proofs.Common.{inr, sym, subst}
-use Rattle.std.proofs.lemmas.Result.{IfOk-weaker, IfErr-weaker}
-use Rattle.sqlite.specs.Effect.{Database}
-use Rattle.sqlite.specs.Files.{AreFoundIn}
+use Rattle.ft_store.proofs.Common.{IfOk-weaker, IfErr-weaker, Database, AreFoundIn}
 use Rattle.sqlite_wal.specs.Files.{image_at}
 use Rattle.ft_store.proofs.FoundLemmas.{found_numbered}
 use Rattle.ft_store.proofs.store.Store+FileStore+FileFrom+B.open_from.Goals as goal

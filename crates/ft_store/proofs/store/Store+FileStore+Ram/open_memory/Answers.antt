@@ -1,5 +1,5 @@
 use Rattle.std.proofs.Common.{refl}
-use Rattle.std.proofs.lemmas.Result.{IfOk-weaker}
+use Rattle.ft_store.proofs.Common.{IfOk-weaker}
 use Rattle.ram_disk.specs.Clean.{never_lies_is_clean}
 use Rattle.ft_store.proofs.store.Store+FileStore+Ram.open_memory.Goals as goal
 

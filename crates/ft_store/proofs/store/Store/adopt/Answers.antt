@@ -1,7 +1,6 @@
-use Rattle.std.proofs.Common.{inl, inr, rules, ◌≡◌, sym, refl, length, map, List, [], ◌∷◌, ◌∙◌}
-use Rattle.std.specs.Prelude.{ℤ, pos}
+use Rattle.std.proofs.Common.{inl, inr, rules, ◌≡◌, sym, refl, length, map, List, [], ◌∷◌, ◌∙◌, ℤ, pos}
+use Rattle.ft_store.proofs.Common.{Row, column}
 use Rattle.sqlite_catalog.proofs.ReadLemmas.{lists_once}
-use Rattle.sqlite.specs.Order.{Row, column}
 use Rattle.sqlite.specs.declared.types.Value.TheVariants as value
 use Rattle.ft_store.specs.Tables.{store_schema}
 use Rattle.ft_store.specs.Older.{older_schema}

@@ -1,11 +1,7 @@
 use Rattle.std.proofs.Common.{rules, sym, subst, ◌∙◌, arith, to_z-of_z}
-use Rattle.sqlite.specs.Given.{IsPlain}
-use Rattle.sqlite.specs.Listing.{understood}
-use Rattle.sqlite.specs.Held.{state}
-use Rattle.ft_store.proofs.Texts.{cells_text}
-use Rattle.ft_store.proofs.TextLemmas.{cells_means}
-use Rattle.ft_store.proofs.AnswerLemmas.{cells_shown}
-use Rattle.ft_store.proofs.AskedLemmas.{cells_blamed}
+use Rattle.ft_store.proofs.Common.{IsPlain, understood, state}
+use Rattle.ft_store.proofs.Texts.{cells_text, cells_means}
+use Rattle.ft_store.proofs.AnswerLemmas.{cells_shown, cells_blamed}
 use Rattle.ft_store.proofs.store.Store.cells.Goals as goal
 
 pub select-requires : goal.select-requires

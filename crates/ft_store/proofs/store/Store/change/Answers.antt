@@ -1,7 +1,5 @@
 use Rattle.std.proofs.Common.{ap, map, not, ◌∙◌}
-use Rattle.sqlite.specs.Held.{state}
-use Rattle.ft_rows.specs.Changes.{shown_change}
-use Rattle.ft_rows.specs.Store.{all_applied}
+use Rattle.ft_store.proofs.Common.{state, shown_change, all_applied}
 use Rattle.ft_store.specs.Kept.{value_in}
 use Rattle.ft_store.proofs.ChainLemmas.{stored_trees}
 use Rattle.ft_store.proofs.store.Store.change.Goals as goal

@@ -1,12 +1,9 @@
 use Rattle.std.proofs.Common.{rules, FitsSigned, w64, sym, subst, ◌∙◌, arith, to_z-of_z}
-use Rattle.sqlite.specs.Given.{IsPlain}
-use Rattle.sqlite.specs.Listing.{understood}
-use Rattle.sqlite.specs.Held.{state}
-use Rattle.ft_store.proofs.Texts.{docids_text}
-use Rattle.ft_store.proofs.TextLemmas.{docids_means}
-use Rattle.ft_store.proofs.FoundNumbers.{numbers_in}
-use Rattle.ft_store.proofs.DocidLemmas.{docids_shown}
-use Rattle.ft_store.proofs.AskedLemmas.{docids_blamed}
+use Rattle.ft_store.proofs.Common.{IsPlain, understood, state}
+use Rattle.ft_store.proofs.Texts.{docids_text, docids_means}
+use Rattle.ft_store.proofs.FoundLemmas.{numbers_in}
+use Rattle.ft_store.proofs.LastLemmas.{docids_shown}
+use Rattle.ft_store.proofs.AnswerLemmas.{docids_blamed}
 use Rattle.ft_store.proofs.store.Store.docids.Goals as goal
 
 pub select-requires : goal.select-requires

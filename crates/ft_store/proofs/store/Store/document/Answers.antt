@@ -1,11 +1,7 @@
 use Rattle.std.proofs.Common.{rules, sym, subst, ◌∙◌, arith, to_z-of_z}
-use Rattle.sqlite.specs.Given.{IsPlain}
-use Rattle.sqlite.specs.Listing.{understood}
-use Rattle.sqlite.specs.Held.{state}
-use Rattle.ft_store.proofs.Texts.{document_text}
-use Rattle.ft_store.proofs.TextLemmas.{document_means}
-use Rattle.ft_store.proofs.AnswerLemmas.{document_shown}
-use Rattle.ft_store.proofs.AskedLemmas.{document_blamed}
+use Rattle.ft_store.proofs.Common.{IsPlain, understood, state}
+use Rattle.ft_store.proofs.Texts.{document_text, document_means}
+use Rattle.ft_store.proofs.AnswerLemmas.{document_shown, document_blamed}
 use Rattle.ft_store.proofs.store.Store.document.Goals as goal
 
 pub select-requires : goal.select-requires

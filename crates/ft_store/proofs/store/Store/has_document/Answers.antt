@@ -1,12 +1,9 @@
 use Rattle.std.proofs.Common.{rules, not, ◌==◌, sym, ap, subst, ◌∙◌, arith, to_z-of_z}
-use Rattle.sqlite.specs.Given.{IsPlain}
-use Rattle.sqlite.specs.Listing.{understood}
-use Rattle.sqlite.specs.Held.{state}
-use Rattle.ft_store.proofs.Texts.{has_document_text}
-use Rattle.ft_store.proofs.TextLemmas.{has_document_means}
-use Rattle.ft_store.proofs.FoundNumbers.{some_number}
-use Rattle.ft_store.proofs.DocidLemmas.{some_row, document_found}
-use Rattle.ft_store.proofs.AskedLemmas.{has_document_blamed}
+use Rattle.ft_store.proofs.Common.{IsPlain, understood, state}
+use Rattle.ft_store.proofs.Texts.{has_document_text, has_document_means}
+use Rattle.ft_store.proofs.FoundLemmas.{some_number}
+use Rattle.ft_store.proofs.LastLemmas.{some_row, document_found}
+use Rattle.ft_store.proofs.AnswerLemmas.{has_document_blamed}
 use Rattle.ft_store.proofs.store.Store.has_document.Goals as goal
 
 pub select-requires : goal.select-requires

@@ -1,4 +1,4 @@
-use Rattle.sqlite_catalog.specs.Listing.{IsSound}
+use Rattle.ft_store.proofs.Common.{IsSound}
 use Rattle.std.proofs.Common.{subst}
 use Rattle.ft_store.specs.Kept.{IsKept, shows}
 use Rattle.ft_store.proofs.NamedLemmas.{in_order, named_apart}

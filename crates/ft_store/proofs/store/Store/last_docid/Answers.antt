@@ -1,13 +1,9 @@
-use Rattle.std.proofs.Common.{rules, sym, subst, ◌∙◌, arith, to_z-of_z, ap}
-use Rattle.std.specs.Prelude.{slice_get}
-use Rattle.sqlite.specs.Given.{IsPlain}
-use Rattle.sqlite.specs.Listing.{understood}
-use Rattle.sqlite.specs.Held.{state}
-use Rattle.ft_store.proofs.Texts.{last_text}
-use Rattle.ft_store.proofs.TextLemmas.{last_means}
+use Rattle.std.proofs.Common.{rules, sym, subst, ◌∙◌, arith, to_z-of_z, ap, slice_get}
+use Rattle.ft_store.proofs.Common.{IsPlain, understood, state}
+use Rattle.ft_store.proofs.Texts.{last_text, last_means}
 use Rattle.ft_store.proofs.LastLemmas.{last_shown}
-use Rattle.ft_store.proofs.FoundNumbers.{first_number}
-use Rattle.ft_store.proofs.AskedLemmas.{last_blamed}
+use Rattle.ft_store.proofs.FoundLemmas.{first_number}
+use Rattle.ft_store.proofs.AnswerLemmas.{last_blamed}
 use Rattle.ft_store.proofs.store.Store.last_docid.Goals as goal
 
 pub select-requires : goal.select-requires

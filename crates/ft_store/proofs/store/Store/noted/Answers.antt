@@ -1,12 +1,7 @@
 use Rattle.std.proofs.Common.{rules, pos, sym, subst, ◌∙◌, arith}
-use Rattle.sqlite.specs.Given.{IsPlain}
-use Rattle.sqlite.specs.Listing.{understood}
-use Rattle.sqlite.specs.Held.{state}
-use Rattle.ft_rows.specs.Store.{name_cmp}
-use Rattle.ft_store.proofs.Texts.{noted_text}
-use Rattle.ft_store.proofs.TextLemmas.{noted_means}
-use Rattle.ft_store.proofs.AnswerLemmas.{noted_shown, all_kept}
-use Rattle.ft_store.proofs.AskedLemmas.{noted_blamed}
+use Rattle.ft_store.proofs.Common.{IsPlain, understood, state, name_cmp}
+use Rattle.ft_store.proofs.Texts.{noted_text, noted_means}
+use Rattle.ft_store.proofs.AnswerLemmas.{noted_shown, all_kept, noted_blamed}
 use Rattle.ft_store.proofs.store.Store.noted.Goals as goal
 
 pub select-requires : goal.select-requires

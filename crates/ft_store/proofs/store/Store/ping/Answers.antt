@@ -1,10 +1,9 @@
 -- where it is refused, nothing is run
 use Rattle.std.proofs.Common.{not, [], refl, ap, ◌∙◌, subst, rules, arith}
-use Rattle.sqlite.specs.Held.{state}
+use Rattle.ft_store.proofs.Common.{state}
 use Rattle.ft_store.specs.Kept.{Pings, StoreState}
-use Rattle.ft_store.proofs.AskedLemmas.{nothing_blamed}
-use Rattle.ft_store.proofs.BlameLemmas.{not_memory}
-use Rattle.ft_store.proofs.CallLemmas.{kept_either, not_run}
+use Rattle.ft_store.proofs.AnswerLemmas.{nothing_blamed}
+use Rattle.ft_store.proofs.BlameLemmas.{not_memory, kept_either, not_run}
 use Rattle.ft_store.proofs.ChainLemmas.{kept_store}
 use Rattle.ft_store.proofs.store.Store.ping.Goals as goal
 

@@ -1,11 +1,7 @@
 use Rattle.std.proofs.Common.{rules, to_z-of_z, sym, subst, ◌∙◌, arith}
-use Rattle.sqlite.specs.Given.{IsPlain}
-use Rattle.sqlite.specs.Listing.{understood}
-use Rattle.sqlite.specs.Held.{state}
-use Rattle.ft_store.proofs.Texts.{sizes_text}
-use Rattle.ft_store.proofs.TextLemmas.{sizes_means}
-use Rattle.ft_store.proofs.AnswerLemmas.{sizes_shown}
-use Rattle.ft_store.proofs.AskedLemmas.{sizes_blamed}
+use Rattle.ft_store.proofs.Common.{IsPlain, understood, state}
+use Rattle.ft_store.proofs.Texts.{sizes_text, sizes_means}
+use Rattle.ft_store.proofs.AnswerLemmas.{sizes_shown, sizes_blamed}
 use Rattle.ft_store.proofs.store.Store.sizes.Goals as goal
 
 pub select-requires : goal.select-requires

@@ -1,5 +1,5 @@
 use Rattle.std.proofs.Common.{rules}
-use Rattle.std.proofs.lemmas.Result.{IfErr-weaker}
+use Rattle.ft_store.proofs.Common.{IfErr-weaker}
 use Rattle.ft_store.specs.Adopted.{IsNotTaken}
 use Rattle.ft_store.proofs.store.Store.taken.Goals as goal
 

@@ -1,8 +1,6 @@
-use Rattle.std.proofs.Common.{map, ap, ◌∙◌, to_z-of_z}
-use Rattle.std.specs.List.{flat_map}
-use Rattle.sqlite.specs.Held.{state}
+use Rattle.std.proofs.Common.{map, ap, ◌∙◌, to_z-of_z, flat_map}
+use Rattle.ft_store.proofs.Common.{state, shown_list, entries_with}
 use Rattle.ft_store.specs.Rows.{value_of}
-use Rattle.ft_rows.specs.Shown.{shown_list, entries_with}
 use Rattle.ft_store.proofs.EntryLemmas.{term_entries}
 use Rattle.ft_store.proofs.store.Store.term.Goals as goal
 
