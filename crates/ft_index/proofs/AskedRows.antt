@@ -1,12 +1,10 @@
 -- How many rows a Select reads. The two messages are those of the SQLite document "SQLite FTS3 and
 -- FTS4 Extensions", "The Offsets Function"; the searches are own examples.
-use Rattle.std.specs.Prelude.{◌≡◌, ℕ, true, List, [], ◌∷◌, Option, Some, None, pos, codes, refl}
+use Rattle.std.proofs.Common.{◌≡◌, ℕ, true, List, [], ◌∷◌, Option, Some, None, pos, codes}
+use Rattle.ft_index.proofs.Common.{Text, Content, Docid, Match, AllColumns, Named, OffsetsOf, Items, Counted, Listed, reading, chosen, rows_asked}
+use Rattle.std.specs.Prelude.{refl}
 use Rattle.ft_query.specs.Reads.{query_of}
-use Rattle.ft_values.specs.Cells.{Text}
-use Rattle.ft_content.specs.Content.{Content}
-use Rattle.ft_content.specs.Command.{All, Docid, Match, AllColumns, Named, OffsetsOf, Items, Counted, Listed}
-use Rattle.ft_content.specs.Answer.{reading, chosen}
-use Rattle.ft_index.specs.RowsRead.{rows_asked}
+use Rattle.ft_content.specs.Command.{All}
 
 abbrev mail : Content
 mail = record {

@@ -1,30 +1,19 @@
 -- Rewrites of the documents that are chosen.
-use Rattle.std.proofs.Common.{◌≡◌, ℕ, Bool, true, false, cond, not, List, [], ◌∷◌, ◌++◌, map, filter, Option, Some, None, ℤ, refl, sym, ap, subst, ◌∙◌}
-use Rattle.std.specs.Prelude.{Contains, flat_map}
-use Rattle.std.specs.List.{AllByRecursion}
-use Rattle.std.specs.declared.cmp.Ordering.{Ordering}
-use Rattle.std.specs.declared.cmp.Ordering.TheVariants.{Less, Greater}
-use Rattle.std.specs.Ordering.{int_cmp, is_lt, is_eq, ordering_reverse}
-use Rattle.std.specs.Cmp.{int_cmp_total, tied_itself}
-use Rattle.std.specs.FinMap.Entries.{put, find, by_order, below_all, is_sorted}
-use Rattle.std.proofs.lemmas.Bool.{and_parts, and_from}
-use Rattle.std.proofs.lemmas.List.Elements.{All-contains_itself, recursion_from_All}
-use Rattle.ft_values.specs.Cells.{Cell}
-use Rattle.ft_content.specs.Content.{Content, Documents, IsContent}
-use Rattle.ft_content.specs.Command.{Filter}
-use Rattle.ft_content.specs.Answer.{is_chosen, chosen}
-use Rattle.ft_content.specs.Step.{without_docid, docids_of}
-use Rattle.ft_documents.specs.Rewrite.{Rewrite, under_docids, rewritten, with_cells, document_if}
-use Rattle.ft_index.specs.Written.{LeadsTo}
-use Rattle.ft_documents.proofs.KeyedRows.{less}
-use Rattle.ft_documents.proofs.ChosenLemmas.{AreFound, all_found, less_apart}
+use Rattle.std.proofs.Common.{◌≡◌, ℕ, Bool, true, false, cond, not, List, [], ◌∷◌, ◌++◌, map, filter, Option, Some, None, ℤ, refl, sym, ap, subst, ◌∙◌, Contains, flat_map, Ordering, Less, Greater, int_cmp, is_lt, is_eq}
+use Rattle.ft_index.proofs.Common.{eq_by_cmp_equiv, AllByRecursion, ordering_reverse, int_cmp_total, tied_itself, put, find, by_order, below_all}
+use Rattle.ft_index.proofs.Common.{is_sorted, and_parts, and_from, recursion_from_All, Cell, Content, Documents, IsContent, Filter, is_chosen, chosen}
+use Rattle.ft_index.proofs.Common.{without_docid, docids_of, Rewrite, under_docids, rewritten, document_if, LeadsTo}
+use Rattle.std.proofs.lemmas.List.Elements.{All-contains_itself}
+use Rattle.ft_documents.specs.Rewrite.{with_cells}
+use Rattle.ft_index.proofs.OneTable.{less}
+use Rattle.ft_documents.proofs.ChosenLemmas.{AreFound, all_found}
 use Rattle.ft_documents.proofs.InsertOf.{are_of}
 
 -- ---- what rewrites leave alone
 
 -- a rewrite of a later document
 later : (d : ℤ × List Cell) (ds : Documents) (docid : ℤ) (after : Option (List Cell)) → is_lt (int_cmp d.0 docid) ≡ true → with_cells docid after (d ∷ ds) ≡ d ∷ with_cells docid after ds
-later d ds docid None below = ap (λ b. cond (not b) (d ∷ without_docid docid ds) (without_docid docid ds)) (less_apart d.0 docid below)
+later d ds docid None below = ap (λ b. cond (not b) (d ∷ without_docid docid ds) (without_docid docid ds)) ((eq_by_cmp_equiv int_cmp_total).symm docid d.0 ∙ ap is_eq (less _ below))
 later d ds docid (Some cells) below =
     let greater : int_cmp docid d.0 ≡ Greater = int_cmp_total.antisymm docid d.0 ∙ ap ordering_reverse (less _ below) in
     ap (λ o. by_order o ((docid, cells) ∷ d ∷ ds) ((d.0, cells) ∷ ds) (d ∷ put int_cmp docid cells ds)) greater

@@ -1,23 +1,15 @@
 -- What a Delete writes.
-use Rattle.std.proofs.Common.{◌≡◌, ◌⊎◌, inl, inr, ℕ, Bool, true, false, cond, not, List, [], ◌∷◌, ◌++◌, map, filter, Option, Some, None, ℤ, refl, sym, ap, ◌∙◌}
-use Rattle.std.specs.Prelude.{◌≢◌}
-use Rattle.ft_values.specs.Cells.{Cell}
-use Rattle.ft_values.specs.declared.fault.Fault.{Fault}
+use Rattle.std.proofs.Common.{◌≡◌, ◌⊎◌, inl, inr, ℕ, Bool, true, false, cond, not, List, [], ◌∷◌, ◌++◌, map, filter, Option, Some, None, ℤ, refl, sym, ap, ◌∙◌, ◌≢◌}
+use Rattle.ft_index.proofs.Common.{Cell, Fault, Content, Documents, IsContent, Filter, Delete, Done, is_chosen, chosen, bare_content, column_of}
+use Rattle.ft_index.proofs.Common.{Contents, first_of, or_else, delete_tests, query_fault, deserved, deleted, docids_of, with_documents, on_table}
+use Rattle.ft_index.proofs.Common.{after, touched, reply_to, removal, LeadsTo, WritesTable}
 use Rattle.ft_values.specs.declared.fault.Fault.TheVariants as faults
 use Rattle.ft_values.specs.declared.table.Column as source
-use Rattle.ft_content.specs.Content.{Content, Documents, IsContent}
-use Rattle.ft_content.specs.Command.{Filter, Delete, Done}
-use Rattle.ft_content.specs.Answer.{is_chosen, chosen}
-use Rattle.ft_content.specs.Views.{bare_content, column_of}
-use Rattle.ft_content.specs.Deserved.{Contents, first_of, or_else, delete_tests, delete_fault, query_fault, deserved}
-use Rattle.ft_content.specs.Step.{deleted, docids_of, with_documents, on_table, after, touched, reply_to}
+use Rattle.ft_content.specs.Deserved.{delete_fault}
 use Rattle.ft_content.proofs.ContentLemmas.{delete_keeps_content}
-use Rattle.ft_documents.specs.Rewrite.{removal}
-use Rattle.ft_index.specs.Written.{LeadsTo, WritesTable}
 use Rattle.ft_index.proofs.SelectAnswers.{unnamed_bare, query_bare}
-use Rattle.ft_documents.proofs.FaultLemmas.{memory_or}
 use Rattle.ft_index.proofs.ChosenWrites.{each_rewritten, chosen_lead, own_docids}
-use Rattle.ft_index.proofs.Writing.{IsWrite}
+use Rattle.ft_index.proofs.Writing.{IsWrite, memory_or}
 
 abbrev none_after : ℤ × List Cell → Option (List Cell)
 none_after d = None

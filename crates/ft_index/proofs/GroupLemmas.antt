@@ -1,34 +1,15 @@
 -- Documents that are written group by group.
-use Rattle.std.proofs.Common.{◌≡◌, inr, Ok, Err, Result, List, [], ◌∷◌, ◌++◌, map, Option, Some, None, ℤ, pos, refl, sym, ap, subst, ◌∙◌, append-nil, cond, IsTrue}
-use Rattle.ft_index.specs.Kept.{IsOutside}
-use Rattle.ft_index.specs.Changed.{MakesRows}
-use Rattle.sqlite.specs.State.{HasCleanDisk}
+use Rattle.std.proofs.Common.{◌≡◌, inr, Ok, Err, Result, List, [], ◌∷◌, ◌++◌, map, Option, Some, None, ℤ, pos, refl, sym, ap, subst, ◌∙◌, append-nil, cond, IsTrue, All, Vec, is_ok, OnOk, IfErr, Global, flat_map, vec_items}
+use Rattle.ft_index.proofs.Common.{IsOutside, MakesRows, HasCleanDisk, All-nil, Ghosts, Change, all_applied, StoreState, shows, value_in, changes_in}
+use Rattle.ft_index.proofs.Common.{RowChange, Fault, Column, column_of, Rewrite, AreOf, AreRight, shown_rewrite, rewritten_docids, IsOfDocids}
+use Rattle.ft_index.proofs.Common.{Written, table_change, AreRewrites, alone, behind, first_parts, MakesWritten, MakesAnew}
 use Rattle.sqlite_keyed.proofs.ListLemmas.{flat_map-map, map-flat_map}
-use Rattle.std.specs.Prelude.{All, Vec, is_ok, OnOk, IfErr}
-use Rattle.std.specs.declared.alloc.Global.{Global}
-use Rattle.std.specs.List.{flat_map}
-use Rattle.std.specs.Vec.{vec_items}
-use Rattle.std.proofs.lemmas.List.Elements.{All-nil}
-use Rattle.sqlite.specs.Store.{Ghosts}
-use Rattle.ft_rows.specs.Store.{Change, all_applied}
-use Rattle.ft_store.specs.Kept.{StoreState, shows, value_in}
-use Rattle.ft_store.specs.Parts.{changes_in}
-use Rattle.ft_values.specs.declared.rows.RowChange.{RowChange}
-use Rattle.ft_values.specs.declared.fault.Fault.{Fault}
 use Rattle.ft_values.specs.declared.fault.Fault.TheVariants as faults
-use Rattle.ft_content.specs.Content.{Column}
-use Rattle.ft_content.specs.Views.{column_of}
 use Rattle.ft_documents.specs.declared.rewrite.Rewrite as source
-use Rattle.ft_documents.specs.Rewrite.{Rewrite, AreOf, AreRight, shown_rewrite, rewritten_docids}
 use Rattle.ft_documents.specs.RewriteRows.{rewrite_changes}
-use Rattle.ft_documents.specs.Tables.{IsOfDocids}
 use Rattle.ft_documents.proofs.GroupsRight.{groups_right, groups_near}
-use Rattle.ft_index.specs.declared.written.Written.{Written}
-use Rattle.ft_index.specs.Planned.{table_change}
-use Rattle.ft_index.specs.Refused.{AreRewrites, alone, behind}
-use Rattle.ft_index.specs.Written.{first_parts, AreOfWritten, IsOfContent, MakesWritten, MakesAnew}
-use Rattle.ft_index.proofs.Blaming.{no_rewrites}
-use Rattle.ft_index.proofs.ReadsLemmas.{nothing_done}
+use Rattle.ft_index.specs.Written.{AreOfWritten, IsOfContent}
+use Rattle.ft_index.proofs.Doing.{no_rewrites, nothing_done}
 
 abbrev Groups : Type 0
 Groups = List (Vec source.Rewrite Global)

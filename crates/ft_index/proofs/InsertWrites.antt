@@ -1,25 +1,16 @@
 -- What an Insert writes.
-use Rattle.std.proofs.Common.{◌≡◌, inl, inr, ℕ, Bool, true, false, cond, not, List, [], ◌∷◌, map, filter, zip, Option, Some, None, Result, Ok, Err, ℤ, refl, sym, ap, subst, ◌∙◌}
-use Rattle.std.proofs.lemmas.List.Elements.{Contains-append_left, Contains-append_right, Contains-push}
-use Rattle.sqlite_keyed.proofs.KeyedLemmas.{same_int}
-use Rattle.std.specs.Prelude.{Contains, Vec, unwrap_or, is_some}
-use Rattle.std.specs.declared.alloc.Global.{Global}
-use Rattle.std.specs.List.{AllByRecursion}
-use Rattle.std.specs.Ordering.{int_cmp, int_eq}
-use Rattle.std.specs.FinMap.Entries.{find, is_sorted}
-use Rattle.ft_values.specs.Cells.{Cell}
-use Rattle.ft_values.specs.declared.fault.Fault.{Fault}
-use Rattle.ft_content.specs.Content.{Content, Documents, IsContent, names_of, repeats_name}
-use Rattle.ft_content.specs.Command.{Insert, Done}
+use Rattle.std.proofs.Common.{◌≡◌, inl, inr, ℕ, Bool, true, false, cond, not, List, [], ◌∷◌, map, filter, zip, Option, Some, None, Result, Ok, Err, ℤ, refl, sym, ap, subst, ◌∙◌, Contains, Vec, is_some, Global, int_cmp, int_eq}
+use Rattle.ft_index.proofs.Common.{Contains-append_left, Contains-push, same_int, unwrap_or, AllByRecursion, find, is_sorted, Cell, Fault, Content}
+use Rattle.ft_index.proofs.Common.{Documents, IsContent, names_of, repeats_name, Insert, Done, bare_content, column_of, Contents, or_else}
+use Rattle.ft_index.proofs.Common.{listed_columns, inserted_rows, has_docid, inserted, with_documents, on_table, after, touched, reply_to, Rewrite}
+use Rattle.ft_index.proofs.Common.{shown_rewrite, under_docids, rewritten, WritesDocuments, WritesTable}
+use Rattle.std.proofs.lemmas.List.Elements.{Contains-append_right}
 use Rattle.ft_values.specs.declared.table.Column.{Column}
-use Rattle.ft_content.specs.Views.{bare_content, column_of}
-use Rattle.ft_content.specs.Deserved.{Contents, or_else, listed_columns, insert_tests, inserted_rows, insert_fault, fault_if_any, has_docid}
-use Rattle.ft_content.specs.Step.{inserted, new_docids, with_documents, on_table, after, touched, reply_to}
+use Rattle.ft_content.specs.Deserved.{insert_tests, insert_fault, fault_if_any}
+use Rattle.ft_content.specs.Step.{new_docids}
 use Rattle.ft_content.proofs.ContentLemmas.{insert_keeps_content}
 use Rattle.ft_documents.specs.declared.rewrite.Rewrite as source
-use Rattle.ft_documents.specs.Rewrite.{Rewrite, shown_rewrite, under_docids, rewritten}
 use Rattle.ft_documents.specs.Inserted.{IsNewIn, Inserts}
-use Rattle.ft_index.specs.Written.{WritesDocuments, WritesTable}
 use Rattle.ft_documents.proofs.RewriteLemmas.{written, find_rewritten}
 use Rattle.ft_documents.proofs.InsertDue.{once, inserted_is}
 use Rattle.ft_documents.proofs.InsertOf.{each_found, are_of}

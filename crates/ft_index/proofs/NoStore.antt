@@ -1,19 +1,10 @@
 -- No test of a command finds that the store refuses.
-use Rattle.std.proofs.Common.{◌≡◌, ◌≢◌, inl, inr, ℕ, ℤ, Bool, true, false, cond, List, [], ◌∷◌, ◌&&◌, not, map, length, is_some, Option, Some, None, Result, Ok, Err, refl, sym, ap, ◌∙◌}
-use Rattle.std.specs.Prelude.{slice_get, IfSome}
-use Rattle.std.specs.Ordering.{int_cmp, int_eq, is_eq}
-use Rattle.std.specs.Cmp.{int_cmp_total, tied_itself}
-use Rattle.std.specs.FinMap.Entries.{put}
-use Rattle.ft_values.specs.Cells.{Cell}
-use Rattle.ft_values.specs.declared.fault.Fault.{Fault}
+use Rattle.std.proofs.Common.{◌≡◌, ◌≢◌, inl, inr, ℕ, ℤ, Bool, true, false, cond, List, [], ◌∷◌, ◌&&◌, not, map, is_some, Option, Some, None, Result, Ok, Err, refl, sym, ap, ◌∙◌, slice_get, IfSome, int_cmp, int_eq, is_eq}
+use Rattle.ft_index.proofs.Common.{int_cmp_total, tied_itself, put, Cell, Fault, RustTableInfo, Column, Documents, Contents, Loose, inserted_rows}
+use Rattle.ft_index.proofs.Common.{moves_fault, create_fault, docids_named, has_docid, docids_of, TableInfo, info_names, shown_info}
+use Rattle.ft_index.proofs.Common.{table_names, IsUnfit, no_rows}
+use Rattle.ft_content.specs.Deserved.{insert_row, move_fault, next_docid, new_cells, then_rows, append_document}
 use Rattle.ft_values.specs.declared.fault.Fault.TheVariants as faults
-use Rattle.ft_values.specs.declared.table.TableInfo.{TableInfo as RustTableInfo}
-use Rattle.ft_content.specs.Content.{Column, Documents}
-use Rattle.ft_content.specs.Deserved.{Contents, Loose, insert_row, inserted_rows, move_fault, moves_fault, create_fault, create_tests, table_named, next_docid, docids_named, new_cells, has_docid, then_rows, append_document}
-use Rattle.ft_content.specs.Step.{docids_of}
-use Rattle.ft_content.specs.Views.{TableInfo, info_names, shown_info, table_names}
-use Rattle.ft_documents.specs.Found.{IsUnfit}
-use Rattle.ft_index.specs.Kept.{no_rows}
 
 abbrev is_store : Fault → Bool
 is_store faults.Store = true
@@ -30,13 +21,10 @@ test_other false fault rest other others is = others is
 none_other : IsOther None
 none_other is = absurd (let no = is in cc)
 
-create_other : (is_there : Bool) (count : ℕ) (table module_name : List ℕ) (options : List (List ℕ × List ℕ)) (names : List (List ℕ)) (if_new : Bool) → IsOther (create_tests is_there count table module_name options names if_new)
-create_other is_there count table module_name options names if_new =
+pub created_other : (contents : Contents) (table module_name : List ℕ) (options : List (List ℕ × List ℕ)) (names : List (List ℕ)) (if_new : Bool) → IsOther (create_fault contents table module_name options names if_new)
+created_other contents table module_name options names if_new =
     test_other _ faults.Module _ refl (test_other _ faults.Tokenizer _ refl (test_other _ faults.Parameter _ refl (test_other _ faults.Name _ refl (test_other _ faults.DuplicateColumn _ refl
     (test_other _ faults.TooManyColumns _ refl (test_other _ faults.TableExists _ refl (test_other _ faults.TooManyTables _ refl (test_other _ faults.NoSuchColumn _ refl none_other))))))))
-
-pub created_other : (contents : Contents) (table module_name : List ℕ) (options : List (List ℕ × List ℕ)) (names : List (List ℕ)) (if_new : Bool) → IsOther (create_fault contents table module_name options names if_new)
-created_other contents table module_name options names if_new = create_other (is_some (table_named contents table)) (length contents) table module_name options names if_new
 
 -- contents that have the names of these tables
 abbrev pub some_contents : List RustTableInfo → Contents

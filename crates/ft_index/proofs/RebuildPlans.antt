@@ -1,36 +1,163 @@
--- What a Rebuild is answered, and what it leaves.
-use Rattle.std.proofs.Common.{◌≡◌, inr, ℕ, Bool, true, false, cond, List, [], ◌∷◌, map, Option, Some, None, Ok, Err, ℤ, refl, sym, ap, subst, ◌∙◌}
-use Rattle.std.specs.Prelude.{All}
-use Rattle.std.specs.List.{AllByRecursion}
-use Rattle.std.specs.Ordering.{int_cmp, int_eq}
-use Rattle.std.specs.Cmp.{int_cmp_total}
-use Rattle.std.specs.FinMap.Entries.{find}
-use Rattle.std.proofs.lemmas.Map.Lookups.{exact_signed}
-use Rattle.ft_values.specs.Cells.{Cell}
-use Rattle.ft_rows.specs.Store.{StoreValue, AreInOrder, Change, all_applied}
-use Rattle.ft_values.specs.declared.fault.Fault.{Fault}
+-- A table that is made anew with documents, and what a Rebuild is answered and leaves.
+use Rattle.std.proofs.Common.{◌≡◌, map, ℕ, Bool, true, false, cond, not, List, [], ◌∷◌, Some, None, ℤ, pos, refl, sym, ap, subst, ◌∙◌, All, is_some, option_map, Ordering, int_cmp, int_eq, inr, Option, Ok, Err}
+use Rattle.ft_index.proofs.Common.{same_int, enumerate_from, eq_by_cmp_equiv, int_cmp_total, put, find, where_key, is_sorted, is_sorted-put}
+use Rattle.ft_index.proofs.Common.{is_sorted-where_key, find-put, find-where_key, same_entries, All-nil, recursion_from_All, exact_signed, StoreValue}
+use Rattle.ft_index.proofs.Common.{AreInOrder, ColumnKey, cell_key_cmp, list_key_cmp, column_key_cmp, Change, AddTable, applied, all_applied, Column}
+use Rattle.ft_index.proofs.Common.{Content, Documents, IsContent, names_of, skipped_from, content_rows, index_rows, Filter, Delete, TableInfo}
+use Rattle.ft_index.proofs.Common.{shown_info, TableState, Sound, Contents, with_documents, on_table, IsSoundNamed, Rewrite, AreOf, AreRight}
+use Rattle.ft_index.proofs.Common.{HasContent, rewritten_docids, rewritten, rewritten_content, shown_rewrite, table_rows, table_index, IsOfDocids}
+use Rattle.ft_index.proofs.Common.{Written, ReachesStep, AreHeld, KeepsOthers, StoreHolds, Stands, held_columns, table_info, IsNamed, AllByRecursion}
+use Rattle.ft_index.proofs.Common.{Cell, Fault, same_name, Rebuild, Done, Stale, Loose, Table, table_named, on_found, deserved, rebuilt, after}
+use Rattle.ft_index.proofs.Common.{reply_to, info_named, with_sound, PlansFrom, state_of}
+use Rattle.std.proofs.lemmas.Float.{T_from_true}
+use Rattle.std.specs.List.{find as first_of}
+use Rattle.ft_rows.specs.Store.{with_columns, with_skipped}
+use Rattle.ft_content.specs.Command as plain
+use Rattle.ft_documents.proofs.AddLemmas.{bare, added_rows, added_index}
+use Rattle.ft_documents.proofs.KeyedRows.{true_of, sorted_put, put_in_order}
+use Rattle.ft_documents.proofs.StoreKeys.{column_total, column_exact}
+use Rattle.ft_index.specs.Written.{MakeTable}
+use Rattle.ft_index.proofs.OpenedTables.{IsTold, told_here}
+use Rattle.ft_index.proofs.DeleteWrites.{due, made, leaves, is_write}
+use Rattle.ft_index.proofs.OneTable.{sound_held, sound_is, LeavesRest, leaves_rest, AreHeldIn, changes_one, keeps_changed, one_spares, none_named, keeps_same, IsOne}
 use Rattle.ft_values.specs.declared.fault.Fault.TheVariants as faults
-use Rattle.ft_content.specs.Content.{Content, Documents, IsContent, content_rows, same_name}
-use Rattle.ft_content.specs.Command.{Rebuild, Done}
-use Rattle.ft_content.specs.Views.{TableInfo}
-use Rattle.ft_content.specs.Deserved.{TableState, Sound, Stale, Loose, Table, Contents, table_named, on_found, rebuild_fault, deserved}
-use Rattle.ft_content.specs.Step.{rebuilt, on_table, after, reply_to}
-use Rattle.ft_documents.specs.Found.{info_named, with_sound}
+use Rattle.ft_content.specs.Deserved.{rebuild_fault}
 use Rattle.ft_documents.specs.NewDocuments.{new_rewrite}
-use Rattle.ft_documents.specs.Rewrite.{AreOf, Rewrite, AreRight, rewritten_docids, rewritten}
-use Rattle.ft_documents.specs.Tables.{table_rows, table_index, IsOfDocids}
-use Rattle.ft_documents.proofs.AddLemmas.{bare}
 use Rattle.ft_documents.proofs.InsertOf.{are_of}
 use Rattle.ft_documents.proofs.InsertRows.{befores_new, rewritten_new, sorted_new}
-use Rattle.ft_documents.proofs.KeyedRows.{put_in_order}
 use Rattle.ft_index.specs.declared.row_state.RowState.TheVariants as states
-use Rattle.ft_index.specs.Kept.{AreHeld, StoreHolds, Stands, PlansFrom, held_columns, table_info}
-use Rattle.ft_index.specs.Opened.{state_of}
-use Rattle.ft_index.proofs.Anew.{anew_change, anew_holds}
-use Rattle.ft_index.proofs.CheckLemmas.{IsTold}
-use Rattle.ft_index.proofs.KnownLemmas.{none_named}
-use Rattle.ft_index.proofs.OtherRows.{keeps_same}
-use Rattle.ft_index.proofs.OneTable.{IsOne, changes_one}
+
+-- ---- the tables that the store names stay
+
+key_found : (id : ℤ) (name : List ℕ) (tables : List (ℤ × List ℕ)) → first_of (λ (n : ℤ × List ℕ). int_eq id n.0) tables ≡ Some (id, name) → find int_cmp id tables ≡ Some name
+key_found id name [] is = absurd (let no = is in cc)
+key_found id name (n ∷ ns) is = go (int_eq id n.0) is (key_found id name ns)
+  where
+    go : (b : Bool) → cond b (Some n) (first_of (λ (n : ℤ × List ℕ). int_eq id n.0) ns) ≡ Some (id, name) → (first_of (λ (n : ℤ × List ℕ). int_eq id n.0) ns ≡ Some (id, name) → find int_cmp id ns ≡ Some name) → cond b (Some n.1) (find int_cmp id ns) ≡ Some name
+    go true is rest = ap (option_map (λ (n : ℤ × List ℕ). n.1)) is
+    go false is rest = rest is
+
+named_again : (id : ℤ) (name : List ℕ) (tables : List (ℤ × List ℕ)) → is_sorted int_cmp tables ≡ true → find int_cmp id tables ≡ Some name → put int_cmp id name (where_key int_cmp (λ k. not (int_eq id k)) tables) ≡ tables
+named_again id name tables sorted found =
+    same_entries int_cmp int_cmp_total exact_signed (put int_cmp id name others) tables (is_sorted-put int_cmp int_cmp_total id name others (is_sorted-where_key int_cmp p tables (T_from_true _ sorted))) (T_from_true _ sorted)
+    (λ q. find-put int_cmp int_cmp_total q id name others ∙ ap (λ o. cond (int_eq q id) (Some name) o) (find-where_key int_cmp p q (λ x e. ap p (sym (exact_signed q x e))) tables) ∙ go q (int_eq q id) refl)
+  where
+    p : ℤ → Bool
+    p k = not (int_eq id k)
+
+    others : List (ℤ × List ℕ)
+    others = where_key int_cmp p tables
+
+    go : (q : ℤ) (b : Bool) → int_eq q id ≡ b → cond (int_eq q id) (Some name) (cond (not (int_eq id q)) (find int_cmp q tables) None) ≡ find int_cmp q tables
+    go q true e = ap (λ b. cond b (Some name) (cond (not (int_eq id q)) (find int_cmp q tables) None)) e ∙ sym (ap (λ k. find int_cmp k tables) (same_int q id e) ∙ found)
+    go q false e = ap (λ b. cond b (Some name) (cond (not (int_eq id q)) (find int_cmp q tables) None)) e ∙ ap (λ b. cond (not b) (find int_cmp q tables) None) ((eq_by_cmp_equiv int_cmp_total).symm id q ∙ e)
+
+-- ---- and all rows are in order
+
+others_sorted : {K V : Type 0} (R : K → K → Ordering) (p : K → Bool) (rows : List (K × V)) → is_sorted R rows ≡ true → is_sorted R (where_key R p rows) ≡ true
+others_sorted R p rows sorted = true_of _ (is_sorted-where_key R p rows (T_from_true _ sorted))
+
+columns_sorted : (id : ℤ) (cs : List (ℕ × List ℕ)) (rows : List (ColumnKey × List ℕ)) → is_sorted column_key_cmp rows ≡ true → is_sorted column_key_cmp (with_columns id cs rows) ≡ true
+columns_sorted id [] rows sorted = sorted
+columns_sorted id (c ∷ cs) rows sorted = columns_sorted id cs (put column_key_cmp (id, pos c.0) c.1 rows) (sorted_put column_key_cmp column_total column_exact (((id, pos c.0), c.1) ∷ []) rows sorted)
+
+skips_sorted : (id : ℤ) (cs : List ℤ) (rows : List (ColumnKey × Unit {0})) → is_sorted column_key_cmp rows ≡ true → is_sorted column_key_cmp (with_skipped id cs rows) ≡ true
+skips_sorted id [] rows sorted = sorted
+skips_sorted id (c ∷ cs) rows sorted = skips_sorted id cs (put column_key_cmp (id, c) tt rows) (sorted_put column_key_cmp column_total column_exact (((id, c), tt) ∷ []) rows sorted)
+
+-- ---- what the store holds of it
+
+bare_content : (name : List ℕ) (content : Content) → IsContent name content → IsContent name (bare content.columns)
+bare_content name content is = record { columns = is.columns; documents = refl; rising = refl }
+
+module _ (name : List ℕ) (columns : List Column) (id : ℤ) (store : StoreValue) (order : AreInOrder store) (named : IsNamed store id (id, name)) where
+  abbrev first : StoreValue
+  first = applied (AddTable id name (names_of columns) (skipped_from 0 columns)) store
+
+  same_tables : first.tables ≡ store.tables
+  same_tables = named_again id name store.tables order.tables (key_found id name store.tables named)
+
+  first_order : AreInOrder first
+  first_order = record {
+    tables = ap (is_sorted int_cmp) same_tables ∙ order.tables;
+    columns = columns_sorted id (enumerate_from 0 (names_of columns)) _ (others_sorted column_key_cmp (λ k. not (int_eq id k.0)) store.columns order.columns);
+    skipped = skips_sorted id (skipped_from 0 columns) _ (others_sorted column_key_cmp (λ k. not (int_eq id k.0)) store.skipped order.skipped);
+    cells = others_sorted cell_key_cmp (λ k. not (int_eq id k.0)) store.cells order.cells;
+    lists = others_sorted list_key_cmp (λ k. not (int_eq id k.0)) store.lists order.lists;
+    sizes = others_sorted cell_key_cmp (λ k. not (int_eq id k.0)) store.sizes order.sizes;
+    noted = order.noted;
+  }
+
+  -- what documents make of it that are put into it
+  anew_right : (rewrites : List Rewrite) (changes : List Change) → IsContent name (bare columns) → AreOf (bare columns) rewrites → AreRight id columns rewrites changes → All (IsOfDocids id (rewritten_docids rewrites)) changes →
+      LeavesRest id store (all_applied changes first) × (table_rows id (all_applied changes first) ≡ content_rows (rewritten_content rewrites (bare columns))) × (table_index id (all_applied changes first) ≡ index_rows (rewritten_content rewrites (bare columns)))
+  anew_right rewrites changes is are right near =
+      let has : HasContent name (bare columns) id first = record { order = first_order; is_content = is; rows = added_rows id name columns store order; index = added_index id name columns store } in
+      let done = right name (bare columns) first has refl are in
+      let spares = one_spares id (AddTable id name (names_of columns) (skipped_from 0 columns)) store refl in
+      let rest = leaves_rest id (rewritten_docids rewrites) changes first (recursion_from_All (IsOfDocids id (rewritten_docids rewrites)) changes near) in (
+        record {
+          others = record { rows = λ other apart. rest.others.rows other apart ∙ spares.rows other apart; index = λ other apart. rest.others.index other apart ∙ spares.index other apart };
+          tables = rest.tables ∙ same_tables;
+          noted = rest.noted;
+        },
+        done.0,
+        done.1,
+      )
+
+-- the row change that makes a table as it is told
+abbrev pub anew_change : TableInfo → Change
+anew_change known = AddTable known.id known.name (names_of known.columns) (skipped_from 0 known.columns)
+
+module _ (store : StoreValue) (tables : List TableInfo) (contents : Contents) (name : List ℕ) (known : TableInfo) (order : AreInOrder store) (held : AreHeld store tables contents) (t : IsTold store contents name known) where
+  -- So a table that is told and is made anew with the documents of a content holds the content.
+  pub anew_holds : (content : Content) (rewrites : List Rewrite) (changes : List Change) (change : TableState → TableState) → IsContent t.table.1.name content → held_columns t.table.1.held ≡ content.columns → AreOf (bare content.columns) rewrites → rewritten rewrites [] ≡ content.documents → change t.table.1.held ≡ Sound content →
+      AreRight known.id known.columns rewrites changes → All (IsOfDocids known.id (rewritten_docids rewrites)) changes → StoreHolds (all_applied (anew_change known ∷ changes) store) (on_table contents name change) × KeepsOthers store (all_applied (anew_change known ∷ changes) store)
+  anew_holds content rewrites changes change is columns_are are made changed = subst Holds t.told (subst (λ cs. Holds (record (table_info t.table) { columns = cs })) (sym columns_are) here)
+    where
+      Holds : TableInfo → Type 0
+      Holds k = AreRight k.id k.columns rewrites changes → All (IsOfDocids k.id (rewritten_docids rewrites)) changes → StoreHolds (all_applied (anew_change k ∷ changes) store) (on_table contents name change) × KeepsOthers store (all_applied (anew_change k ∷ changes) store)
+
+      named : IsNamed store t.table.0 (t.table.0, t.table.1.name)
+      named = subst (λ k. IsNamed store k (t.table.0, t.table.1.name)) (ap (λ (k : TableInfo). k.id) (sym t.told)) t.named
+
+      here : Holds (record (table_info t.table) { columns = content.columns })
+      here right near =
+          let id = t.table.0 in
+          let new = all_applied (AddTable id t.table.1.name (names_of content.columns) (skipped_from 0 content.columns) ∷ changes) store in
+          let done = anew_right t.table.1.name content.columns id store order named rewrites changes (bare_content t.table.1.name content is) are right near in
+          let same : rewritten_content rewrites (bare content.columns) ≡ content = λ i. record content { documents = made i } in
+          let stands = subst (Stands t.table.1.name (table_rows id new) (table_index id new)) (sym changed) (is, done.1 ∙ ap content_rows same, done.2 ∙ ap index_rows same) in (
+            subst (λ ts. AreHeldIn new ts (on_table contents name change)) (sym done.0.tables) (changes_one name t.table store new change store.tables contents done.0.others stands t.one held.held),
+            keeps_changed id store new done.0 (ap is_some (key_found id t.table.1.name store.tables named)),
+          )
+
+-- ---- a Delete of all documents
+
+none_stay : (documents : Documents) → made plain.All (record { columns = []; documents = documents }) ≡ []
+none_stay [] = refl
+none_stay (d ∷ ds) = none_stay ds
+
+pub delete_reaches : {written : Written} (store : StoreValue) (tables : List TableInfo) (contents : Contents) (name : List ℕ) (changes : List Change) → MakeTable written changes → AreInOrder store → AreHeld store tables contents → IsSoundNamed tables name (shown_info written.table.now) →
+    map shown_rewrite written.rewrites.items ≡ [] → ReachesStep contents (Delete name plain.All) store changes
+delete_reaches {written} store tables contents name changes makes order held named none =
+    let f : Filter = plain.All in
+    let known = shown_info written.table.now in
+    let t = told_here store tables contents name known order held named.0 in
+    let sound = sound_held t.table.1.held (ap (λ (k : TableInfo). k.sound) t.told ∙ named.1) in
+    let content = sound.0 in
+    let stands = subst (Stands t.table.1.name (table_rows t.table.0 store) (table_index t.table.0 store)) sound.1 t.stands in
+    let fits : AreOf (bare content.columns) [] = record { rising = refl; befores = All-nil _; afters = All-nil _ } in
+    let done = anew_holds store tables contents name known order held t (bare content.columns) [] makes.rest (with_documents (made f)) (bare_content t.table.1.name content stands.0) (ap held_columns sound.1) fits refl
+    (ap (with_documents (made f)) sound.1 ∙ ap (λ ds. Sound (record content { documents = ds })) (none_stay content.documents))
+    (subst (λ rs. AreRight known.id known.columns rs makes.rest) none makes.of_written.0) (subst (λ rs. All (IsOfDocids known.id (rewritten_docids rs)) makes.rest) none makes.of_written.1) in
+    subst (ReachesStep contents (Delete name f) store) (sym makes.are) (
+      (is_write f name).deserves contents ∙ sound_is contents name known (record { table = t.table; found = t.found; content = content; held = sound.1; told = t.told }) (due f),
+      subst (StoreHolds (all_applied (anew_change known ∷ makes.rest) store)) (sym (leaves f name contents)) done.0,
+      done.1,
+    )
+
+-- ==== what a Rebuild is answered, and what it leaves
 
 -- ---- what it deserves, and what it leaves
 

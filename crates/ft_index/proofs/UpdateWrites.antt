@@ -1,34 +1,22 @@
 -- What an Update deserves, and what it writes.
-use Rattle.std.proofs.Common.{◌≡◌, ◌≢◌, ◌⊎◌, inl, inr, ℕ, Bool, true, false, not, ◌&&◌, ◌||◌, List, [], ◌∷◌, map, length, Option, Some, None, ℤ, refl, sym, ap, ◌∙◌, cond, ◌++◌, subst}
-use Rattle.std.specs.Prelude.{nat_lt, slice_get, Contains}
-use Rattle.std.specs.List.{list_all, list_any, AllByRecursion}
-use Rattle.ft_values.specs.Cells.{Cell}
-use Rattle.ft_values.specs.declared.fault.Fault.{Fault}
-use Rattle.ft_content.specs.Content.{Content, Documents, is_docid, is_too_long, has_nul, repeats_name, IsContent}
-use Rattle.ft_content.specs.Command.{Filter, Update, Done}
-use Rattle.ft_content.specs.Answer.{chosen, is_chosen}
-use Rattle.ft_content.specs.Views.{bare_content, column_of}
-use Rattle.ft_content.specs.Deserved.{Contents, first_of, or_else, on_sound, has_column, is_text, is_null, docids_named, query_fault, moves_fault, update_tests, update_fault, deserved, with_values, has_docid}
-use Rattle.ft_content.specs.Step.{updated, with_documents, on_table, after, touched, reply_to, docids_of, docid_if_any, without_docid, moved}
+use Rattle.std.proofs.Common.{◌≡◌, ◌≢◌, ◌⊎◌, inl, inr, ℕ, Bool, true, false, not, ◌&&◌, ◌||◌, List, [], ◌∷◌, map, length, Option, Some, None, ℤ, refl, sym, ap, ◌∙◌, cond, ◌++◌, subst, nat_lt, slice_get, Contains, Ordering, Less, Equal, Greater, int_cmp, int_eq, is_lt, is_eq}
+use Rattle.ft_index.proofs.Common.{list_all, list_any, AllByRecursion, Cell, Fault, Content, Documents, is_docid, repeats_name, IsContent, Filter}
+use Rattle.ft_index.proofs.Common.{Update, Done, chosen, is_chosen, bare_content, column_of, Contents, first_of, or_else, on_sound, has_column}
+use Rattle.ft_index.proofs.Common.{docids_named, query_fault, moves_fault, update_tests, deserved, has_docid, updated, with_documents, on_table}
+use Rattle.ft_index.proofs.Common.{after, touched, reply_to, docids_of, without_docid, WritesTable, LeadsTo, same_int, ordering_reverse}
+use Rattle.ft_index.proofs.Common.{int_cmp_total, eq_by_cmp_equiv, put, find, is_sorted, is_sorted-put, is_sorted-where_key, find-put, find-where_key}
+use Rattle.ft_index.proofs.Common.{same_entries, exact_signed, Contains-push, Contains-append_left, Rewrite, under_docids, rewritten}
+use Rattle.ft_content.specs.Content.{is_too_long, has_nul}
+use Rattle.ft_content.specs.Deserved.{is_text, is_null, update_fault, with_values}
+use Rattle.ft_content.specs.Step.{docid_if_any, moved}
 use Rattle.ft_content.proofs.ContentLemmas.{update_keeps_content}
 use Rattle.ft_documents.specs.Updated.{update_touches, changing, leaving, coming, moved_from, MayMove}
+use Rattle.ft_index.proofs.OneTable.{not_some}
 use Rattle.ft_index.proofs.SelectAnswers.{unnamed_bare, query_bare}
-use Rattle.ft_documents.proofs.FaultLemmas.{memory_or}
-use Rattle.ft_index.specs.Written.{WritesTable, LeadsTo}
-use Rattle.ft_index.proofs.Writing.{IsWrite}
+use Rattle.ft_index.proofs.Writing.{IsWrite, memory_or}
 use Rattle.std.proofs.lemmas.Float.{T_from_true}
-use Rattle.sqlite_keyed.proofs.KeyedLemmas.{same_int}
-use Rattle.std.specs.declared.cmp.Ordering.{Ordering}
-use Rattle.std.specs.declared.cmp.Ordering.TheVariants.{Less, Equal, Greater}
-use Rattle.std.specs.Ordering.{int_cmp, int_eq, is_lt, is_eq, ordering_reverse}
-use Rattle.std.specs.Cmp.{int_cmp_total, eq_by_cmp_equiv}
-use Rattle.std.specs.FinMap.Entries.{put, find, is_sorted, is_sorted-put, is_sorted-where_key, find-put, find-where_key, same_entries}
-use Rattle.std.proofs.lemmas.Map.Lookups.{exact_signed}
-use Rattle.std.proofs.lemmas.List.Elements.{Contains-push, Contains-append_left}
 use Rattle.ft_store.proofs.KeyedLemmas.{put-without_key}
-use Rattle.ft_documents.specs.Rewrite.{Rewrite, under_docids, rewritten}
 use Rattle.ft_documents.proofs.AddLemmas.{own_put}
-use Rattle.ft_documents.proofs.FoundLemmas.{not_some}
 use Rattle.ft_documents.proofs.ChosenLemmas.{all_found}
 use Rattle.ft_index.proofs.ChosenWrites.{each_rewritten, befores, all_rewritten, chosen_lead, own_docids}
 use Rattle.ft_documents.proofs.InsertOf.{are_of}

@@ -1,49 +1,29 @@
 -- What lists mean that can be relied on, and what reads leave of them.
-use Rattle.std.proofs.Common.{◌≡◌, ℕ, ℤ, ◌&&◌, Bool, List, map, sym, ap, subst, ◌∙◌, arith, IsTrue}
-use Rattle.std.specs.Prelude.{bytes_eq}
-use Rattle.std.specs.Ordering.{int_eq, is_eq}
-use Rattle.std.specs.Cmp.{eq_by_cmp_equiv}
+use Rattle.std.proofs.Common.{◌≡◌, ℕ, ℤ, ◌&&◌, Bool, List, map, sym, ap, subst, ◌∙◌, arith, IsTrue, bytes_eq, int_eq, is_eq}
+use Rattle.ft_index.proofs.Common.{eq_by_cmp_equiv, where_key, HasCleanDisk, Survives, Database, Ghosts, map-map, lists_with, StoreValue, ListKey}
+use Rattle.ft_index.proofs.Common.{list_key_cmp, name_cmp, value_of, StoreState, shows, value_in, Content, IsContent, IndexRows, index_rows}
+use Rattle.ft_index.proofs.Common.{content_documents, table_index, table_documents, IsIndexed}
 use Rattle.std.specs.Cmp.Lexicographic.{nat_list_cmp_total}
-use Rattle.std.specs.FinMap.Entries.{where_key}
 use Rattle.std.proofs.lemmas.Map.Text.{is_eq-slice_cmp}
-use Rattle.sqlite.specs.State.{HasCleanDisk, Survives}
-use Rattle.sqlite.specs.Effect.{Database}
-use Rattle.sqlite.specs.Store.{Ghosts}
-use Rattle.sqlite_keyed.proofs.ListLemmas.{map-map}
-use Rattle.ft_query.specs.Documents.{AreDocuments, PlaceList, lists_with}
+use Rattle.ft_query.specs.Documents.{AreDocuments, PlaceList}
 use Rattle.ft_query.proofs.Bridge.{postings_rise}
 use Rattle.ft_query.proofs.BridgeDocuments.{documents_are}
 use Rattle.ft_values.specs.declared.rows.ListRow.{ListRow}
-use Rattle.ft_rows.specs.Store.{StoreValue, ListKey, list_key_cmp, name_cmp}
-use Rattle.ft_store.specs.Rows.{value_of}
 use Rattle.ft_rows.specs.Shown.{shown_list, bare_list}
 use Rattle.ft_store.specs.Calls.{Keeps}
-use Rattle.ft_store.specs.Kept.{StoreState, shows, value_in}
-use Rattle.ft_content.specs.Content.{Content, IsContent}
-use Rattle.ft_content.specs.Index.{IndexRows, index_rows}
-use Rattle.ft_content.specs.Meaning.{content_documents, documents_in, entries_in, lists_with_terms, ListsMeanDocuments, TermsAreTheirLists, DocumentsAreInOrder}
+use Rattle.ft_content.specs.Meaning.{documents_in, entries_in, lists_with_terms, DocumentsAreInOrder}
 use Rattle.ft_content.proofs.MeaningLemmas.{lists_mean_documents, terms_are_their_lists, terms_are_counted, documents_are_in_order}
 use Rattle.ft_documents.specs.Placed.{read_list, list_of, all_in, AreListsOf}
-use Rattle.ft_documents.specs.Tables.{table_index}
-use Rattle.ft_index.specs.Walked.{table_documents, AreReliable, IsIndexed}
+use Rattle.ft_index.specs.Walked.{AreReliable}
 use Rattle.ft_documents.proofs.AskedLemmas.{bare, asked_entries, rows_answer}
-
-means : ListsMeanDocuments
-means = lists_mean_documents postings_rise
 
 in_order : DocumentsAreInOrder
 in_order = documents_are_in_order documents_are
 
-their_lists : TermsAreTheirLists
-their_lists = terms_are_their_lists postings_rise
-
 -- what lists of a content's index rows mean
 pub indexed_means : {S : Type 0} (g : Ghosts S) (tab : ℤ) (store : StoreState S) (name : List ℕ) (content : Content) → IsContent name content → table_index tab (value_in g store) ≡ index_rows content → table_documents g tab store ≡ content_documents content
 unfolding table_documents
-indexed_means g tab store name content is index = ap (λ (rows : IndexRows). documents_in rows.lists) index ∙ means name content is
-
-pub reliable_means : {S : Type 0} (g : Ghosts S) (tab : ℤ) (store : StoreState S) (h : AreReliable g tab store) → table_documents g tab store ≡ content_documents h.content
-reliable_means g tab store h = indexed_means g tab store h.name h.content h.is_content h.index
+indexed_means g tab store name content is index = ap (λ (rows : IndexRows). documents_in rows.lists) index ∙ lists_mean_documents postings_rise name content is
 
 -- the lists of a table whose index rows are those of a content
 pub reliable_of : {S : Type 0} (g : Ghosts S) (tab : ℤ) (store : StoreState S) (name : List ℕ) (content : Content) → HasCleanDisk (shows g store) → IsTrue (shows g store).is_open → IsContent name content →
@@ -89,8 +69,8 @@ module _ {S : Type 0} (g : Ghosts S) (tab : ℤ) (old new : StoreState S) (kept 
       ∙ ap (λ (v : StoreValue). all_in (map read_list (map bare_list (where_key list_key_cmp asks v.lists)))) (sym (same_value h))
       ∙ asked_entries tab asks test same (value_in g new).lists
       ∙ ap (λ (r : IndexRows). map bare (entries_in (lists_with_terms test r.lists))) h.index in
-      rows_answer (content_documents h.content) order test lists (their_lists h.name h.content test h.is_content) (terms_are_counted h.name h.content test h.is_content) rows are found shown
-      ∙ ap (lists_with test) (sym (reliable_means g tab new h))
+      rows_answer (content_documents h.content) order test lists (terms_are_their_lists postings_rise h.name h.content test h.is_content) (terms_are_counted h.name h.content test h.is_content) rows are found shown
+      ∙ ap (lists_with test) (sym (indexed_means g tab new h.name h.content h.is_content h.index))
 
 -- the test of a term
 pub asks_term : (tab : ℤ) (term : List ℕ) (k : ListKey) → (int_eq tab k.0 && is_eq (name_cmp term k.1)) ≡ (int_eq tab k.0 && bytes_eq k.1 term)

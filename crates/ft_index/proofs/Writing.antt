@@ -1,30 +1,14 @@
 -- From rewrites of one table's documents to a plan of the command that writes them.
-use Rattle.std.proofs.Common.{◌≡◌, ◌⊎◌, inl, inr, ℕ, zero, suc, ◌<◌, List, [], ◌∷◌, length, Option, Some, None, Ok, Err, ℤ, refl, sym, ap, subst, ◌∙◌, arith, map, Result, string_bytes}
-use Rattle.ft_index.proofs.OneTable.{held_named}
-use Rattle.std.specs.Prelude.{IsTrue, All, Contains, slice_index_or, Vec}
-use Rattle.std.specs.List.{AllByRecursion}
-use Rattle.std.proofs.lemmas.List.Elements.{recursion_from_All, All-from_recursion}
-use Rattle.ft_rows.specs.Store.{StoreValue, AreInOrder, Change, AddTable, DropTable, ClearIndex, Note, all_applied}
-use Rattle.ft_values.specs.declared.fault.Fault.{Fault}
-use Rattle.ft_content.specs.Content.{Content, Documents, IsContent, content_rows, Column}
-use Rattle.ft_content.specs.Index.{index_rows}
-use Rattle.ft_content.specs.Command.{Command}
-use Rattle.ft_content.specs.Views.{TableInfo, column_of, shown_info}
-use Rattle.ft_content.specs.Deserved.{Contents, table_named, on_sound, deserved}
-use Rattle.ft_content.specs.Step.{with_documents, on_table, after, touched, touched_of, touched_found, touched_held}
-use Rattle.ft_documents.specs.Found.{info_named, IsUnfit, IsSoundNamed}
-use Rattle.ft_documents.specs.Rewrite.{Rewrite, AreRight, rewritten_docids, rewritten_content, HasContent, shown_rewrite}
-use Rattle.ft_index.specs.Kept.{AreHeld, StoreHolds, AreOfFound, StaysNear, PlansFrom, is_outside, IsUp, held_columns}
-use Rattle.ft_documents.specs.Tables.{IsOfDocids}
-use Rattle.ft_index.specs.Written.{LeadsTo, HasAll, WritesDocuments, WritesIn, PlansTo}
-use Rattle.ft_index.proofs.KnownLemmas.{IsSoundTable, sound_table, sound_is, unfit_is, sound_rows}
-use Rattle.ft_index.proofs.Lifting.{leaves_rest, lifts}
-use Rattle.ft_index.proofs.OtherRows.{keeps_changed}
-use Rattle.std.specs.declared.alloc.Global.{Global}
-use Rattle.sqlite.specs.Store.{Ghosts}
-use Rattle.ft_store.specs.Kept.{StoreState, value_in}
-use Rattle.ft_index.specs.Changed.{with_tables}
-use Rattle.ft_index.specs.declared.written.Written.{Written}
+use Rattle.std.proofs.Common.{◌≡◌, ◌≢◌, ◌⊎◌, inl, inr, ℕ, zero, suc, ◌<◌, List, [], ◌∷◌, length, Option, Some, None, Ok, Err, ℤ, refl, sym, ap, subst, ◌∙◌, arith, map, Result, string_bytes, All, Contains, slice_index_or, Vec, Global}
+use Rattle.ft_index.proofs.Common.{AllByRecursion, recursion_from_All, All-from_recursion, StoreValue, AreInOrder, Change, AddTable, DropTable}
+use Rattle.ft_index.proofs.Common.{ClearIndex, Note, all_applied, Fault, Content, Documents, IsContent, content_rows, Column, index_rows, Command}
+use Rattle.ft_index.proofs.Common.{TableInfo, column_of, shown_info, Contents, table_named, on_sound, deserved, with_documents, on_table, after}
+use Rattle.ft_index.proofs.Common.{touched, info_named, IsUnfit, IsSoundNamed, Rewrite, AreRight, rewritten_docids, rewritten_content, HasContent}
+use Rattle.ft_index.proofs.Common.{shown_rewrite, AreHeld, StoreHolds, StaysNear, PlansFrom, is_outside, IsUp, held_columns, IsOfDocids, LeadsTo}
+use Rattle.ft_index.proofs.Common.{HasAll, WritesDocuments, WritesIn, PlansTo, Ghosts, StoreState, value_in, with_tables, Written}
+use Rattle.ft_index.proofs.OneTable.{held_named, IsSoundTable, sound_table, sound_is, unfit_is, sound_rows, leaves_rest, lifts, keeps_changed}
+use Rattle.ft_content.specs.Step.{touched_of, touched_found, touched_held}
+use Rattle.ft_index.specs.Kept.{AreOfFound}
 use Rattle.ft_values.specs.declared.fault.Fault.TheVariants as faults
 use Rattle.ft_documents.specs.declared.rewrite.Rewrite as source
 
@@ -36,6 +20,10 @@ pub record IsWrite (command : Command) (name : List ℕ) (due : List ℕ → Con
   pub touches : (contents : Contents) → touched contents command ≡ touched_of contents name touch
   pub near : (contents : Contents) (changes : List Change) → AreOfFound (table_named contents name) (touched contents command) changes → StaysNear contents command changes
   pub keeps : (table : List ℕ) (content : Content) → IsContent table content → due table content ≡ None → IsContent table (record content { documents = change content })
+
+pub memory_or : (fault : Fault) → (fault ≡ faults.Memory) ⊎ (fault ≢ faults.Memory)
+memory_or faults.Memory = inl refl
+memory_or _ = inr (λ e. let no = e in cc)
 
 -- ---- changes are of documents that are touched
 
@@ -58,14 +46,6 @@ all_widened id few many more (change ∷ changes) h = (widened id few many more 
 -- ---- plans
 
 module _ (command : Command) (name : List ℕ) (due : List ℕ → Content → Option Fault) (change : Content → Documents) (touch : Content → List ℤ) (is : IsWrite command name due change touch) (store : StoreValue) (tables : List TableInfo) (contents : Contents) (held : AreHeld store tables contents) where
-  -- the table can't be used
-  pub plan_unfit : (fault : Fault) → IsUnfit tables name fault → PlansFrom contents command store (Err fault)
-  plan_unfit fault unfit = inr (is.deserves contents ∙ unfit_is contents name fault due (subst (λ ts. IsUnfit ts name fault) held.told unfit))
-
-  -- a sound table's content
-  pub sound_here : (known : TableInfo) → info_named tables name ≡ Some known → IsTrue known.sound → IsSoundTable contents name known
-  sound_here known named sound = sound_table contents name known (ap (λ ts. info_named ts name) (sym held.told) ∙ named) sound
-
   -- it deserves a fault, or something from outside does
   pub plan_fails : (known : TableInfo) (t : IsSoundTable contents name known) (fault : Fault) → ((fault ≡ faults.Store) ⊎ (fault ≡ faults.Memory)) ⊎ (due t.table.1.name t.content ≡ Some fault) → PlansFrom contents command store (Err fault)
   plan_fails known t fault (inl (inl store_is)) = inl (ap (λ f. is_outside (Err f)) store_is)
@@ -93,11 +73,11 @@ module _ (command : Command) (name : List ℕ) (due : List ℕ → Content → O
 
 module _ {S : Type 0} (g : Ghosts S) (command : Command) (name : List ℕ) (due : List ℕ → Content → Option Fault) (change : Content → Documents) (touch : Content → List ℤ) (is : IsWrite command name due change touch) (old new : StoreState S) (tables : List TableInfo) where
   pub plans_unfit : (fault : Fault) → IsUnfit tables name fault → PlansTo g tables old new command (Err fault)
-  plans_unfit fault unfit up contents held = plan_unfit command name due change touch is (value_in g old) tables contents held fault unfit
+  plans_unfit fault unfit up contents held = inr (is.deserves contents ∙ unfit_is contents name fault due (subst (λ ts. IsUnfit ts name fault) held.told unfit))
 
   module _ (known : TableInfo) (order : AreInOrder (value_in g old)) (named : IsSoundNamed tables name known) where
     here : (contents : Contents) → AreHeld (value_in g old) tables contents → IsSoundTable contents name known
-    here contents held = sound_here command name due change touch is (value_in g old) tables contents held known named.0 named.1
+    here contents held = sound_table contents name known (ap (λ ts. info_named ts name) (sym held.told) ∙ named.0) named.1
 
     has_all : (contents : Contents) (held : AreHeld (value_in g old) tables contents) → IsUp g (with_tables new tables) → HasAll g known.id known.name known.columns old new (here contents held).content
     has_all contents held up =

@@ -1,15 +1,13 @@
 //! The documents that a filter chooses, read from a store.
-ghost use Rattle.std.specs.Prelude.{◌≡◌, ◌*◌, false, length, map, option_map, vec_len, Some, IsSome, IfOk, OnOk};
-ghost use Rattle.std.specs.Ordering.{int_cmp};
-ghost use Rattle.std.specs.FinMap.Entries.{find};
+ghost use Rattle.std.specs.Prelude.{◌≡◌, ◌*◌, false, length, map, option_map, IfOk, OnOk};
 ghost use Rattle.ft_query.specs.Trees.{tree_of};
 ghost use Rattle.ft_store.specs.Kept.{more_rows};
 ghost use Rattle.ft_content.specs.Content.{Content};
 ghost use Rattle.ft_content.specs.Command.{Docid};
 ghost use Rattle.ft_content.specs.Answer.{chosen};
 ghost use Rattle.ft_content.specs.Deserved.{is_match};
-ghost use Rattle.ft_content.specs.Views.{cells_of, filter_of};
-ghost use Rattle.ft_index.specs.DocumentsRead.{HasRows, LooksFor, AsksStore};
+ghost use Rattle.ft_content.specs.Views.{filter_of};
+ghost use Rattle.ft_index.specs.DocumentsRead.{HasRows, LooksFor};
 ghost use Rattle.ft_documents.specs.Gathered.{shown_document};
 ghost use Rattle.ft_index.specs.Walked.{IsIndexed};
 ghost use Rattle.ft_documents.specs.Chosen.{ReadsFilterAs, document_at};
@@ -18,7 +16,7 @@ ghost use Rattle.ft_index.specs.Refused.{BlamesContent, AreThere};
 
 use crate::documents::{all_documents, document};
 use crate::matching::matched;
-use ft_content::{Fault, Filter, Value};
+use ft_content::{Fault, Filter};
 use ft_documents::Document;
 use ft_query::Query;
 use ft_store::Store;
@@ -83,27 +81,8 @@ fn documents_under<S: Alter>(
 {
     let mut documents = Vec::new(alloc);
     for &docid in docids {
-        let cells = found_cells(alloc, store, tab, docid)?;
+        let cells = document(alloc, store, tab, docid)?.ok_or(Fault::Store)?;
         documents.push(Document { docid, cells })?;
     }
     Ok(documents)
-}
-
-/// The cells of a document that is known to be there. Where it isn't, the store is taken to refuse.
-pub(crate) fn found_cells<S: Alter>(
-    alloc: Global,
-    store: &mut Store<S>,
-    tab: i64,
-    docid: i64,
-) -> Result<Vec<Value>, Fault>
-    ensures told { IfOk result (λ cells. (content : Content)
-        → HasRows S.Store tab store.old store.new content → find int_cmp docid content.documents
-        ≡ Some (cells_of cells)) }
-    ensures looks { AsksStore S.Store store.old store.new result IsOutside }
-    ensures counted { IfOk result (λ cells. store.new.rows_read
-        ≡ more_rows (vec_len cells) store.old) }
-    ensures refused { BlamesContent S.Store tab store.old store.new result
-        (λ content. IsSome (find int_cmp docid content.documents)) }
-{
-    document(alloc, store, tab, docid)?.ok_or(Fault::Store)
 }

@@ -7,13 +7,14 @@ ghost use Rattle.ft_index.specs.DocumentsRead.{Looks};
 ghost use Rattle.ft_index.specs.Refused.{BlamesOver, BlamesDone};
 ghost use Rattle.ft_index.specs.Written.{PlansIn};
 
-use crate::select::{select_changes, select_from};
+use crate::select::{select_from, select_query};
 use crate::special::{check_table, optimize, rebuild_changes, rebuild_table};
 use crate::tables::{create_changes, create_table, drop_changes, drop_table};
 use crate::written::{
     delete_from, delete_written, found_changes, insert_written, update_written, write_found,
 };
 use ft_content::{Command, Fault, Reply, TableInfo};
+use ft_documents::sound_table;
 use ft_store::{RowChange, Store};
 use sqlite::Alter;
 use std::alloc::Global;
@@ -68,30 +69,28 @@ pub(crate) fn planned_changes<S: Alter>(
     ensures refused { BlamesOver S.Store (map shown_info tables.now) store.old store.new result }
 {
     store.is_in_order();
-    match command {
-        Command::Create(creation) => create_changes(alloc, tables, creation),
+    let found = match command {
+        Command::Insert(insertion) => insert_written(alloc, store, tables, insertion),
+        Command::Update(modification) => update_written(alloc, store, tables, modification),
+        Command::Delete(deletion) => delete_written(alloc, store, tables, deletion),
+        Command::Create(creation) => return create_changes(alloc, tables, creation),
         Command::Drop { table, if_there } => {
-            drop_changes(alloc, tables, table.as_str(), *if_there)
+            return drop_changes(alloc, tables, table.as_str(), *if_there);
         }
-        Command::Insert(insertion) => {
-            found_changes(alloc, insert_written(alloc, store, tables, insertion))
+        Command::Select(select) => {
+            let info = sound_table(tables, select.table.as_str())?;
+            select_query(alloc, info, select)?;
+            return Ok(Vec::new(alloc));
         }
-        Command::Update(modification) => {
-            found_changes(alloc, update_written(alloc, store, tables, modification))
-        }
-        Command::Delete(deletion) => found_changes(
-            alloc,
-            delete_written(alloc, store, tables, deletion),
-        ),
-        Command::Select(select) => select_changes(alloc, tables, select),
-        Command::Rebuild { table } => rebuild_changes(alloc, store, tables, table.as_str()),
+        Command::Rebuild { table } => return rebuild_changes(alloc, store, tables, table.as_str()),
         Command::Check { table } => {
             check_table(alloc, store, tables, table.as_str())?;
-            Ok(Vec::new(alloc))
+            return Ok(Vec::new(alloc));
         }
         Command::Optimize { table } => {
             optimize(tables, table.as_str())?;
-            Ok(Vec::new(alloc))
+            return Ok(Vec::new(alloc));
         }
-    }
+    };
+    found_changes(alloc, found)
 }

@@ -1,26 +1,23 @@
 //! The documents of a table, read from a store.
-ghost use Rattle.std.specs.Prelude.{◌≡◌, ◌⊎◌, ◌*◌, length, is_some, map, option_map, vec_len, IsTrue, IfOk, IfErr, IfSome, OnOk};
+ghost use Rattle.std.specs.Prelude.{◌≡◌, ◌*◌, length, is_some, map, option_map, vec_len, IfOk, IfSome, OnOk};
 ghost use Rattle.std.specs.Option.{option_map_or};
 ghost use Rattle.std.specs.Ordering.{int_cmp};
 ghost use Rattle.std.specs.FinMap.Entries.{find};
-ghost use Rattle.sqlite.specs.State.{HasCleanDisk};
-ghost use Rattle.ft_values.specs.Cells.{shown_value};
 ghost use Rattle.ft_store.specs.Kept.{shows, more_rows};
-ghost use Rattle.ft_values.specs.declared.fault.Fault.TheVariants as faults;
 ghost use Rattle.ft_content.specs.Content as content;
 ghost use Rattle.ft_content.specs.Content.{Content};
 ghost use Rattle.ft_content.specs.Answer.{cut};
 ghost use Rattle.ft_content.specs.Views as views;
-ghost use Rattle.ft_index.specs.DocumentsRead.{HasRows, Looks, AsksStore};
+ghost use Rattle.ft_index.specs.DocumentsRead.{HasRows, LooksFor, AsksStore};
 ghost use Rattle.ft_index.specs.RowsRead.{are_short, docids_asked};
 ghost use Rattle.ft_documents.specs.Gathered.{shown_document, has_given};
 ghost use Rattle.ft_index.specs.Kept.{BlamesStore, IsOutside};
 
 use ft_content::{Fault, Value, cut};
 use ft_documents::{Document, gathered};
-use ft_store::{CellRow, Store};
+use ft_store::Store;
 use sqlite::Alter;
-use std::alloc::{AllocError, Global};
+use std::alloc::Global;
 
 /// The cells of the document of a docid, if there is one. The store is only read, whatever is
 /// answered.
@@ -42,7 +39,7 @@ pub(crate) fn document<S: Alter>(
     if rows.is_empty() {
         return Ok(None);
     }
-    Ok(Some(values_of(alloc, rows)?))
+    Ok(Some(rows.into_iter().map(|row| row.value).collect(alloc)?))
 }
 
 /// All documents of a table, by rising docid. The store is only read, whatever is answered.
@@ -111,23 +108,11 @@ pub(crate) fn has_document<S: Alter>(
     ensures found { IfOk result (λ found. (content : Content)
         → HasRows S.Store tab store.old store.new content
         → found ≡ has_given content.documents given) }
-    ensures faults { IfErr result (λ fault. (fault ≡ faults.Store) ⊎ (fault ≡ faults.Memory)) }
-    ensures live { (HasCleanDisk (shows S.Store store.old)
-        → IsTrue (shows S.Store store.old).is_open) → HasCleanDisk (shows S.Store store.new)
-        → OnOk result (IsTrue (shows S.Store store.new).is_open) }
-    ensures looks { Looks S.Store store.old store.new }
+    ensures looks { LooksFor S.Store store.old store.new result IsOutside }
     ensures refused { BlamesStore (shows S.Store store.old) (shows S.Store store.new) result }
 {
     match given {
         Some(docid) => Ok(store.has_document(tab, docid)?),
         None => Ok(false),
     }
-}
-
-// The values of cells.
-fn values_of(alloc: Global, rows: Vec<CellRow>) -> Result<Vec<Value>, AllocError>
-    ensures { IfOk result (λ values. views.cells_of values
-        ≡ map (λ row. shown_value row.value) rows.items) }
-{
-    rows.into_iter().map(|row| row.value).collect(alloc)
 }

@@ -1,7 +1,7 @@
 //! Full-text tables over a store.
 use crate::commands::{execute_command, planned_changes};
 use crate::row_state::opened_tables;
-use crate::tables::{note_name, noted_names};
+use crate::tables::note_name;
 use ft_content::{Command, Fault, Reply, TableInfo};
 use ft_store::{RowChange, Store, StoreFault};
 use sqlite::Alter;
@@ -189,8 +189,8 @@ impl<S: Alter> FullText<S> {
             result }
     {
         self.store.is_settled();
-        let names = noted_names(&mut self.store)?;
-        Ok(names)
+        self.store.ping()?;
+        Ok(self.store.noted()?)
     }
 
     /// The store as it stands.

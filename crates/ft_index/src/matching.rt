@@ -1,22 +1,17 @@
 //! What a MATCH finds in a table's index.
-ghost use Rattle.std.specs.Prelude.{◌≡◌, ◌^◌, ◌<◌, ◌||◌, ℕ, List, map, option_map, Ok, IfOk, OnOk};
+ghost use Rattle.std.specs.Prelude.{◌≡◌, ℕ, List, map, option_map, Ok, IfOk, OnOk};
 ghost use Rattle.ft_query.specs.Trees.{tree_of};
-ghost use Rattle.ft_query.specs.Work.{entry_count};
 ghost use Rattle.ft_query.specs.Occurs.{plain_hit};
-ghost use Rattle.ft_query.specs.Walk.{StandsBefore};
 ghost use Rattle.ft_store.specs.Kept.{more_rows};
 ghost use Rattle.ft_content.specs.Content.{Content};
-ghost use Rattle.ft_content.specs.Meaning.{content_documents};
 ghost use Rattle.ft_content.specs.Command.{Match};
 ghost use Rattle.ft_content.specs.Answer.{reading, query_in, cut};
 ghost use Rattle.ft_index.specs.Walked.{IsIndexed};
 ghost use Rattle.ft_documents.specs.Matched.{chosen_hits, as_wanted};
 ghost use Rattle.ft_index.specs.RowsRead.{entries_asked};
-ghost use Rattle.ft_index.specs.DocumentsRead.{LooksOn, LooksFor};
+ghost use Rattle.ft_index.specs.DocumentsRead.{LooksFor};
 ghost use Rattle.ft_index.specs.Kept.{IsOutside};
 ghost use Rattle.ft_index.specs.Refused.{BlamesContent};
-ghost use Rattle.ft_index.specs.Walked.{Fails};
-ghost use Rattle.ft_query.specs.Lists.{is_failed};
 
 use crate::table_lists::TableLists;
 use ft_content::Fault;
@@ -25,30 +20,6 @@ use ft_query::{Hit, ListFault, Matches, Query};
 use ft_store::Store;
 use sqlite::Alter;
 use std::alloc::Global;
-
-// Begins a walk over the lists: asks once for each term of the query.
-fn opened<'q, S: Alter>(
-    alloc: Global,
-    query: &'q Query,
-    lists: &mut TableLists<'_, S>,
-) -> Result<Matches<'q>, ListFault>
-    ensures same_reference { lists.new.store.ghost_name ≡ lists.old.store.ghost_name }
-    ensures stands { IfOk result (λ walk. (content : Content)
-        → IsIndexed S.Store lists.old.tab lists.old.store.now lists.new.store.now content
-        → StandsBefore walk (content_documents content)) }
-    ensures query { IfOk result (λ walk. walk.query ≡ query.now) }
-    ensures counted { OnOk result ((content : Content)
-        → IsIndexed S.Store lists.old.tab lists.old.store.now lists.new.store.now content
-        → lists.old.given ≡ 0 → lists.old.store.now.rows_read < 2 ^ 64
-        → lists.new.store.now.rows_read ≡ more_rows
-        (entry_count (tree_of query.now) (content_documents content)) lists.old.store.now) }
-    ensures looks { LooksOn S.Store lists.old.store.now lists.new.store.now result }
-    ensures failed { lists.new.has_failed ≡ (lists.old.has_failed || is_failed result) }
-    ensures refused { Fails S.Store lists.old.tab lists.old.store.now lists.old.has_failed
-        lists.new.store.now lists.new.has_failed }
-{
-    Matches::open(alloc, query, lists)
-}
 
 /// The documents that a MATCH chooses by the lists of a table's index, the first ones where a
 /// number is given, each with its offsets where they are wanted. One read for each term of its
@@ -81,7 +52,7 @@ pub(crate) fn matched<S: Alter>(
         return Ok(Vec::new(alloc));
     };
     let mut lists = TableLists::new(store, tab);
-    match opened(alloc, query, &mut lists) {
+    match Matches::open(alloc, query, &mut lists) {
         Ok(mut walk) => Ok(taken(alloc, &mut walk, wants_offsets, most)?),
         Err(ListFault::Failed) => Err(Fault::Store),
         Err(ListFault::Memory) => Err(Fault::Memory),

@@ -4,15 +4,12 @@ ghost use Rattle.sqlite.specs.State.{HasCleanDisk};
 ghost use Rattle.ft_store.specs.Blame.{Blames, AreTableTexts};
 ghost use Rattle.ft_store.specs.Calls.{IsPlainFault};
 ghost use Rattle.ft_store.specs.Kept.{shows, value_in};
-ghost use Rattle.ft_content.specs.Content.{Content};
-ghost use Rattle.ft_content.specs.Index.{index_rows};
 ghost use Rattle.ft_content.specs.Views.{column_of, shown_info};
 ghost use Rattle.ft_content.specs.Deserved.{TableState};
 ghost use Rattle.ft_index.specs.DocumentsRead.{AsksStore};
 ghost use Rattle.ft_index.specs.Kept.{is_sound};
 ghost use Rattle.ft_index.specs.Opened.{state_of, StandsSo, HasState, IsListed, AreMarked};
 ghost use Rattle.ft_documents.specs.Tables.{table_rows, table_index};
-ghost use Rattle.ft_documents.specs.Standing as standing;
 
 use ft_content::{Column, TableInfo};
 use ft_documents::{index_lists, is_content, listed_columns};
@@ -55,7 +52,9 @@ pub(crate) fn known_state<S: Alter>(
     read_state(alloc, store, &listed)
 }
 
-// How the rows of a table that is listed stand. The store is only read, whatever is answered.
+// How the rows of a table that is listed stand: whether they are a content, and whether the index
+// rows are those made from scratch out of it. A posting list that can't be read is none of them. The
+// store is only read, whatever is answered.
 fn read_state<S: Alter>(
     alloc: Global,
     store: &mut Store<S>,
@@ -73,34 +72,14 @@ fn read_state<S: Alter>(
     if !is_content(alloc, table, columns.as_slice(), cells.as_slice())? {
         return Ok(RowState::Loose);
     }
-    if has_right_index(alloc, store, table.id, columns.as_slice(), cells)? {
+    let sizes = store.sizes(table.id)?;
+    let Some(lists) = index_lists(alloc, columns.as_slice(), cells, sizes.as_slice())? else {
+        return Ok(RowState::Stale);
+    };
+    if store.has_lists(table.id, lists)? {
         return Ok(RowState::Sound);
     }
     Ok(RowState::Stale)
-}
-
-// Whether the index rows of a table are those made from scratch out of the content that has these
-// cells. A posting list that can't be read is none of them. The store is only read, whatever is
-// answered.
-fn has_right_index<S: Alter>(
-    alloc: Global,
-    store: &mut Store<S>,
-    tab: i64,
-    columns: &[Column],
-    cells: Vec<CellRow>,
-) -> Result<bool, StoreFault>
-    ensures told { (content : Content) → HasCleanDisk (shows S.Store store.new)
-        → standing.HaveContent (map column_of columns.now)
-        (map standing.shown_row cells.items) content → IfOk result (λ b. IsTrue b ↔ (table_index tab
-        (value_in S.Store store.old) ≡ index_rows content)) }
-    ensures asks { AsksStore S.Store store.old store.new result IsPlainFault }
-    ensures refused { Blames (shows S.Store store.old) (shows S.Store store.new) result }
-{
-    let sizes = store.sizes(tab)?;
-    match index_lists(alloc, columns, cells, sizes.as_slice())? {
-        Some(lists) => store.has_lists(tab, lists),
-        None => Ok(false),
-    }
 }
 
 /// All tables of a store by rising id, each with its mark. The store is only read, whatever is

@@ -15,7 +15,6 @@ ghost use Rattle.ft_content.specs.Views.{bare_content, rows_of, column_of, item_
 ghost use Rattle.ft_index.specs.Kept.{Executes, OnlyLooks, IsOutside};
 ghost use Rattle.ft_index.specs.Changed.{with_tables};
 ghost use Rattle.ft_index.specs.Refused.{BlamesContent, BlamesOver, AreThere, NeverStore};
-ghost use Rattle.ft_index.specs.Planned.{PlansOver};
 ghost use Rattle.ft_index.specs.DocumentsRead.{HasRows, LooksFor};
 ghost use Rattle.ft_documents.specs.Gathered.{shown_document};
 ghost use Rattle.ft_index.specs.RowsRead as rows;
@@ -23,8 +22,8 @@ ghost use Rattle.ft_index.specs.RowsRead.{rows_asked, CountsRows};
 ghost use Rattle.ft_documents.specs.Chosen.{ReadsFilterAs, cells_at};
 ghost use Rattle.ft_index.specs.Selected.{hit_cells, IsOf, IsAsked};
 
-use crate::chosen::{chosen_documents, found_cells};
-use crate::documents::docids;
+use crate::chosen::chosen_documents;
+use crate::documents::{docids, document};
 use crate::matching::matched;
 use ft_content::{
     Column, Fault, Filter, Grid, Item, Items, Reply, Selection, TableInfo, Value, answer_names,
@@ -32,7 +31,7 @@ use ft_content::{
 };
 use ft_documents::{Document, filter_query, sound_table};
 use ft_query::{Hit, Query, offsets_text};
-use ft_store::{RowChange, Store};
+use ft_store::Store;
 use sqlite::Alter;
 use std::alloc::{AllocError, Global};
 
@@ -65,22 +64,12 @@ pub(crate) fn select_from<S: Alter>(
     Ok(Reply::Rows(Grid { names, rows }))
 }
 
-/// The row changes of a Select, which are none, or its fault.
-pub(crate) fn select_changes(
+/// The query of a Select over a table, after the tests of its names, or the fault that it deserves.
+pub(crate) fn select_query(
     alloc: Global,
-    tables: &[TableInfo],
+    info: &TableInfo,
     select: &Selection,
-) -> Result<Vec<RowChange>, Fault>
-    ensures plans { PlansOver tables.now (selection_of select.now) result }
-    ensures never { NeverStore result }
-{
-    let info = sound_table(tables, select.table.as_str())?;
-    select_query(alloc, info, select)?;
-    Ok(Vec::new(alloc))
-}
-
-// The query of a Select over a table, after the tests of its names, or the fault that it deserves.
-fn select_query(alloc: Global, info: &TableInfo, select: &Selection) -> Result<Option<Query>, Fault>
+) -> Result<Option<Query>, Fault>
     ensures query { IfOk result (λ query. ReadsFilterAs (bare_content info.now.columns.items)
         (filter_of select.now.filter) (option_map tree_of query)) }
     ensures fine { OnOk result (deserved.select_fault (string_bytes info.now.name)
@@ -258,7 +247,7 @@ fn hit_rows<S: Alter>(
     let mut rows = Vec::new(alloc);
     for hit in hits {
         let cells = if reads {
-            found_cells(alloc, store, tab, hit.docid)?
+            document(alloc, store, tab, hit.docid)?.ok_or(Fault::Store)?
         } else {
             Vec::new(alloc)
         };

@@ -14,7 +14,8 @@ ghost use Rattle.ft_content.specs.Views as views;
 
 use crate::documents::all_documents;
 use crate::row_state::{RowState, known_state};
-use crate::written::{Written, anew_changes, make_anew};
+use crate::tables::adding;
+use crate::written::{Written, make_anew};
 use ft_content::{Fault, Reply, TableInfo};
 use ft_documents::{additions, mark_sound, named_table, sound_table};
 use ft_store::{RowChange, Store};
@@ -36,12 +37,10 @@ pub(crate) fn check_table<S: Alter>(
 {
     store.is_in_order();
     let known = named_table(tables, table)?;
-    let state = known_state(alloc, store, known)?;
-    if state.is_sound() {
-        Ok(Reply::Done)
-    } else {
-        Err(Fault::Corrupt)
+    if known_state(alloc, store, known)?.is_sound() {
+        return Ok(Reply::Done);
     }
+    Err(Fault::Corrupt)
 }
 
 /// Answers a Rebuild: a table whose rows are right as they are read stays, and another is made anew
@@ -79,8 +78,13 @@ pub(crate) fn rebuild_changes<S: Alter>(
     ensures refused { BlamesStore (shows S.Store store.old) (shows S.Store store.new) result }
 {
     let known = named_table(tables, table)?;
-    let anew = rebuilt(alloc, store, known)?;
-    Ok(anew_changes(alloc, anew)?)
+    let Some(written) = rebuilt(alloc, store, known)? else {
+        return Ok(Vec::new(alloc));
+    };
+    let first = adding(alloc, written.table)?;
+    let mut changes = written.changes(alloc)?;
+    changes.insert(0, first)?;
+    Ok(changes)
 }
 
 // The table with the documents that it is made anew with, none where its rows are right as they are

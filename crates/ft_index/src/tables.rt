@@ -1,26 +1,23 @@
 //! Tables that are made and removed, and names that are noted.
-ghost use Rattle.std.specs.Prelude.{◌≡◌, ◌∷◌, [], if◌then◌else◌, map, is_ok, All, Err, IfOk};
+ghost use Rattle.std.specs.Prelude.{◌≡◌, ◌∷◌, [], map, All, IfOk};
 ghost use Rattle.ft_rows.specs.Changes.{shown_change, CanApply};
 ghost use Rattle.ft_content.specs.Views.{shown_info, creation_of};
 ghost use Rattle.ft_content.specs.Deserved.{Contents};
 ghost use Rattle.ft_index.specs.Kept.{BlamesStore, BlamesChanges, table_info};
 ghost use Rattle.ft_index.specs.Planned.{PlansOver, PlansTable, table_change};
-ghost use Rattle.ft_index.specs.Changed.{with_tables, MakesRows, Does, LooksAsked, MakesAsked};
-ghost use Rattle.ft_documents.specs.Found.{with_info};
-ghost use Rattle.ft_index.specs.Refused.{BlamesDone, BlamesMade, NeverStore};
-ghost use Rattle.sqlite.specs.State.{HasCleanDisk};
-ghost use Rattle.ft_rows.specs.Shown.{shown_note};
+ghost use Rattle.ft_index.specs.Changed.{with_tables, MakesRows, Does, MakesAsked};
+ghost use Rattle.ft_index.specs.Refused.{BlamesDone, NeverStore};
 ghost use Rattle.ft_rows.specs.Store.{Note};
-ghost use Rattle.ft_store.specs.Kept.{shows, value_in};
+ghost use Rattle.ft_store.specs.Kept.{shows};
 ghost use Rattle.ft_content.specs.Command as plain;
-ghost use Rattle.ft_store.specs.Blame.{Blames, AreNotedTexts, TakesOut};
+ghost use Rattle.ft_store.specs.Blame.{TakesOut};
 
 use ft_content::{
     Creation, Fault, Reply, TableInfo, column_names, create_fault, free_id, made_columns,
     made_names,
 };
 use ft_documents::{insert_table, remove_table, skipped};
-use ft_store::{RowChange, Store, StoreFault};
+use ft_store::{RowChange, Store};
 use ft_values::table_place;
 use sqlite::Alter;
 use std::alloc::{AllocError, Global};
@@ -79,7 +76,7 @@ pub(crate) fn create_changes(
     Ok(changes)
 }
 
-/// Answers a Create.
+/// Answers a Create. A table is made in the store, and in the list that is kept beside it.
 pub(crate) fn create_table<S: Alter>(
     alloc: Global,
     store: &mut Store<S>,
@@ -93,34 +90,17 @@ pub(crate) fn create_table<S: Alter>(
         (creation_of creation.now) store.new result }
 {
     store.is_in_order();
-    let made = made_table(alloc, tables.as_slice(), creation)?;
-    if let Some(made) = made {
-        add_table(alloc, store, tables, made)?;
-    }
-    Ok(Reply::Done)
-}
-
-// Makes a table, in the store and in the list that is kept beside it, or does nothing.
-fn add_table<S: Alter>(
-    alloc: Global,
-    store: &mut Store<S>,
-    tables: &mut Vec<TableInfo>,
-    made: TableInfo,
-) -> Result<(), Fault>
-    ensures makes { MakesRows S.Store store.old store.new (table_change made ∷ []) result }
-    ensures told { map shown_info tables.new.items
-        ≡ (if is_ok result then with_info (shown_info made) (map shown_info tables.old.items) else
-        map shown_info tables.old.items) }
-    ensures refused { BlamesMade S.Store store.old store.new result (table_change made ∷ []) }
-{
+    let Some(made) = made_table(alloc, tables.as_slice(), creation)? else {
+        return Ok(Reply::Done);
+    };
     let mut changes = Vec::new(alloc);
     changes.push(adding(alloc, &made)?)?;
     let place = insert_table(tables, made)?;
-    let answer = change_rows(store, changes.as_slice());
-    if answer.is_err() {
+    if let Err(fault) = change_rows(store, changes.as_slice()) {
         tables.remove(place);
+        return Err(fault);
     }
-    answer
+    Ok(Reply::Done)
 }
 
 /// The row changes of a Drop.
@@ -191,16 +171,4 @@ pub(crate) fn note_name<S: Alter>(
     changes.push(RowChange::Note(String::from_str(alloc, name)?))?;
     store.ping()?;
     change_rows(store, changes.as_slice())
-}
-
-/// The noted names, where the store is open.
-pub(crate) fn noted_names<S: Alter>(store: &mut Store<S>) -> Result<Vec<String>, StoreFault>
-    ensures names { HasCleanDisk (shows S.Store store.new)
-        → IfOk result (λ found. map shown_note found.items ≡ (value_in S.Store store.old).noted) }
-    ensures looks { LooksAsked S.Store store.old store.new result }
-    ensures refused { AreNotedTexts (value_in S.Store store.old)
-        → Blames (shows S.Store store.old) (shows S.Store store.new) result }
-{
-    store.ping()?;
-    store.noted()
 }

@@ -1,23 +1,21 @@
 //! Documents that commands write: which they are, and how they are made.
-ghost use Rattle.std.specs.Prelude.{◌++◌, map, IfOk, ◌≡◌, zip, slice_get, unwrap_or, ◌⊎◌, IfErr, OnOk, IsTrue, Some};
+ghost use Rattle.std.specs.Prelude.{◌++◌, map, IfOk, ◌≡◌, zip, slice_get};
 ghost use Rattle.std.specs.Vec.Iter.{into_iter_items};
 ghost use Rattle.ft_content.specs.Views.{column_of, cells_of, insertion_of, shown_info, modification_of, deletion_of};
 ghost use Rattle.ft_documents.specs.Rewrite.{shown_rewrite};
 ghost use Rattle.ft_documents.specs.RewriteRows.{rewrite_changes};
 ghost use Rattle.ft_rows.specs.Changes.{shown_change};
-ghost use Rattle.ft_index.specs.Written.{first_parts, AnswersWritten, PlansWritten, AreOfAnew, MakesAnew, WritesIn, BlamesWritten};
-ghost use Rattle.sqlite.specs.State.{HasCleanDisk};
+ghost use Rattle.ft_index.specs.Written.{first_parts, AnswersWritten, PlansWritten, MakesAnew, WritesIn, BlamesWritten};
 ghost use Rattle.ft_store.specs.Kept.{shows};
 ghost use Rattle.ft_content.specs.Content.{Content};
 ghost use Rattle.ft_content.specs.Deserved.{docids_named};
-ghost use Rattle.ft_index.specs.DocumentsRead.{HasRows, Looks, LooksOn};
+ghost use Rattle.ft_index.specs.DocumentsRead.{HasRows, LooksOn, LooksFor};
 ghost use Rattle.ft_documents.specs.Gathered.{has_given};
 ghost use Rattle.ft_content.specs.Answer.{chosen};
 ghost use Rattle.ft_index.specs.Changed.{with_tables, Does};
-ghost use Rattle.ft_index.specs.Kept.{BlamesStore};
+ghost use Rattle.ft_index.specs.Kept.{BlamesStore, IsOutside};
 ghost use Rattle.ft_index.specs.Refused.{BlamesOver, BlamesDone};
 ghost use Rattle.ft_content.specs.Content as content;
-ghost use Rattle.ft_values.specs.declared.fault.Fault.TheVariants as faults;
 
 use crate::chosen::chosen_documents;
 use crate::documents::has_document;
@@ -104,22 +102,6 @@ pub(crate) fn found_changes(
     Ok(found?.changes(alloc)?)
 }
 
-/// The row changes that make a table anew with documents, none where nothing is to be made.
-pub(crate) fn anew_changes(
-    alloc: Global,
-    anew: Option<Written>,
-) -> Result<Vec<RowChange>, AllocError>
-    ensures { IfOk result (λ changes. AreOfAnew anew.entry (map shown_change changes.items)) }
-{
-    let Some(written) = anew else {
-        return Ok(Vec::new(alloc));
-    };
-    let table = written.table;
-    let mut changes = written.changes(alloc)?;
-    changes.insert(0, adding(alloc, table)?)?;
-    Ok(changes)
-}
-
 /// Makes a table anew with documents, or nothing where nothing is to be made. All of it is made or
 /// nothing, group by group.
 pub(crate) fn make_anew<S: Alter>(
@@ -196,8 +178,8 @@ pub(crate) fn insert_written<'t, S: Alter>(
     Ok(Written { table, rewrites })
 }
 
-// Of each row, whether the table has a document with the docid that the row gives. The store,
-// which is open if it is clean, is only read, whatever is answered.
+// Of each row, whether the table has a document with the docid that the row gives. The store is
+// only read, whatever is answered.
 fn stored_docids<S: Alter>(
     alloc: Global,
     store: &mut Store<S>,
@@ -205,20 +187,12 @@ fn stored_docids<S: Alter>(
     names: &[&str],
     rows: &[Vec<Value>],
 ) -> Result<Vec<bool>, Fault>
-    ensures found { IfOk result (λ stored. (HasCleanDisk (shows S.Store store.old)
-        → IsTrue (shows S.Store store.old).is_open) → (content : Content)
+    ensures found { IfOk result (λ stored. (content : Content)
         → HasRows S.Store tab store.old store.new content
         → stored.items ≡ map (λ row. has_given content.documents
         (slice_get (docids_named (zip (map (λ n. n.now) names.now) (cells_of row))) 0)) rows.now) }
-    ensures faults { IfErr result (λ fault. (fault ≡ faults.Store) ⊎ (fault ≡ faults.Memory)) }
-    ensures looks { (HasCleanDisk (shows S.Store store.old)
-        → IsTrue (shows S.Store store.old).is_open) → Looks S.Store store.old store.new }
-    ensures live { HasCleanDisk (shows S.Store store.new)
-        → OnOk result (IsTrue (shows S.Store store.old).is_open
-        → IsTrue (shows S.Store store.new).is_open) }
-    ensures refused { (HasCleanDisk (shows S.Store store.old)
-        → IsTrue (shows S.Store store.old).is_open)
-        → BlamesStore (shows S.Store store.old) (shows S.Store store.new) result }
+    ensures looks { LooksFor S.Store store.old store.new result IsOutside }
+    ensures refused { BlamesStore (shows S.Store store.old) (shows S.Store store.new) result }
 {
     let mut stored = Vec::new(alloc);
     for row in rows {

@@ -1,33 +1,13 @@
 -- by the kind of the filter
-use Rattle.std.proofs.Common.{rules, ℕ, ◌*◌, length, ◌≡◌, ◌∙◌, ◌∷◌, ◌++◌, [], ℤ, false, None, Ok, Result, Vec, Global, Option, map, option_map, string_bytes, Bor, refl, sym, ap, subst, to_z-of_z, to_z, of_z, w64, FitsSigned}
-use Rattle.std.specs.Prelude.{IfOk}
-use Rattle.std.specs.Ordering.{int_cmp}
-use Rattle.std.specs.FinMap.Entries.{find}
-use Rattle.ft_values.specs.declared.rows.Value.{Value}
-use Rattle.ft_documents.specs.declared.documents.Document.{Document}
-use Rattle.ft_documents.specs.Gathered.{shown_document}
-use Rattle.ft_documents.specs.Rewrite.{document_if}
+use Rattle.std.proofs.Common.{rules, ℕ, ◌*◌, length, ◌≡◌, ◌∙◌, ◌∷◌, ◌++◌, [], ℤ, false, None, Ok, Result, Vec, Global, Option, map, option_map, string_bytes, Bor, refl, sym, ap, subst, to_z-of_z, to_z, of_z, w64, FitsSigned, IfOk, int_cmp}
+use Rattle.ft_index.proofs.Common.{find, Value, Document, shown_document, document_if, YieldsList-from_map, YieldsList-from_slice, items_from_collect}
+use Rattle.ft_index.proofs.Common.{IfOk-weaker, map-map, Hit, Tree, tree_of, plain_hit, Match, chosen, cells_of, filter_of, HasRows, Looks, IsIndexed}
+use Rattle.ft_index.proofs.Common.{ReadsFilterAs, document_at, chosen_hits, as_wanted, more_rows, AreThere}
 use Rattle.std.specs.declared.alloc.AllocError.{AllocError}
-use Rattle.std.proofs.lemmas.Iterator.{YieldsList-from_map, YieldsList-from_slice, items_from_collect}
-use Rattle.std.proofs.lemmas.Result.{IfOk-weaker}
-use Rattle.sqlite_keyed.proofs.ListLemmas.{map-map}
-use Rattle.ft_query.specs.declared.walk.Hit.{Hit}
-use Rattle.ft_query.specs.Trees.{Tree, tree_of}
-use Rattle.ft_query.specs.Occurs.{plain_hit}
 use Rattle.ft_content.specs.declared.command.Filter.{Filter}
-use Rattle.ft_content.specs.Command.{Match}
-use Rattle.ft_content.specs.Answer.{chosen}
-use Rattle.ft_content.specs.Views.{cells_of, filter_of}
-use Rattle.ft_index.specs.DocumentsRead.{HasRows, Looks}
-use Rattle.ft_index.specs.Walked.{IsIndexed}
-use Rattle.ft_documents.specs.Chosen.{ReadsFilterAs, document_at}
-use Rattle.ft_documents.specs.Matched.{chosen_hits, as_wanted}
 use Rattle.ft_documents.proofs.ChosenLemmas.{chosen_all, chosen_one, of_hits}
-use Rattle.ft_store.specs.Kept.{more_rows}
-use Rattle.ft_index.proofs.ReadsLemmas.{rows_then, index_first, on_ok_from}
-use Rattle.ft_index.proofs.SelectRows.{one_rows}
-use Rattle.ft_index.specs.Refused.{AreThere}
-use Rattle.ft_index.proofs.Blaming.{then_blamed, has_at, index_in, hits_there}
+use Rattle.ft_index.proofs.Doing.{rows_then, index_first, on_ok_from, then_blamed, has_at, index_in, hits_there}
+use Rattle.ft_index.proofs.SelectAnswers.{one_rows}
 use Rattle.ft_index.proofs.chosen.chosen_documents.Goals as goal
 use Rattle.ft_index.proofs.chosen.chosen_documents.Goals.{in-Some+in_ok-push-in-Docid, in_default}
 

@@ -1,12 +1,6 @@
 -- the documents so far, of a store that was only read
-use Rattle.std.proofs.Common.{◌≡◌, map, take}
-use Rattle.std.specs.Prelude.{IsTrue}
-use Rattle.sqlite.specs.State.{HasCleanDisk}
-use Rattle.ft_store.specs.Kept.{shows}
-use Rattle.ft_content.specs.Content.{Content}
-use Rattle.ft_index.specs.DocumentsRead.{HasRows, Looks}
-use Rattle.ft_documents.specs.Gathered.{shown_document}
-use Rattle.ft_documents.specs.Chosen.{document_at}
+use Rattle.std.proofs.Common.{◌≡◌, map, take, IsTrue}
+use Rattle.ft_index.proofs.Common.{HasCleanDisk, shows, Content, HasRows, Looks, shown_document, document_at}
 use Rattle.ft_index.proofs.chosen.documents_under.Given as goal
 
 abbrev pub invariant-loop-docid : goal.invariant-loop-docid

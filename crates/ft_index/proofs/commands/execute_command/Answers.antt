@@ -1,15 +1,13 @@
 -- by what each command counts, and what it was found to write
 use Rattle.std.proofs.Common.{List, map, option_map, string_bytes, sym, subst, subst₂, refl}
+use Rattle.ft_index.proofs.Common.{shown_info, names_in, rows_of, set_of, filter_of, command_of, insertion_of, modification_of, answer_of, Does}
+use Rattle.ft_index.proofs.Common.{with_tables, CountsRows, BlamesDone}
 use Rattle.ft_content.specs.declared.command.Command.{Command}
 use Rattle.ft_values.specs.declared.table.TableInfo.{TableInfo}
 use Rattle.ft_content.specs.Command as plain
-use Rattle.ft_content.specs.Views.{shown_info, names_in, rows_of, set_of, filter_of, command_of, insertion_of, modification_of, answer_of}
-use Rattle.ft_index.specs.Changed.{Does, with_tables}
-use Rattle.ft_index.specs.RowsRead.{CountsRows}
-use Rattle.ft_index.proofs.Pinging.{counts_other}
+use Rattle.ft_index.proofs.Doing.{counts_other}
 use Rattle.ft_index.proofs.InsertWrites as inserts
 use Rattle.ft_index.proofs.UpdateWrites as updates
-use Rattle.ft_index.specs.Refused.{BlamesDone}
 use Rattle.ft_index.proofs.commands.execute_command.Goals as goal
 
 pub returns-in-Insert-clause-does : goal.returns-in-Insert-clause-does

@@ -2,8 +2,8 @@
 use Rattle.std.proofs.Common.{rules, ℕ, ap, ◌∙◌, to_z-of_z}
 use Rattle.ft_store.specs.Kept.{value_in, more_rows, shows}
 use Rattle.ft_documents.proofs.ReadRows.{all_read}
-use Rattle.ft_index.proofs.SelectRows.{all_rows}
-use Rattle.ft_index.proofs.Blaming.{store_blamed}
+use Rattle.ft_index.proofs.SelectAnswers.{all_rows}
+use Rattle.ft_index.proofs.Doing.{store_blamed}
 use Rattle.ft_index.proofs.documents.all_documents.Goals as goal
 
 pub returns-clause-told : goal.returns-clause-told

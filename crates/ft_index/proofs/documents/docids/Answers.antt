@@ -1,14 +1,11 @@
 -- the docids of the content, by the limits
 use Rattle.std.proofs.Common.{rules, ℕ, ℤ, true, false, cond, List, map, length, ap, sym, ◌∙◌, to_z-of_z, ◌≡◌}
-use Rattle.std.proofs.lemmas.List.{length-map}
-use Rattle.ft_values.specs.Cells.{Cell}
-use Rattle.ft_store.specs.Kept.{value_in, more_rows, shows}
+use Rattle.ft_index.proofs.Common.{length-map, Cell, value_in, more_rows, shows, cut}
 use Rattle.ft_store.specs.Docids.{docids_in}
-use Rattle.ft_content.specs.Answer.{cut}
 use Rattle.ft_content.proofs.AnswerLemmas.{cut_of_map}
 use Rattle.ft_index.specs.RowsRead.{are_short}
-use Rattle.ft_index.proofs.DocidReads.{docids_read, cut_is}
-use Rattle.ft_index.proofs.Blaming.{store_blamed}
+use Rattle.ft_index.proofs.SelectAnswers.{docids_read, cut_is}
+use Rattle.ft_index.proofs.Doing.{store_blamed}
 use Rattle.ft_index.proofs.documents.docids.Goals as goal
 
 pub returns-in-Some-clause-told : goal.returns-in-Some-clause-told

@@ -1,9 +1,8 @@
 -- by the cells of the docid
 use Rattle.std.proofs.Common.{rules, sym, ap, ◌∙◌, to_z-of_z, w64, FitsSigned}
-use Rattle.ft_store.specs.Kept.{value_in, shows}
-use Rattle.ft_documents.specs.Gathered.{has_given}
-use Rattle.ft_index.proofs.DocidReads.{there_read}
-use Rattle.ft_index.proofs.Blaming.{store_blamed}
+use Rattle.ft_index.proofs.Common.{value_in, shows, has_given}
+use Rattle.ft_index.proofs.SelectAnswers.{there_read}
+use Rattle.ft_index.proofs.Doing.{store_blamed}
 use Rattle.ft_index.proofs.documents.has_document.Goals as goal
 
 pub returns-in_ok-has_document-in-Some-clause-found : goal.returns-in_ok-has_document-in-Some-clause-found

@@ -1,15 +1,8 @@
 -- by the table as it is listed, and its rows
 use Rattle.std.proofs.Common.{ap, subst, sym, ◌∙◌, arith, rules}
-use Rattle.std.proofs.lemmas.Result.{IfOk-weaker}
-use Rattle.sqlite.specs.State.{HasCleanDisk}
-use Rattle.ft_store.specs.Kept.{shows, value_in}
-use Rattle.ft_content.specs.Views.{shown_info}
-use Rattle.ft_index.specs.Kept.{Stands}
-use Rattle.ft_index.specs.Opened.{IsListed, state_of}
-use Rattle.ft_documents.specs.Tables.{table_rows, table_index}
-use Rattle.ft_index.proofs.HeldLemmas.{held_once}
-use Rattle.ft_index.proofs.ReadsLemmas.{looks_then}
-use Rattle.ft_index.proofs.RowStateReads.{blamed_after, looked}
+use Rattle.ft_index.proofs.Common.{IfOk-weaker, HasCleanDisk, shows, value_in, shown_info, Stands, IsListed, state_of, table_rows, table_index}
+use Rattle.ft_index.proofs.OpenedTables.{held_once, blamed_after, looked}
+use Rattle.ft_index.proofs.Doing.{looks_then}
 use Rattle.ft_index.proofs.row_state.known_state.Goals as goal
 
 pub returns-clause-told : goal.returns-clause-told

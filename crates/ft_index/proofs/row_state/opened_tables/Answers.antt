@@ -1,17 +1,10 @@
 -- one table more
-use Rattle.std.proofs.Common.{◌≡◌, ◌++◌, ◌∷◌, [], map, refl, sym, ap, subst, ◌∙◌, rules, arith, to_z, of_z, w64, to_z-of_z, FitsSigned}
-use Rattle.std.proofs.lemmas.List.{map-append, map-id}
+use Rattle.std.proofs.Common.{◌≡◌, ◌++◌, ◌∷◌, [], map, refl, sym, ap, subst, ◌∙◌, rules, arith, to_z, of_z, w64, to_z-of_z, FitsSigned, map-id}
+use Rattle.ft_index.proofs.Common.{map-append, HasCleanDisk, shows, value_in, shown_table, TabRow, RustTableInfo, shown_info}
 use Rattle.std.proofs.lemmas.Iterator.Adapters.{YieldsList-from_vec}
 use Rattle.std.proofs.lemmas.Iterator.Consumers.{YieldsList-end}
-use Rattle.sqlite.specs.State.{HasCleanDisk}
-use Rattle.ft_store.specs.Kept.{shows, value_in}
-use Rattle.ft_rows.specs.Shown.{shown_table}
-use Rattle.ft_values.specs.declared.rows.TabRow.{TabRow}
-use Rattle.ft_values.specs.declared.table.TableInfo.{TableInfo as RustTableInfo}
-use Rattle.ft_content.specs.Views.{shown_info}
-use Rattle.ft_index.proofs.ReadsLemmas.{looks_then}
-use Rattle.ft_index.proofs.RowStateReads.{looked, marked, blamed_after}
-use Rattle.ft_index.proofs.OpenedTables.{IsMarkedRow, AreMarkedRows, one_marked_more, are_marked}
+use Rattle.ft_index.proofs.Doing.{looks_then}
+use Rattle.ft_index.proofs.OpenedTables.{looked, marked, blamed_after, IsMarkedRow, AreMarkedRows, one_marked_more, are_marked}
 use Rattle.ft_index.proofs.row_state.opened_tables.Goals as goal
 
 pub loop-row-preserved : goal.loop-row-preserved

@@ -1,10 +1,6 @@
 -- the tables so far, in a store that was only read and is open if it is clean
-use Rattle.std.proofs.Common.{map}
-use Rattle.std.specs.Prelude.{IsTrue}
-use Rattle.sqlite.specs.State.{HasCleanDisk}
-use Rattle.ft_store.specs.Kept.{shows, value_in}
-use Rattle.ft_content.specs.Views.{shown_info}
-use Rattle.ft_index.specs.DocumentsRead.{Looks}
+use Rattle.std.proofs.Common.{map, IsTrue}
+use Rattle.ft_index.proofs.Common.{HasCleanDisk, shows, value_in, shown_info, Looks}
 use Rattle.ft_index.proofs.OpenedTables.{AreMarkedRows}
 use Rattle.ft_index.proofs.row_state.opened_tables.Given as goal
 

@@ -1,14 +1,8 @@
 -- all documents by their docids
 use Rattle.std.proofs.Common.{rules, ◌≡◌, ℤ, List, pos, length, to_z, w64, sym, ap, subst, ◌∙◌, to_z-of_z}
-use Rattle.std.proofs.lemmas.List.{length-map}
-use Rattle.ft_values.specs.Cells.{Cell}
+use Rattle.ft_index.proofs.Common.{length-map, Cell, chosen, filter_of, more_rows, HasRows, count_asked}
 use Rattle.ft_content.specs.declared.command.Filter.{Filter}
-use Rattle.ft_content.specs.Answer.{chosen}
-use Rattle.ft_content.specs.Views.{filter_of}
 use Rattle.ft_documents.proofs.ChosenLemmas.{chosen_all}
-use Rattle.ft_store.specs.Kept.{more_rows}
-use Rattle.ft_index.specs.DocumentsRead.{HasRows}
-use Rattle.ft_index.specs.RowsRead.{count_asked}
 use Rattle.ft_index.proofs.select.chosen_count.Goals as goal
 
 pub returns-in_ok-docids-in-All-clause-told : goal.returns-in_ok-docids-in-All-clause-told

@@ -1,10 +1,6 @@
 -- the rows so far
 use Rattle.std.proofs.Common.{◌≡◌, None, false, map, take}
-use Rattle.std.specs.List.{list_any}
-use Rattle.ft_content.specs.Answer.{item_rows}
-use Rattle.ft_content.specs.Deserved.{is_offsets}
-use Rattle.ft_content.specs.Views.{bare_content, rows_of, item_of}
-use Rattle.ft_documents.specs.Gathered.{shown_document}
+use Rattle.ft_index.proofs.Common.{list_any, item_rows, is_offsets, bare_content, rows_of, item_of, shown_document}
 use Rattle.ft_index.proofs.select.document_rows.Given as goal
 
 abbrev pub invariant-loop-document : goal.invariant-loop-document

@@ -1,12 +1,10 @@
 -- the items as the definitions see them
 use Rattle.std.proofs.Common.{Bool, sym, ◌∙◌, rules, tests}
-use Rattle.std.proofs.lemmas.Iterator.{YieldsList-from_slice}
+use Rattle.ft_index.proofs.Common.{YieldsList-from_slice, item_of, reads_document}
 use Rattle.std.proofs.lemmas.Iterator.Search.{any_from_yields_List}
 use Rattle.ft_content.specs.declared.command.Item.{Item}
 use Rattle.ft_content.specs.Command as plain
-use Rattle.ft_content.specs.Views.{item_of}
 use Rattle.ft_content.proofs.Lists.{any_of_map}
-use Rattle.ft_index.specs.RowsRead.{reads_document}
 use Rattle.ft_index.proofs.select.has_column.Goals as goal
 
 pub returns : goal.returns

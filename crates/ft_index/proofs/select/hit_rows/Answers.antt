@@ -1,28 +1,13 @@
 -- a row more, with the cells that were read
-use Rattle.std.proofs.Common.{◌≡◌, ◌+◌, ◌-◌, ◌*◌, ◌^◌, ℕ, ℤ, List, [], ◌∷◌, ◌++◌, Vec, Global, arith, min, cond, true, false, Some, map, length, take, sym, ap, subst, ◌∙◌, to_z, of_z, w64, to_z-of_z, FitsSigned, rules}
-use Rattle.std.specs.Prelude.{unwrap_or, IsTrue, IsSome}
-use Rattle.std.specs.List.{list_any, flat_map}
-use Rattle.std.specs.Ordering.{int_cmp}
-use Rattle.std.specs.FinMap.Entries.{find}
-use Rattle.std.proofs.lemmas.List.{take_more, take_all, map-append, length-map}
-use Rattle.sqlite.specs.State.{HasCleanDisk}
-use Rattle.ft_query.specs.declared.walk.Hit.{Hit}
-use Rattle.ft_query.specs.Occurs.{offsets_text}
-use Rattle.ft_store.specs.Kept.{StoreState, shows}
-use Rattle.ft_values.specs.Cells.{shown_value, Cell, Text}
-use Rattle.ft_values.specs.declared.rows.Value.{Value}
-use Rattle.ft_content.specs.Answer.{cells_with}
-use Rattle.ft_content.specs.Content.{Content}
-use Rattle.ft_content.specs.Views.{bare_content, cells_of, rows_of, column_of, item_of}
-use Rattle.ft_index.specs.DocumentsRead.{HasRows, Looks}
-use Rattle.ft_documents.specs.Chosen.{cells_at}
-use Rattle.ft_index.specs.RowsRead.{reads_document}
-use Rattle.ft_index.specs.Selected.{hit_cells}
-use Rattle.ft_index.proofs.ReadsLemmas.{looks_then, rows_first, rows_then}
-use Rattle.ft_index.proofs.SelectRows.{row_unread, found_wide, counted_more}
-use Rattle.ft_index.proofs.Blaming.{then_blamed, has_at, there_of}
+use Rattle.std.proofs.Common.{◌≡◌, ◌+◌, ◌-◌, ◌*◌, ◌^◌, ℕ, ℤ, List, [], ◌∷◌, ◌++◌, Vec, Global, arith, min, cond, true, false, None, Some, option_map, vec_len, refl, map, length, take, sym, ap, subst, ◌∙◌, to_z, of_z, w64, to_z-of_z, FitsSigned, rules, IsTrue, IsSome, flat_map, int_cmp}
+use Rattle.ft_index.proofs.Common.{unwrap_or, list_any, find, take_more, take_all, map-append, length-map, HasCleanDisk, Hit, offsets_text}
+use Rattle.ft_index.proofs.Common.{StoreState, shows, more_rows, shown_value, Cell, Text, Value, cells_with, Content, bare_content, cells_of, rows_of}
+use Rattle.ft_index.proofs.Common.{column_of, item_of, HasRows, Looks, cells_at, reads_document, hit_cells}
+use Rattle.std.specs.Option.{option_map_or}
+use Rattle.ft_index.proofs.Doing.{looks_then, rows_first, rows_then, then_blamed, has_at, rows_in, none_there, there_of}
+use Rattle.ft_index.proofs.SelectAnswers.{row_unread, found_wide, counted_more}
 use Rattle.ft_index.proofs.select.hit_rows.Goals as goal
-use Rattle.ft_index.proofs.select.hit_rows.Goals.{then-reads+in_ok-cells, else-reads}
+use Rattle.ft_index.proofs.select.hit_rows.Goals.{then-reads+in_ok-document+in_ok-cells, else-reads}
 
 -- no row more is no change of the count
 kept_read : (rows middle n : ℕ) → middle ≡ min (rows + n) (2 ^ 64 - 1) → middle ≡ min (middle + 0) (2 ^ 64 - 1)
@@ -55,27 +40,28 @@ loop-hit-preserved g c =
     ∙ (λ i. before i ++ (made ∙ same) i ∷ [])
     ∙ sym (ap (map row) more ∙ map-append row (take k c.args.hits.now) (hit ∷ [])) in
     elim c.if-reads.branch [
-      | then-reads+in_ok-cells w ↦
-          let read = w.in_ok-cells.ensures in
-          let last : StoreState g.row.S.Denot = w.found_cells.new.store in
+      | then-reads+in_ok-document+in_ok-cells w ↦
+          let read = w.in_ok-document.ensures in
+          let some : w.in_ok-document.field-0 ≡ Some w.in_ok-cells.cells = search rules in
+          let last : StoreState g.row.S.Denot = w.document.new.store in
           let has : list_any reads_document items ≡ true = sym c.has_column-reads.ensures ∙ w.if-reads.true in
           record {
             looks = subst (Looks g.S.Store first) (sym w.store-is) (looks_then g.S.Store first middle last so_far.looks read.looks.only so_far.live);
             live = subst (λ (s : StoreState g.row.S.Denot). HasCleanDisk (shows g.S.Store s) → IsTrue (shows g.S.Store first).is_open → IsTrue (shows g.S.Store s).is_open) (sym w.store-is) (λ clean _. read.looks.live clean);
             found = λ content held.
                 let rows = subst (λ (s : StoreState g.row.S.Denot). HasRows g.S.Store tab first s content) w.store-is held in
-                let found = read.told content (rows_then g.S.Store first middle last so_far.looks read.looks.only tab content rows) in
+                let found = sym (read.told content (rows_then g.S.Store first middle last so_far.looks read.looks.only tab content rows)) ∙ ap (option_map cells_of) some in
                 let here : cells ≡ cells_at content hit.docid = ap (λ (v : Vec Value Global). cells_of v) w.cells-is ∙ read_cells content hit.docid (cells_of w.in_ok-cells.cells) (ap (λ (d : ℤ). find int_cmp d content.documents) (sym back) ∙ found) in
                 added content (so_far.found content (rows_first g.S.Store first middle last so_far.looks read.looks.only tab content rows)) (ap (λ (cs : List Cell). hit_cells columns items (λ k. cs) hit) here);
             counted = λ content held.
                 let rows = subst (λ (s : StoreState g.row.S.Denot). HasRows g.S.Store tab first s content) w.store-is held in
-                let found = read.told content (rows_then g.S.Store first middle last so_far.looks read.looks.only tab content rows) in
+                let found = sym (read.told content (rows_then g.S.Store first middle last so_far.looks read.looks.only tab content rows)) ∙ ap (option_map cells_of) some in
                 let width = length content.columns in
                 let wide = found_wide rows.name content (to_z w64 (of_z w64 hit.docid)) (cells_of w.in_ok-cells.cells) rows.is_content found in
                 let many : w.in_ok-cells.cells.len ≡ cond (list_any reads_document items) width 0 =
                 w.in_ok-cells.cells.ok.0 ∙ sym (length-map w.in_ok-cells.cells.items shown_value) ∙ wide ∙ sym (ap (λ b. cond b width 0) has) in
                 ap (λ (s : StoreState g.row.S.Denot). s.rows_read) w.store-is
-                ∙ counted_more first.rows_read middle.rows_read last.rows_read (cond (list_any reads_document items) width 0) k w.in_ok-cells.cells.len many (so_far.counted content (rows_first g.S.Store first middle last so_far.looks read.looks.only tab content rows)) read.counted;
+                ∙ counted_more first.rows_read middle.rows_read last.rows_read (cond (list_any reads_document items) width 0) k w.in_ok-cells.cells.len many (so_far.counted content (rows_first g.S.Store first middle last so_far.looks read.looks.only tab content rows)) (read.counted ∙ ap (λ o. more_rows (option_map_or vec_len o 0) middle) some);
           }
       | else-reads w ↦
           let none : list_any reads_document items ≡ false = sym c.has_column-reads.ensures ∙ w.if-reads.false in
@@ -102,18 +88,26 @@ returns-clause-told g c = λ content rows.
 pub returns-in_err-push-clause-looks : goal.returns-in_err-push-clause-looks
 returns-in_err-push-clause-looks g c = record {
   only = elim c.if-reads.branch [
-    | then-reads+in_ok-cells w ↦ subst (Looks g.S.Store c.args.store.now) (sym w.store-is) (looks_then g.S.Store c.args.store.now c.loop-hit.store w.found_cells.new.store c.loop-hit.invariant.looks w.in_ok-cells.ensures.looks.only c.loop-hit.invariant.live)
+    | then-reads+in_ok-document+in_ok-cells w ↦ subst (Looks g.S.Store c.args.store.now) (sym w.store-is) (looks_then g.S.Store c.args.store.now c.loop-hit.store w.document.new.store c.loop-hit.invariant.looks w.in_ok-document.ensures.looks.only c.loop-hit.invariant.live)
     | else-reads w ↦ subst (Looks g.S.Store c.args.store.now) (sym w.store-is) c.loop-hit.invariant.looks
   ];
   live = search rules;
   cause = search rules;
 }
 
+pub returns-in_err-document-clause-refused : goal.returns-in_err-document-clause-refused
+returns-in_err-document-clause-refused g c = λ name content has there clean told.
+    let so_far = c.loop-hit.invariant in
+    then_blamed g.S.Store c.args.store.now c.loop-hit.store c.document.new.store so_far.looks so_far.live c.in_err-document.ensures.looks.only.survives clean (λ middle is_open same. c.document.ensures.refused clean (search rules))
+
 pub returns-in_err-cells-clause-refused : goal.returns-in_err-cells-clause-refused
 returns-in_err-cells-clause-refused g c = λ name content has there clean told.
     let so_far = c.loop-hit.invariant in
+    let read = c.in_ok-document.ensures in
     let hit : Hit = c.hit-item.result in
     let fits : FitsSigned w64 hit.docid = search rules in
     let here = subst (λ (h : Hit). IsSome (find int_cmp h.docid content.documents)) (sym c.hit-item.is) (there_of content c.args.hits.now there c.loop-hit.hit-index hit c.loop-hit-test.true) in
-    then_blamed g.S.Store c.args.store.now c.loop-hit.store c.found_cells.new.store so_far.looks so_far.live c.found_cells.ensures.looks.only.survives clean (λ middle is_open same.
-    c.found_cells.ensures.refused name content (has_at (sym same) (sym (to_z-of_z c.ranges.tab)) has) (subst (λ (k : ℤ). IsSome (find int_cmp k content.documents)) (sym (to_z-of_z fits)) here) clean (search rules))
+    let none : c.in_ok-document.field-0 ≡ None = search rules in
+    then_blamed g.S.Store c.args.store.now c.loop-hit.store c.document.new.store so_far.looks so_far.live read.looks.only.survives clean (λ middle is_open same.
+    let rows = rows_in g.S.Store _ c.args.tab (to_z-of_z c.ranges.tab) c.loop-hit.store c.document.new.store name content (has_at (sym same) refl has) clean (read.looks.live clean) in
+    absurd (none_there content hit.docid here (ap (λ (k : ℤ). find int_cmp k content.documents) (sym (to_z-of_z fits)) ∙ sym (read.told content rows) ∙ ap (option_map cells_of) none)))

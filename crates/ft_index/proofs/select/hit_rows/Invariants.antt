@@ -1,15 +1,7 @@
 -- the rows so far, and those that were read
-use Rattle.std.proofs.Common.{◌≡◌, ◌*◌, cond, map, take, length}
-use Rattle.std.specs.Prelude.{IsTrue}
-use Rattle.std.specs.List.{list_any}
-use Rattle.sqlite.specs.State.{HasCleanDisk}
-use Rattle.ft_store.specs.Kept.{shows, more_rows}
-use Rattle.ft_content.specs.Content.{Content}
-use Rattle.ft_content.specs.Views.{rows_of, column_of, item_of}
-use Rattle.ft_index.specs.DocumentsRead.{HasRows, Looks}
-use Rattle.ft_documents.specs.Chosen.{cells_at}
-use Rattle.ft_index.specs.RowsRead.{reads_document}
-use Rattle.ft_index.specs.Selected.{hit_cells}
+use Rattle.std.proofs.Common.{◌≡◌, ◌*◌, cond, map, take, length, IsTrue}
+use Rattle.ft_index.proofs.Common.{list_any, HasCleanDisk, shows, more_rows, Content, rows_of, column_of, item_of, HasRows, Looks, cells_at}
+use Rattle.ft_index.proofs.Common.{reads_document, hit_cells}
 use Rattle.ft_index.proofs.select.hit_rows.Given as goal
 
 abbrev pub invariant-loop-hit : goal.invariant-loop-hit

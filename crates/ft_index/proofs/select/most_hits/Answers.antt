@@ -1,8 +1,7 @@
 -- the sum of both, where it has 64 bits
 use Rattle.std.proofs.Common.{rules, ◌≡◌, Option, Some, ℕ, subst, sym}
-use Rattle.ft_query.specs.Occurs.{PlainHit}
-use Rattle.ft_content.specs.Answer.{cut}
-use Rattle.ft_index.proofs.SelectRows.{enough_taken}
+use Rattle.ft_index.proofs.Common.{PlainHit, cut}
+use Rattle.ft_index.proofs.SelectAnswers.{enough_taken}
 use Rattle.ft_index.proofs.select.most_hits.Goals as goal
 
 pub returns-clause-enough : goal.returns-clause-enough

@@ -1,22 +1,12 @@
 -- by the table that is found, its query, and what was read
 use Rattle.std.proofs.Common.{◌≡◌, ℕ, ℤ, List, Option, Result, Err, map, option_map, Bor, string_bytes, sym, subst, ◌∙◌, to_z, of_z, w64, to_z-of_z, FitsSigned, rules, refl}
-use Rattle.ft_query.specs.Trees.{Tree, tree_of}
-use Rattle.ft_values.specs.declared.fault.Fault.{Fault}
-use Rattle.ft_content.specs.declared.command.Reply.{Reply}
-use Rattle.ft_values.specs.declared.table.TableInfo.{TableInfo as RustTableInfo}
+use Rattle.ft_index.proofs.Common.{Tree, tree_of, Fault, Reply, RustTableInfo, answer_names, answer, Content, bare_content, shown_info, column_of}
+use Rattle.ft_index.proofs.Common.{items_of, filter_of, selection_of, names_in, answer_of, IsUnfit, IsSoundNamed, with_tables, Executes, IsAsked}
+use Rattle.ft_index.proofs.Common.{value_in}
 use Rattle.ft_values.specs.declared.table.Column.{Column}
-use Rattle.ft_content.specs.Answer.{answer_names, answer}
-use Rattle.ft_content.specs.Content.{Content}
-use Rattle.ft_content.specs.Views.{bare_content, shown_info, column_of, items_of, filter_of, selection_of, names_in, grid_of, answer_of}
-use Rattle.ft_documents.specs.Found.{IsUnfit, IsSoundNamed}
-use Rattle.ft_index.specs.Changed.{with_tables}
-use Rattle.ft_index.specs.Kept.{Executes}
-use Rattle.ft_index.specs.Selected.{IsAsked}
-use Rattle.ft_index.proofs.Executing.{executes_read, fault_answers}
-use Rattle.ft_index.proofs.ReadsLemmas.{no_look}
+use Rattle.ft_content.specs.Views.{grid_of}
+use Rattle.ft_index.proofs.Doing.{executes_read, fault_answers, no_look, over_sound, has_at}
 use Rattle.ft_index.proofs.SelectAnswers.{names_bare, reads_passed, passed_tree, select_unplanned, select_fails, select_done, select_counts}
-use Rattle.ft_store.specs.Kept.{value_in}
-use Rattle.ft_index.proofs.Blaming.{over_sound, has_at}
 use Rattle.ft_index.proofs.select.select_from.Goals as goal
 use Rattle.ft_index.proofs.select.select_from.Goals.{After-selected_rows}
 

@@ -1,8 +1,7 @@
 -- the tests, and then the query
 use Rattle.std.proofs.Common.{◌≡◌, inr, ◌∙◌, Option, Some, string_bytes, sym, ap}
-use Rattle.ft_values.specs.declared.fault.Fault.{Fault}
-use Rattle.ft_content.specs.Deserved.{or_else, select_tests, query_fault}
-use Rattle.ft_content.specs.Views.{bare_content, items_of, filter_of}
+use Rattle.ft_index.proofs.Common.{Fault, or_else, query_fault, bare_content, items_of, filter_of}
+use Rattle.ft_content.specs.Deserved.{select_tests}
 use Rattle.ft_documents.proofs.FaultLemmas.{if_err_memory}
 use Rattle.ft_index.proofs.select.select_query.Goals as goal
 

@@ -1,33 +1,16 @@
 -- a count, the hits of a MATCH, the documents by their docids, or those that are read
-use Rattle.ft_query.specs.Trees.{tree_of}
-use Rattle.std.proofs.Common.{option_map, Bor, rules, ◌≡◌, ◌+◌, ◌-◌, ◌*◌, ◌^◌, ◌||◌, ◌&&◌, not, min, cond, ℕ, ℤ, List, [], false, true, map, length, string_bytes, sym, ap, subst, ◌∙◌, to_z, of_z, w64, to_z-of_z}
-use Rattle.std.specs.Prelude.{is_some}
-use Rattle.std.specs.List.{list_any}
-use Rattle.std.proofs.lemmas.List.{length-map}
-use Rattle.std.proofs.lemmas.Result.{IfOk-weaker}
-use Rattle.ft_query.specs.declared.walk.Hit.{Hit}
-use Rattle.ft_query.specs.Occurs.{PlainHit, plain_hit}
-use Rattle.ft_values.specs.Cells.{Cell}
+use Rattle.std.proofs.Common.{option_map, Bor, rules, ◌≡◌, ◌+◌, ◌-◌, ◌*◌, ◌^◌, ◌||◌, ◌&&◌, not, min, cond, ℕ, ℤ, List, [], false, true, map, length, string_bytes, sym, ap, subst, ◌∙◌, to_z, of_z, w64, to_z-of_z, is_some}
+use Rattle.ft_index.proofs.Common.{tree_of, list_any, length-map, IfOk-weaker, Hit, PlainHit, plain_hit, Cell, Content, Match, Listed, cut, is_match}
+use Rattle.ft_index.proofs.Common.{is_offsets, items_in, items_of, filter_of, column_of, item_of, Document, document_at, ReadsFilterAs, chosen_hits}
+use Rattle.ft_index.proofs.Common.{as_wanted, HasRows, reads_document, rows_asked, IsOf, IsIndexed, AreThere}
 use Rattle.ft_content.specs.declared.command.Item.{Item}
 use Rattle.ft_content.specs.declared.command.Items.{Items}
-use Rattle.ft_content.specs.Content.{Content}
-use Rattle.ft_content.specs.Command.{All, Match, Listed}
-use Rattle.ft_content.specs.Answer.{cut, answer_rows}
-use Rattle.ft_content.specs.Deserved.{is_match, is_offsets, items_in}
-use Rattle.ft_content.specs.Views.{items_of, filter_of, column_of, item_of}
-use Rattle.ft_documents.specs.declared.documents.Document.{Document}
-use Rattle.ft_documents.specs.Chosen.{document_at, ReadsFilterAs}
-use Rattle.ft_documents.specs.Matched.{chosen_hits, as_wanted}
-use Rattle.ft_index.specs.DocumentsRead.{HasRows}
-use Rattle.ft_index.specs.RowsRead.{reads_document, rows_asked}
-use Rattle.ft_index.specs.Selected.{IsOf}
-use Rattle.ft_index.specs.Walked.{IsIndexed}
-use Rattle.ft_index.proofs.ReadsLemmas.{held_first, held_then, on_ok_from}
-use Rattle.ft_index.proofs.SelectRows.{hit_rows, hits_answered, as_many, counted_both, asked_items, bare_hit_rows, listed_rows_are, documents_again, document_rows_are, no_offsets, asked_count, asked_all, asked_whole}
+use Rattle.ft_content.specs.Command.{All}
+use Rattle.ft_content.specs.Answer.{answer_rows}
+use Rattle.ft_index.proofs.Doing.{held_first, held_then, on_ok_from, then_blamed, has_at, rows_in, index_in, hits_there, docids_there, bare_docids}
+use Rattle.ft_index.proofs.SelectAnswers.{hit_rows, hits_answered, as_many, counted_both, asked_items, bare_hit_rows, listed_rows_are, documents_again, document_rows_are, no_offsets, asked_count, asked_all, asked_whole}
 use Rattle.ft_content.proofs.AnswerLemmas.{cut_of_map}
-use Rattle.ft_index.specs.Refused.{AreThere}
 use Rattle.ft_content.specs.declared.command.Filter.{Filter}
-use Rattle.ft_index.proofs.Blaming.{then_blamed, has_at, rows_in, index_in, hits_there, docids_there, bare_docids}
 use Rattle.ft_index.proofs.select.selected_rows.Goals as goal
 use Rattle.ft_index.proofs.select.selected_rows.Goals.{After-hit_rows}
 

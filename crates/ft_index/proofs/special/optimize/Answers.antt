@@ -1,12 +1,9 @@
 -- by the tests of the table
 use Rattle.std.proofs.Common.{rules, ◌≡◌, inr, map, Err, Result, sym, subst}
-use Rattle.ft_values.specs.declared.fault.Fault.{Fault}
-use Rattle.ft_content.specs.declared.command.Reply.{Reply}
+use Rattle.ft_index.proofs.Common.{Fault, Reply, shown_info, answer_of, Answers}
 use Rattle.ft_content.specs.Command as plain
-use Rattle.ft_content.specs.Views.{shown_info, answer_of}
-use Rattle.ft_index.specs.Kept.{Answers}
-use Rattle.ft_index.proofs.KnownLemmas.{optimize_fine, optimize_unfit, optimize_keeps}
-use Rattle.ft_index.proofs.CreateLemmas.{refused_answers}
+use Rattle.ft_index.proofs.OneTable.{optimize_fine, optimize_unfit, optimize_keeps}
+use Rattle.ft_index.proofs.TablePlans.{refused_answers}
 use Rattle.ft_index.proofs.special.optimize.Goals as goal
 
 pub returns-in_err-sound_table-clause-answers : goal.returns-in_err-sound_table-clause-answers

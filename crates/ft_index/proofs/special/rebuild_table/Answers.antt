@@ -1,22 +1,12 @@
 -- by what is to be made anew, and what the store does
 use Rattle.std.proofs.Common.{rules, ◌≡◌, inl, refl, List, map, Option, Some, Ok, Err, Result, sym, ap, subst, ◌∙◌, FitsSigned, w64, to_z-of_z}
-use Rattle.ft_store.specs.Kept.{value_in}
-use Rattle.ft_values.specs.declared.fault.Fault.{Fault}
+use Rattle.ft_index.proofs.Common.{value_in, Fault, TableInfo, shown_info, info_named, with_sound, Does, with_tables, Contents, Written, AreHeld}
+use Rattle.ft_index.proofs.Common.{IsUp, ReachesStep, RebuildsIn}
 use Rattle.ft_content.specs.declared.command.Reply.TheVariants as replies
 use Rattle.ft_content.specs.Command as plain
-use Rattle.ft_content.specs.Views.{TableInfo, shown_info}
-use Rattle.ft_documents.specs.Found.{info_named, with_sound}
-use Rattle.ft_index.specs.Changed.{Does, with_tables}
-use Rattle.ft_content.specs.Deserved.{Contents}
-use Rattle.ft_index.specs.declared.written.Written.{Written}
-use Rattle.ft_index.specs.Kept.{AreHeld, IsUp, ReachesStep}
-use Rattle.ft_index.specs.Written.{RebuildsIn}
-use Rattle.ft_index.proofs.CheckLemmas.{told_here}
-use Rattle.ft_index.proofs.Doing.{does_failed, does_undone, does_made, done_blamed}
-use Rattle.ft_index.proofs.Executing.{reached}
-use Rattle.ft_index.proofs.ReadsLemmas.{no_look}
+use Rattle.ft_index.proofs.OpenedTables.{told_here}
+use Rattle.ft_index.proofs.Doing.{does_failed, does_undone, does_made, done_blamed, reached, no_look, err_of}
 use Rattle.ft_index.proofs.RebuildPlans.{plan_missing, told_after, rebuild_reply}
-use Rattle.ft_index.proofs.Blaming.{err_of}
 use Rattle.ft_index.proofs.special.rebuild_table.Goals as goal
 use Rattle.ft_index.proofs.special.rebuild_table.Goals.{After-rebuilt, After-make_anew}
 

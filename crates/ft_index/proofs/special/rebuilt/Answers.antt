@@ -1,20 +1,11 @@
 -- by how the rows of the table stand
 use Rattle.std.proofs.Common.{rules, ◌≡◌, List, map, Ok, sym, ap, subst, ◌∙◌, FitsSigned, w64, to_z, of_z, to_z-of_z}
-use Rattle.ft_rows.specs.Store.{Change}
-use Rattle.ft_store.specs.Kept.{value_in}
+use Rattle.ft_index.proofs.Common.{Change, value_in, TableInfo, shown_info, shown_rewrite, table_rows, HasRows, PlansFrom, AreHeld, IsUp, HasState}
+use Rattle.ft_index.proofs.Common.{Contents, with_tables}
 use Rattle.ft_content.specs.Command as plain
-use Rattle.ft_content.specs.Views.{TableInfo, shown_info}
 use Rattle.ft_documents.specs.NewDocuments.{new_rewrite}
-use Rattle.ft_documents.specs.Rewrite.{shown_rewrite}
-use Rattle.ft_documents.specs.Tables.{table_rows}
-use Rattle.ft_index.specs.DocumentsRead.{HasRows}
-use Rattle.ft_index.specs.Kept.{PlansFrom, AreHeld, IsUp}
-use Rattle.ft_index.specs.Opened.{HasState}
-use Rattle.ft_index.proofs.Executing.{looks_up}
-use Rattle.ft_index.proofs.CheckLemmas.{told_here}
-use Rattle.ft_index.proofs.ReadsLemmas.{rows_then}
-use Rattle.ft_content.specs.Deserved.{Contents}
-use Rattle.ft_index.specs.Changed.{with_tables}
+use Rattle.ft_index.proofs.Doing.{looks_up, rows_then}
+use Rattle.ft_index.proofs.OpenedTables.{told_here}
 use Rattle.ft_index.proofs.RebuildPlans.{IsPutAnew, plan_right, plan_stale, plan_loose, stale_content}
 use Rattle.ft_index.proofs.special.rebuilt.Goals as goal
 

@@ -1,5 +1,4 @@
-use Rattle.std.proofs.Common.{◌≡◌, ◌-◌, ◌^◌, map, min}
-use Rattle.std.specs.Prelude.{take}
+use Rattle.std.proofs.Common.{◌≡◌, ◌-◌, ◌^◌, map, min, take}
 use Rattle.ft_query.specs.Documents.{plain_list, place_count}
 use Rattle.ft_index.proofs.table_lists.count_places.Given as goal
 

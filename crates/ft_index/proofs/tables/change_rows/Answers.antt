@@ -1,7 +1,7 @@
 use Rattle.std.proofs.Common.{◌≡◌, Err, rules}
 use Rattle.ft_store.specs.Calls.{fault_of_read}
 use Rattle.ft_store.specs.declared.fault.StoreFault.TheVariants as causes
-use Rattle.ft_index.proofs.Pinging.{is_refused, plain_if}
+use Rattle.ft_index.proofs.Doing.{is_refused, plain_if}
 use Rattle.ft_index.proofs.tables.change_rows.Goals as goal
 
 pub returns-in_err-change-clause-refused : goal.returns-in_err-change-clause-refused

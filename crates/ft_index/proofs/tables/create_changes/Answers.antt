@@ -1,13 +1,7 @@
 -- by what is made
 use Rattle.std.proofs.Common.{rules, ◌≡◌, [], ◌∷◌, List, map, Ok, Err, None, Result, Vec, Global, sym, ap, subst, ◌∙◌}
-use Rattle.ft_values.specs.declared.rows.RowChange.{RowChange}
-use Rattle.ft_rows.specs.Store.{Change}
-use Rattle.ft_rows.specs.Changes.{shown_change}
-use Rattle.ft_values.specs.declared.fault.Fault.{Fault}
-use Rattle.ft_content.specs.Views.{shown_info, creation_of}
-use Rattle.ft_index.specs.Kept.{PlansFrom}
-use Rattle.ft_index.specs.Planned.{PlansTable, changes_of, table_change}
-use Rattle.ft_index.proofs.PlanAnswers.{create_refused, create_nothing, create_makes}
+use Rattle.ft_index.proofs.Common.{RowChange, Change, shown_change, Fault, shown_info, creation_of, PlansFrom, PlansTable, changes_of, table_change}
+use Rattle.ft_index.proofs.TablePlans.{create_refused, create_nothing, create_makes}
 use Rattle.ft_index.proofs.tables.create_changes.Goals as goal
 use Rattle.ft_index.proofs.tables.create_changes.Goals.{in-Some+in_ok-adding+in_ok-push, in_default}
 

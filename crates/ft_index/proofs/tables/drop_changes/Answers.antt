@@ -1,22 +1,12 @@
 -- the table of the name is the one that goes
-use Rattle.std.proofs.Common.{inr, ◌≡◌, ◌∷◌, [], List, ◌++◌, Ok, refl, sym, ap, subst, ◌∙◌, map, rules, FitsSigned, w64, to_z, of_z, to_z-of_z, Vec, Global, All, ℤ}
-use Rattle.std.specs.Prelude.{slice_index_or}
-use Rattle.ft_rows.specs.Changes.{shown_change}
-use Rattle.ft_rows.specs.Store.{Change, DropTable}
-use Rattle.ft_values.specs.declared.rows.RowChange.{RowChange}
+use Rattle.std.proofs.Common.{inr, ◌≡◌, ◌∷◌, [], List, ◌++◌, Ok, refl, sym, ap, subst, ◌∙◌, map, rules, FitsSigned, w64, to_z, of_z, to_z-of_z, Vec, Global, All, ℤ, slice_index_or}
+use Rattle.ft_index.proofs.Common.{shown_change, Change, DropTable, RowChange, RustTableInfo, same_name, Drop, TableInfo, shown_info, info_named}
+use Rattle.ft_index.proofs.Common.{PlansFrom, All-from_recursion, TakesOut}
 use Rattle.ft_values.specs.declared.rows.RowChange.TheVariants as changes
-use Rattle.ft_values.specs.declared.table.TableInfo.{TableInfo as RustTableInfo}
 use Rattle.std.proofs.lemmas.Option.{slice_get_read, slice_get_within, same_Some}
-use Rattle.ft_content.specs.Content.{same_name}
-use Rattle.ft_content.specs.Command.{Drop}
-use Rattle.ft_content.specs.Views.{TableInfo, shown_info}
-use Rattle.ft_documents.specs.Found.{info_named}
-use Rattle.ft_index.specs.Kept.{PlansFrom}
 use Rattle.ft_documents.proofs.FoundLemmas.{placed, unplaced}
-use Rattle.ft_index.proofs.KnownLemmas.{none_named}
+use Rattle.ft_index.proofs.OneTable.{none_named}
 use Rattle.ft_index.proofs.TablePlans.{drop_missing, drop_spared, drop_planned}
-use Rattle.std.proofs.lemmas.List.Elements.{All-from_recursion}
-use Rattle.ft_store.specs.Blame.{TakesOut}
 use Rattle.ft_index.proofs.tables.drop_changes.Goals as goal
 use Rattle.ft_index.proofs.tables.drop_changes.Goals.{in-Some+in_ok-push-in-Some, in-None+else-not-if_there}
 

@@ -1,28 +1,14 @@
 -- by the plan, and what the store does
 use Rattle.std.proofs.Common.{All, rules, inl, inr, ◌≡◌, List, map, Ok, Err, None, Result, Vec, Global, refl, sym, ap, subst, ◌∙◌, FitsSigned, w64, to_z, of_z, to_z-of_z}
+use Rattle.ft_index.proofs.Common.{shown_change, TakesOut, value_in, shows, RowChange, Fault, RustTableInfo, same_name, Contents, TableInfo}
+use Rattle.ft_index.proofs.Common.{shown_info, info_named, without_info, AreHeld, PlansFrom, ReachesStep, table_info, changes_of, Does, with_tables}
 use Rattle.std.proofs.lemmas.Option.{slice_get_read, slice_get_within, same_Some}
-use Rattle.ft_rows.specs.Changes.{shown_change}
-use Rattle.ft_store.specs.Blame.{TakesOut}
-use Rattle.ft_store.specs.Kept.{value_in, shows}
 use Rattle.ft_store.proofs.CantLemmas.{nothing_put}
-use Rattle.ft_values.specs.declared.rows.RowChange.{RowChange}
-use Rattle.ft_values.specs.declared.fault.Fault.{Fault}
-use Rattle.ft_values.specs.declared.table.TableInfo.{TableInfo as RustTableInfo}
 use Rattle.ft_content.specs.declared.command.Reply.TheVariants as replies
-use Rattle.ft_content.specs.Content.{same_name}
 use Rattle.ft_content.specs.Command as plain
-use Rattle.ft_content.specs.Deserved.{Contents}
 use Rattle.ft_content.specs.Step.{after as after_step}
-use Rattle.ft_content.specs.Views.{TableInfo, shown_info}
-use Rattle.ft_documents.specs.Found.{info_named, without_info}
 use Rattle.ft_documents.proofs.FoundLemmas.{placed, unplaced}
-use Rattle.ft_index.specs.Kept.{AreHeld, PlansFrom, ReachesStep, table_info}
-use Rattle.ft_index.specs.Planned.{changes_of}
-use Rattle.ft_index.specs.Changed.{Does, with_tables}
-use Rattle.ft_index.proofs.Doing.{does_failed, does_undone, does_made}
-use Rattle.ft_index.proofs.Executing.{reached}
-use Rattle.ft_index.proofs.ReadsLemmas.{no_look}
-use Rattle.ft_index.proofs.Pinging.{takes_can}
+use Rattle.ft_index.proofs.Doing.{does_failed, does_undone, does_made, reached, no_look, takes_can}
 use Rattle.ft_index.proofs.TablePlans.{told_dropped, told_spared, drop_done}
 use Rattle.ft_index.proofs.tables.drop_table.Goals as goal
 use Rattle.ft_index.proofs.tables.drop_table.Goals.{After-drop_changes, After-change_rows, in-Some, in_default}

@@ -1,18 +1,10 @@
 -- the names of the tables are those of the contents
-use Rattle.std.proofs.Common.{◌≡◌, inr, List, Option, String, Global, refl, sym, ap, ◌∙◌, map, string_bytes, Some, FitsSigned, w64, to_z-of_z, rules}
-use Rattle.ft_index.specs.Kept.{table_info}
-use Rattle.ft_values.specs.declared.fault.Fault.{Fault}
-use Rattle.std.specs.Prelude.{is_some}
-use Rattle.std.specs.List.{position}
-use Rattle.ft_values.specs.declared.table.TableInfo.{TableInfo as RustTableInfo}
-use Rattle.ft_content.specs.Content.{same_name}
-use Rattle.ft_content.specs.Deserved.{Contents, create_fault, deserved, made_columns}
-use Rattle.ft_content.specs.Step.{made_column}
-use Rattle.ft_content.specs.Views.{TableInfo, shown_info, option_of, names_in, creation_of}
-use Rattle.ft_documents.specs.Found.{info_named}
-use Rattle.ft_documents.proofs.FoundLemmas.{found_is, unplaced, not_some}
-use Rattle.ft_index.proofs.KnownLemmas.{same_names, same_ids, create_due, is_named, none_named}
-use Rattle.ft_index.proofs.Blaming.{err_of}
+use Rattle.std.proofs.Common.{◌≡◌, inr, List, Option, String, Global, refl, sym, ap, ◌∙◌, map, string_bytes, Some, FitsSigned, w64, to_z-of_z, rules, is_some, position}
+use Rattle.ft_index.proofs.Common.{table_info, Fault, RustTableInfo, same_name, Contents, create_fault, deserved, made_columns, made_column}
+use Rattle.ft_index.proofs.Common.{TableInfo, shown_info, option_of, names_in, creation_of, info_named}
+use Rattle.ft_documents.proofs.FoundLemmas.{found_is, unplaced}
+use Rattle.ft_index.proofs.OneTable.{not_some, same_names, same_ids, create_due, is_named, none_named}
+use Rattle.ft_index.proofs.Doing.{err_of}
 use Rattle.ft_index.proofs.NoStore.{created_other, names_as, some_contents}
 use Rattle.ft_index.proofs.tables.made_table.Goals as goal
 use Rattle.ft_index.proofs.tables.made_table.Goals.{After-create_fault}

@@ -1,14 +1,8 @@
 -- the store is asked, and then one row is changed
 use Rattle.std.proofs.Common.{◌≡◌, ◌∷◌, [], Err, inr, refl, List, map, rules, subst, inl}
+use Rattle.ft_index.proofs.Common.{Change, Note, shown_change, fault_of_read, MakesRows, Database, shows, CantPutAll}
 use Rattle.ft_values.specs.declared.fault.Fault.TheVariants as faults
-use Rattle.ft_rows.specs.Store.{Change, Note}
-use Rattle.ft_rows.specs.Changes.{shown_change}
-use Rattle.ft_store.specs.Calls.{fault_of_read}
-use Rattle.ft_index.specs.Changed.{MakesRows}
-use Rattle.ft_index.proofs.Pinging.{makes_nothing, makes_then, outside_of, unasked, is_refused, clean_before, note_can}
-use Rattle.sqlite.specs.Effect.{Database}
-use Rattle.ft_store.specs.Kept.{shows}
-use Rattle.ft_store.specs.Puts.{CantPutAll}
+use Rattle.ft_index.proofs.Doing.{makes_nothing, makes_then, outside_of, unasked, is_refused, clean_before, note_can}
 use Rattle.ft_store.specs.declared.fault.StoreFault.TheVariants as causes
 use Rattle.ft_store.proofs.BlameLemmas.{blamed_then}
 use Rattle.ft_index.proofs.tables.note_name.Goals as goal

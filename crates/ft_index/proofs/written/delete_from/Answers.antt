@@ -1,22 +1,14 @@
 -- all documents, or those that were found
 use Rattle.std.proofs.Common.{ℕ, List, rules, ◌≡◌, [], map, string_bytes, Err, Ok, sym, ap, subst, refl}
-use Rattle.ft_store.specs.Kept.{value_in}
-use Rattle.ft_values.specs.declared.fault.Fault.{Fault}
+use Rattle.ft_index.proofs.Common.{value_in, Fault, filter_of, deletion_of, shown_info, column_of, shown_rewrite, Contents, IsUnfit, AreHeld}
+use Rattle.ft_index.proofs.Common.{ReachesStep}
 use Rattle.ft_content.specs.Command as plain
-use Rattle.ft_content.specs.Views.{filter_of, deletion_of, shown_info, column_of}
-use Rattle.ft_documents.specs.Rewrite.{shown_rewrite}
-use Rattle.ft_index.proofs.Executing.{told_kept}
-use Rattle.ft_index.proofs.Anew.{delete_reaches}
+use Rattle.ft_index.proofs.Doing.{told_kept, does_failed, does_undone, does_made, done_blamed, no_look, err_of}
+use Rattle.ft_index.proofs.RebuildPlans.{delete_reaches}
 use Rattle.ft_index.proofs.DeleteWrites.{due, made, gone, leaves, replies, is_write, writes_table}
-use Rattle.ft_index.proofs.Doing.{does_failed, does_undone, does_made, done_blamed}
-use Rattle.ft_index.proofs.ReadsLemmas.{no_look}
 use Rattle.ft_index.proofs.Writing.{plans_unfit}
-use Rattle.ft_index.proofs.Blaming.{err_of}
 use Rattle.ft_index.proofs.GroupLemmas.{none_written}
 use Rattle.ft_index.proofs.NoStore.{unfit_other}
-use Rattle.ft_content.specs.Deserved.{Contents}
-use Rattle.ft_documents.specs.Found.{IsUnfit}
-use Rattle.ft_index.specs.Kept.{AreHeld, ReachesStep}
 use Rattle.ft_index.proofs.written.delete_from.Goals as goal
 use Rattle.ft_index.proofs.written.delete_from.Goals.{After-make_anew}
 

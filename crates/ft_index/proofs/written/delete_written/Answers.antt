@@ -1,24 +1,14 @@
 -- by the table, the tests, and the documents that are chosen
 use Rattle.std.proofs.Common.{rules, ℕ, List, ◌≡◌, ◌≢◌, inl, inr, map, string_bytes, Err, Some, None, Result, refl, sym, ap, subst, ◌∙◌, to_z-of_z, to_z, of_z, w64, FitsSigned}
-use Rattle.ft_query.specs.Trees.{tree_of}
-use Rattle.ft_values.specs.declared.fault.Fault.{Fault}
+use Rattle.ft_index.proofs.Common.{tree_of, Fault, RustTableInfo, delete_tests, query_fault, TableInfo, bare_content, column_of, filter_of}
+use Rattle.ft_index.proofs.Common.{deletion_of, shown_info, IsSoundNamed, IsUnfit, removal, Written, HasAll, WritesDocuments, WritesIn, LeadsTo}
+use Rattle.ft_index.proofs.Common.{Ghosts, AreInOrder, StoreState, value_in, Content}
 use Rattle.ft_values.specs.declared.fault.Fault.TheVariants as faults
-use Rattle.ft_values.specs.declared.table.TableInfo.{TableInfo as RustTableInfo}
-use Rattle.ft_content.specs.Deserved.{delete_tests, query_fault}
-use Rattle.ft_content.specs.Views.{TableInfo, bare_content, column_of, filter_of, deletion_of, shown_info}
-use Rattle.ft_documents.specs.Found.{IsSoundNamed, IsUnfit}
-use Rattle.ft_documents.specs.Rewrite.{removal}
-use Rattle.ft_index.specs.declared.written.Written.{Written}
-use Rattle.ft_index.specs.Written.{HasAll, WritesDocuments, WritesIn, LeadsTo}
 use Rattle.ft_index.proofs.DeleteWrites.{due, made, gone, is_write, leads, tested_due, text_due, none_due}
 use Rattle.ft_index.proofs.Writing.{plans_unfit, plans_failed, writes_do}
 use Rattle.ft_index.proofs.SelectAnswers.{reads_passed}
-use Rattle.sqlite.specs.Store.{Ghosts}
-use Rattle.ft_rows.specs.Store.{AreInOrder}
-use Rattle.ft_store.specs.Kept.{StoreState, value_in}
-use Rattle.ft_content.specs.Content.{Content}
 use Rattle.ft_content.specs.declared.command.Deletion.{Deletion}
-use Rattle.ft_index.proofs.Blaming.{rows_in, index_in, over_sound, has_at}
+use Rattle.ft_index.proofs.Doing.{rows_in, index_in, over_sound, has_at}
 use Rattle.ft_index.proofs.written.delete_written.Goals as goal
 
 pub returns-in_err-table-clause-told : goal.returns-in_err-table-clause-told

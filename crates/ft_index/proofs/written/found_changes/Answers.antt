@@ -1,10 +1,7 @@
 -- by what was found
 use Rattle.std.proofs.Common.{rules, ◌≡◌, Err, Ok, Result, Vec, Global, refl, sym, subst}
-use Rattle.ft_values.specs.declared.rows.RowChange.{RowChange}
-use Rattle.ft_values.specs.declared.fault.Fault.{Fault}
+use Rattle.ft_index.proofs.Common.{RowChange, Fault, Written, PlansWritten}
 use Rattle.ft_values.specs.declared.fault.Fault.TheVariants as faults
-use Rattle.ft_index.specs.declared.written.Written.{Written}
-use Rattle.ft_index.specs.Written.{PlansWritten}
 use Rattle.ft_index.proofs.written.found_changes.Goals as goal
 
 pub returns-in_err-found : goal.returns-in_err-found

@@ -1,35 +1,21 @@
 -- by the table, the tests, and what the rows make where docids are read
 use Rattle.std.proofs.Common.{rules, ℕ, false, zip, ◌≡◌, inl, inr, List, [], Bor, String, Option, None, Some, map, option_map, string_bytes, Err, Ok, Result, Vec, Global, refl, sym, ap, subst, ◌∙◌, arith, to_z-of_z, to_z, of_z, w64, FitsSigned}
+use Rattle.ft_index.proofs.Common.{unwrap_or, HasCleanDisk, Ghosts, fault_of_read, AreInOrder, StoreState, shows, value_in, Fault, Value}
+use Rattle.ft_index.proofs.Common.{RustTableInfo, Content, repeats_name, inserted_rows, listed_columns, TableInfo, bare_content, cells_of, column_of}
+use Rattle.ft_index.proofs.Common.{insertion_of, names_in, shown_info, IsSoundNamed, IsUnfit, shown_rewrite, Written, HasAll, WritesDocuments}
+use Rattle.ft_index.proofs.Common.{PlansTo, WritesIn, Looks}
 use Rattle.ft_documents.specs.declared.rewrite.Rewrite.{Rewrite}
-use Rattle.std.specs.Prelude.{unwrap_or}
-use Rattle.sqlite.specs.State.{HasCleanDisk}
-use Rattle.sqlite.specs.Store.{Ghosts}
-use Rattle.ft_store.specs.Calls.{fault_of_read}
-use Rattle.ft_rows.specs.Store.{AreInOrder}
-use Rattle.ft_store.specs.Kept.{StoreState, shows, value_in}
-use Rattle.ft_values.specs.declared.fault.Fault.{Fault}
 use Rattle.ft_values.specs.declared.fault.Fault.TheVariants as faults
-use Rattle.ft_values.specs.declared.rows.Value.{Value}
-use Rattle.ft_values.specs.declared.table.TableInfo.{TableInfo as RustTableInfo}
 use Rattle.ft_content.specs.Command as plain
 use Rattle.ft_content.specs.declared.command.Insertion.{Insertion}
-use Rattle.ft_content.specs.Content.{Content, repeats_name}
-use Rattle.ft_content.specs.Deserved.{inserted_rows, listed_columns}
-use Rattle.ft_content.specs.Views.{TableInfo, bare_content, cells_of, column_of, last_docid, insertion_of, names_in, shown_info}
-use Rattle.ft_documents.specs.Found.{IsSoundNamed, IsUnfit}
+use Rattle.ft_content.specs.Views.{last_docid}
 use Rattle.ft_documents.specs.Inserted.{AreKnown, Inserts}
-use Rattle.ft_documents.specs.Rewrite.{shown_rewrite}
 use Rattle.ft_documents.proofs.InsertDue.{insert_repeats}
 use Rattle.ft_documents.proofs.InsertRows.{known_from, new_are_inserts}
 use Rattle.ft_documents.proofs.ReadRows.{last_read}
-use Rattle.ft_index.specs.declared.written.Written.{Written}
-use Rattle.ft_index.specs.Written.{HasAll, WritesDocuments, PlansTo, WritesIn}
 use Rattle.ft_index.proofs.InsertWrites.{due, made, news, is_write, tested_writes, tests_are, rows_are, writes}
-use Rattle.ft_index.specs.DocumentsRead.{Looks}
-use Rattle.ft_index.proofs.ReadsLemmas.{rows_first, rows_then}
-use Rattle.ft_index.proofs.Pinging.{outside_of}
+use Rattle.ft_index.proofs.Doing.{rows_first, rows_then, outside_of, rows_in, err_of, over_sound}
 use Rattle.ft_index.proofs.Writing.{plans_unfit, plans_failed, writes_do}
-use Rattle.ft_index.proofs.Blaming.{rows_in, err_of, over_sound}
 use Rattle.ft_index.proofs.NoStore.{rows_other}
 use Rattle.ft_index.proofs.written.insert_written.Goals as goal
 use Rattle.ft_index.proofs.written.insert_written.Goals.{After-made_documents}
@@ -103,7 +89,7 @@ returns-in_err-last-clause-told g c = fails g.S.Store c.args.insertion.now c.as_
 
 pub returns-in_err-stored-clause-told : goal.returns-in_err-stored-clause-told
 returns-in_err-stored-clause-told g c = fails g.S.Store c.args.insertion.now c.as_deref-listed.result _ c.as_slice-rows.result.now c.in_ok-table.table.now (map shown_info c.args.tables.now) c.args.store.now c.stored_docids.new.store c.is_in_order.ensures.order c.as_deref-listed.ensures.value c.as_slice-rows.ensures.value refl (sym (c.repeats_name.ensures ∙ ap (λ (r : Bor (List (String Global))). repeats_name (map string_bytes r.now)) c.unwrap_or.ensures) ∙ c.if-repeats_name.false) _ c.as_str.ensures.value c.in_ok-table.ensures c.in_err-stored.field-0.0 c.from_residual-in_err-stored.result (search rules) (λ content has.
-    inl c.in_err-stored.ensures.faults)
+    inl c.in_err-stored.ensures.looks.cause)
 
 -- the last docid and the docids that are given, as they are read
 known_in : (g : _) (c : After-made_documents g) (content : Content) → HasAll g.S.Store c.in_ok-table.table.now.id (string_bytes c.in_ok-table.table.now.name) (map column_of c.in_ok-table.table.now.columns.items) c.args.store.now c.stored_docids.new.store content →
@@ -113,15 +99,14 @@ known_in g c content has =
     let names = map (λ n. n.now) c.as_slice-names.result.now in
     let tab = to_z w64 (of_z w64 info.id) in
     let fits : FitsSigned w64 info.id = search rules in
-    let live = c.in_ok-last.ensures.read.live in
     let old = c.args.store.now in
     let mid = c.last_docid.new.self in
     let new = c.stored_docids.new.store in
     let one : Looks g.S.Store old mid = record { kept = c.in_ok-last.ensures.read.kept; survives = c.in_ok-last.ensures.read.survives } in
-    let two = c.in_ok-stored.ensures.looks live in
+    let two = c.in_ok-stored.ensures.looks.only in
     let rows = rows_in g.S.Store tab info.id (to_z-of_z fits) old new (string_bytes info.name) content has.has has.clean has.is_open in
     let first = rows_first g.S.Store old mid new one two tab content rows in
-    let stored = c.in_ok-stored.ensures.found live content (rows_then g.S.Store old mid new one two tab content rows) in (
+    let stored = c.in_ok-stored.ensures.found content (rows_then g.S.Store old mid new one two tab content rows) in (
       last_read tab (value_in g.S.Store old) first.name content first.is_content first.rows ∙ sym (c.in_ok-last.ensures.last first.clean),
       subst (AreKnown content.documents (map (zip names) (map cells_of c.as_slice-rows.result.now))) (sym (c.as_slice.ensures.value ∙ stored)) (known_from content.documents names cells_of c.as_slice-rows.result.now),
     )
@@ -187,9 +172,8 @@ pub returns-in_err-new-clause-refused : goal.returns-in_err-new-clause-refused
 returns-in_err-new-clause-refused g c = λ contents held clean told.
     let info : RustTableInfo = c.in_ok-table.table.now in
     let over = over_sound (value_in g.S.Store c.args.store.now) (map shown_info c.args.tables.now) contents c.as_str.result.now (shown_info info) c.is_in_order.ensures.order held c.in_ok-table.ensures in
-    let live = c.in_ok-last.ensures.read.live in
-    let middle : HasCleanDisk (shows g.S.Store c.last_docid.new.self) = omega (arith, (c.in_ok-stored.ensures.looks live).survives.clean, clean) in
-    let has : HasAll g.S.Store info.id (string_bytes info.name) (map column_of info.columns.items) c.args.store.now c.stored_docids.new.store over.content = record { clean = clean; is_open = c.in_ok-stored.ensures.live clean (live middle); has = over.has; columns_are = over.columns_are } in
+    let middle : HasCleanDisk (shows g.S.Store c.last_docid.new.self) = omega (arith, c.in_ok-stored.ensures.looks.only.survives.clean, clean) in
+    let has : HasAll g.S.Store info.id (string_bytes info.name) (map column_of info.columns.items) c.args.store.now c.stored_docids.new.store over.content = record { clean = clean; is_open = c.in_ok-stored.ensures.looks.live clean (c.in_ok-last.ensures.read.live middle); has = over.has; columns_are = over.columns_are } in
     let known = known_in g (goal.at.returns-in_err-new-clause-refused g c).After-made_documents over.content has in
     let store = err_of c.from_residual-in_err-new.result c.in_err-new.field-0.0 (search rules) told in
     elim (c.in_err-new.ensures over.content.documents over.has.is_content.rising known.0 known.1) [

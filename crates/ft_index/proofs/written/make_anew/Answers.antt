@@ -1,10 +1,8 @@
 -- by the table that comes first
 use Rattle.std.proofs.Common.{rules, ◌≡◌, ◌∷◌, [], None, Some, Ok, Err, sym, subst}
+use Rattle.ft_index.proofs.Common.{table_change, MakesAnew, MakesWritten, Change}
 use Rattle.ft_values.specs.declared.fault.Fault.TheVariants as faults
-use Rattle.ft_index.specs.Planned.{table_change}
-use Rattle.ft_index.specs.Written.{MakesAnew, MakesWritten}
 use Rattle.ft_index.proofs.GroupLemmas.{makes_nothing, makes_anew, made_already}
-use Rattle.ft_rows.specs.Store.{Change}
 use Rattle.ft_index.proofs.written.make_anew.Goals as goal
 
 pub returns-in_err-first : goal.returns-in_err-first

@@ -1,38 +1,21 @@
 -- by the table, the tests, the documents that are chosen, and where one may go
-use Rattle.std.proofs.Common.{rules, ℕ, String, Bool, false, ◌≡◌, ◌≢◌, inl, inr, ℤ, List, map, string_bytes, Ok, Err, Some, None, Result, Vec, Global, refl, sym, ap, subst, ◌∙◌, to_z-of_z, to_z, of_z, w64, FitsSigned}
-use Rattle.sqlite_keyed.proofs.ListLemmas.{map-map}
-use Rattle.std.specs.Prelude.{slice_get, IfOk, IfSome}
+use Rattle.std.proofs.Common.{rules, ℕ, String, Bool, false, ◌≡◌, ◌≢◌, inl, inr, ℤ, List, map, string_bytes, Ok, Err, Some, None, Result, Vec, Global, refl, sym, ap, subst, ◌∙◌, to_z-of_z, to_z, of_z, w64, FitsSigned, slice_get, IfOk, IfSome}
+use Rattle.ft_index.proofs.Common.{map-map, YieldsList-from_map, YieldsList-from_slice, items_from_collect, Ghosts, tree_of, AreInOrder, StoreState}
+use Rattle.ft_index.proofs.Common.{value_in, Cell, Value, Fault, RustTableInfo, Column, Content, Documents, repeats_name, chosen, update_tests}
+use Rattle.ft_index.proofs.Common.{query_fault, moves_fault, docids_named, has_docid, TableInfo, bare_content, column_of, set_of, filter_of}
+use Rattle.ft_index.proofs.Common.{modification_of, shown_info, Document, IsSoundNamed, IsUnfit, shown_document, shown_rewrite, Written, HasAll}
+use Rattle.ft_index.proofs.Common.{WritesDocuments, PlansTo, WritesIn}
 use Rattle.std.specs.declared.alloc.AllocError.{AllocError}
-use Rattle.std.proofs.lemmas.Iterator.{YieldsList-from_map, YieldsList-from_slice, items_from_collect}
-use Rattle.sqlite.specs.Store.{Ghosts}
-use Rattle.ft_query.specs.Trees.{tree_of}
-use Rattle.ft_rows.specs.Store.{AreInOrder}
-use Rattle.ft_store.specs.Kept.{StoreState, value_in}
-use Rattle.ft_values.specs.Cells.{Cell}
-use Rattle.ft_values.specs.declared.rows.Value.{Value}
-use Rattle.ft_values.specs.declared.fault.Fault.{Fault}
 use Rattle.ft_values.specs.declared.fault.Fault.TheVariants as faults
-use Rattle.ft_values.specs.declared.table.TableInfo.{TableInfo as RustTableInfo}
 use Rattle.ft_content.specs.declared.command.Modification.{Modification}
-use Rattle.ft_content.specs.Content.{Column, Content, Documents, repeats_name}
 use Rattle.ft_content.specs.Command as plain
-use Rattle.ft_content.specs.Answer.{chosen}
-use Rattle.ft_content.specs.Deserved.{update_tests, query_fault, moves_fault, docids_named, has_docid}
-use Rattle.ft_content.specs.Views.{TableInfo, bare_content, column_of, set_of, filter_of, modification_of, shown_info}
 use Rattle.ft_content.proofs.ContentLemmas.{update_keeps_content}
-use Rattle.ft_documents.specs.declared.documents.Document.{Document}
-use Rattle.ft_documents.specs.Found.{IsSoundNamed, IsUnfit}
-use Rattle.ft_documents.specs.Gathered.{shown_document}
-use Rattle.ft_documents.specs.Rewrite.{shown_rewrite}
 use Rattle.ft_documents.specs.Updated.{changing, MayMove}
 use Rattle.ft_documents.proofs.InsertRows.{given_is}
-use Rattle.ft_index.specs.declared.written.Written.{Written}
-use Rattle.ft_index.specs.Written.{HasAll, WritesDocuments, PlansTo, WritesIn}
-use Rattle.ft_index.proofs.ReadsLemmas.{looks_then, rows_first, rows_then, index_first}
+use Rattle.ft_index.proofs.Doing.{looks_then, rows_first, rows_then, index_first, rows_in, index_in, err_of, over_sound, has_at}
 use Rattle.ft_index.proofs.Writing.{plans_unfit, plans_failed, writes_do}
 use Rattle.ft_index.proofs.SelectAnswers.{reads_passed}
 use Rattle.ft_index.proofs.UpdateWrites.{due, made, touches, is_write, repeats_due, tested_due, text_due, moves_due, leads}
-use Rattle.ft_index.proofs.Blaming.{rows_in, index_in, err_of, over_sound, has_at}
 use Rattle.ft_index.proofs.NoStore.{moved_other}
 use Rattle.ft_index.proofs.written.update_written.Goals as goal
 use Rattle.ft_index.proofs.written.update_written.Goals.{After-moves_fault}
@@ -104,10 +87,10 @@ returns-in_err-docids-clause-told g c = fails g.S.Store c.args.modification.now 
 
 pub returns-in_err-is_taken-clause-told : goal.returns-in_err-is_taken-clause-told
 returns-in_err-is_taken-clause-told g c = fails g.S.Store c.args.modification.now c.as_slice-sets.result.now c.in_ok-table.table.now (map shown_info c.args.tables.now) c.args.store.now c.has_document.new.store c.is_in_order.ensures.order c.as_slice-sets.ensures.value (sym c.repeats_set.ensures ∙ c.if-repeats_set.false) _ c.as_str.ensures.value c.in_ok-table.ensures c.in_err-is_taken.field-0.0 c.from_residual-in_err-is_taken.result (search rules) (λ content has.
-    inl c.in_err-is_taken.ensures.faults)
+    inl c.in_err-is_taken.ensures.looks.cause)
 
 pub returns-in_err-is_taken-clause-looks : goal.returns-in_err-is_taken-clause-looks
-returns-in_err-is_taken-clause-looks g c = record { only = looks_then g.S.Store c.args.store.now c.chosen_documents.new.store c.has_document.new.store c.in_ok-documents.ensures.looks.only c.has_document.ensures.looks c.in_ok-documents.ensures.looks.live; live = search rules }
+returns-in_err-is_taken-clause-looks g c = record { only = looks_then g.S.Store c.args.store.now c.chosen_documents.new.store c.has_document.new.store c.in_ok-documents.ensures.looks.only c.has_document.ensures.looks.only c.in_ok-documents.ensures.looks.live; live = search rules }
 
 -- the documents that are chosen, and what their moves deserve
 moves_in : (g : _) (c : After-moves_fault g) (content : Content) → HasAll g.S.Store c.in_ok-table.table.now.id (string_bytes c.in_ok-table.table.now.name) (map column_of c.in_ok-table.table.now.columns.items) c.args.store.now c.has_document.new.store content →
@@ -132,7 +115,7 @@ moves_in g c content has =
     let rows = rows_in g.S.Store tab info.id same old new (string_bytes info.name) content has.has has.clean has.is_open in
     let index = index_in g.S.Store tab info.id same old new (string_bytes info.name) content has.has has.clean has.is_open in
     let one = c.in_ok-documents.ensures.looks.only in
-    let two = c.has_document.ensures.looks in
+    let two = c.has_document.ensures.looks.only in
     let documents = c.in_ok-documents.documents.items in
     let found = c.in_ok-documents.ensures.told content (rows_first g.S.Store old mid new one two tab content rows) (index_first g.S.Store old mid new one two tab content index) (reads_passed tree_of cols content f c.as_ref.result c.in_ok-query.query c.as_ref.ensures.value columns_are (search rules)) in
     let given : slice_get (docids_named sets) 0 ≡ c.set_docid-given.result = sym c.set_docid-given.ensures in
@@ -155,14 +138,14 @@ returns-in-Some-moves_fault-clause-told g c = fails g.S.Store c.args.modificatio
     inr ((moves_in g (goal.at.returns-in-Some-moves_fault-clause-told g c).After-moves_fault content has).2 ∙ c.in-Some-moves_fault.is))
 
 pub returns-in-Some-moves_fault-clause-looks : goal.returns-in-Some-moves_fault-clause-looks
-returns-in-Some-moves_fault-clause-looks g c = record { only = looks_then g.S.Store c.args.store.now c.chosen_documents.new.store c.has_document.new.store c.in_ok-documents.ensures.looks.only c.has_document.ensures.looks c.in_ok-documents.ensures.looks.live; live = search rules }
+returns-in-Some-moves_fault-clause-looks g c = record { only = looks_then g.S.Store c.args.store.now c.chosen_documents.new.store c.has_document.new.store c.in_ok-documents.ensures.looks.only c.has_document.ensures.looks.only c.in_ok-documents.ensures.looks.live; live = search rules }
 
 pub returns-in_err-rewrites-clause-told : goal.returns-in_err-rewrites-clause-told
 returns-in_err-rewrites-clause-told g c = fails g.S.Store c.args.modification.now c.as_slice-sets.result.now c.in_ok-table.table.now (map shown_info c.args.tables.now) c.args.store.now c.has_document.new.store c.is_in_order.ensures.order c.as_slice-sets.ensures.value (sym c.repeats_set.ensures ∙ c.if-repeats_set.false) _ c.as_str.ensures.value c.in_ok-table.ensures faults.Memory c.from_residual-in_err-rewrites.result (search rules) (λ content has.
     inl (inr refl))
 
 pub returns-in_err-rewrites-clause-looks : goal.returns-in_err-rewrites-clause-looks
-returns-in_err-rewrites-clause-looks g c = record { only = looks_then g.S.Store c.args.store.now c.chosen_documents.new.store c.has_document.new.store c.in_ok-documents.ensures.looks.only c.has_document.ensures.looks c.in_ok-documents.ensures.looks.live; live = search rules }
+returns-in_err-rewrites-clause-looks g c = record { only = looks_then g.S.Store c.args.store.now c.chosen_documents.new.store c.has_document.new.store c.in_ok-documents.ensures.looks.only c.has_document.ensures.looks.only c.in_ok-documents.ensures.looks.live; live = search rules }
 
 pub returns-clause-told : goal.returns-clause-told
 returns-clause-told g c =
@@ -187,7 +170,7 @@ returns-clause-told g c =
     (none, leads sets f (string_bytes info.name) content (docids_named sets) (chosen content f) rewrites (λ i. chosen content f) has.has.is_content stays (update_keeps_content (string_bytes info.name) content sets f has.has.is_content none) moves)))
 
 pub returns-clause-looks : goal.returns-clause-looks
-returns-clause-looks g c = record { only = looks_then g.S.Store c.args.store.now c.chosen_documents.new.store c.has_document.new.store c.in_ok-documents.ensures.looks.only c.has_document.ensures.looks c.in_ok-documents.ensures.looks.live; live = search rules }
+returns-clause-looks g c = record { only = looks_then g.S.Store c.args.store.now c.chosen_documents.new.store c.has_document.new.store c.in_ok-documents.ensures.looks.only c.has_document.ensures.looks.only c.in_ok-documents.ensures.looks.live; live = search rules }
 
 pub returns-in_err-documents-clause-refused : goal.returns-in_err-documents-clause-refused
 returns-in_err-documents-clause-refused g c = λ contents held clean told.

@@ -1,14 +1,7 @@
 -- by what was found, and what the store does
-use Rattle.std.proofs.Common.{rules, ◌≡◌, ◌∙◌, inl, ap, Err, Ok, Result, subst}
-use Rattle.std.specs.Prelude.{IsTrue, OnOk}
-use Rattle.ft_store.specs.Kept.{shows, value_in}
-use Rattle.ft_values.specs.declared.fault.Fault.{Fault}
-use Rattle.ft_index.specs.declared.written.Written.{Written}
-use Rattle.ft_index.specs.Written.{WritesIn}
-use Rattle.ft_index.proofs.Executing.{told_kept, reached}
-use Rattle.ft_index.proofs.Doing.{does_failed, does_undone, does_made, done_blamed}
-use Rattle.ft_index.specs.Refused.{alone}
-use Rattle.ft_index.proofs.Blaming.{err_of}
+use Rattle.std.proofs.Common.{rules, ◌≡◌, ◌∙◌, inl, ap, Err, Ok, Result, subst, IsTrue, OnOk}
+use Rattle.ft_index.proofs.Common.{shows, value_in, Fault, Written, WritesIn, alone}
+use Rattle.ft_index.proofs.Doing.{told_kept, reached, does_failed, does_undone, does_made, done_blamed, err_of}
 use Rattle.ft_index.proofs.written.write_found.Goals as goal
 
 pub returns-in_err-found-clause-answers : goal.returns-in_err-found-clause-answers

@@ -1,14 +1,9 @@
 -- by what the store holds, and the marks as they are read
-use Rattle.std.proofs.Common.{◌≡◌, ap, subst, ◌∙◌, rules, tests}
-use Rattle.std.specs.List.{list_all}
-use Rattle.std.specs.Prelude.{IsTrue}
-use Rattle.std.proofs.lemmas.Iterator.{YieldsList-from_slice}
+use Rattle.std.proofs.Common.{◌≡◌, ap, subst, ◌∙◌, rules, tests, IsTrue}
+use Rattle.ft_index.proofs.Common.{list_all, YieldsList-from_slice, value_in, Contents, FullText, Holds, AreSound}
 use Rattle.std.proofs.lemmas.Iterator.Search.{all_from_yields_List}
 use Rattle.ft_values.specs.declared.table.TableInfo.{TableInfo}
-use Rattle.ft_store.specs.Kept.{value_in}
-use Rattle.ft_content.specs.Deserved.{Contents}
-use Rattle.ft_index.specs.Kept.{FullText, Holds, AreSound}
-use Rattle.ft_index.proofs.CheckLemmas.{all_are_sound}
+use Rattle.ft_index.proofs.OpenedTables.{all_are_sound}
 use Rattle.ft_index.proofs.full_text.FullText.check_all.Goals as goal
 
 pub returns-clause-all : goal.returns-clause-all

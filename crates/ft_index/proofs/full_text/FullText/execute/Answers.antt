@@ -1,21 +1,11 @@
 -- the store is asked, and then the command is executed
-use Rattle.std.proofs.Common.{◌≡◌, inl, inr, Err, Result, map, rules, sym, subst}
-use Rattle.std.specs.Prelude.{is_ok}
-use Rattle.ft_store.specs.Calls.{fault_of_read}
-use Rattle.ft_values.specs.declared.fault.Fault.{Fault}
-use Rattle.ft_content.specs.declared.command.Reply.{Reply}
-use Rattle.ft_content.specs.Views.{shown_info, command_of, answer_of}
-use Rattle.ft_index.specs.Kept.{FullText, Executes, AreHeld}
+use Rattle.std.proofs.Common.{◌≡◌, inl, inr, Err, Result, map, rules, sym, subst, is_ok}
+use Rattle.ft_index.proofs.Common.{fault_of_read, Fault, Reply, shown_info, command_of, answer_of, FullText, Executes, AreHeld, with_tables}
+use Rattle.ft_index.proofs.Common.{CountsRows, Database, shows}
 use Rattle.ft_index.specs.Crashes.{LeavesCommand}
-use Rattle.ft_index.specs.Changed.{with_tables}
-use Rattle.ft_index.specs.RowsRead.{CountsRows}
-use Rattle.ft_index.proofs.Executing.{looks_up}
-use Rattle.sqlite.specs.Effect.{Database}
+use Rattle.ft_index.proofs.Doing.{looks_up, store_answer, store_blamed, then_either, pinged, counts_nothing, counts_then, does_nothing, does_then, outside_of, ok_then}
 use Rattle.ft_store.specs.Rows.{value_of as rows_of}
 use Rattle.ft_index.specs.Refused.{CantDo}
-use Rattle.ft_index.proofs.Blaming.{store_answer, store_blamed, then_either}
-use Rattle.ft_index.proofs.Pinging.{pinged, counts_nothing, counts_then, does_nothing, does_then, outside_of, ok_then}
-use Rattle.ft_store.specs.Kept.{shows}
 use Rattle.ft_index.proofs.full_text.FullText.execute.Goals as goal
 
 pub returns-in-Err : goal.returns-in-Err

@@ -1,7 +1,6 @@
 -- by what is told of the tables
 use Rattle.std.proofs.Common.{[], map, sym, subst}
-use Rattle.ft_content.specs.Views.{shown_info}
-use Rattle.ft_index.specs.Kept.{StoreHolds}
+use Rattle.ft_index.proofs.Common.{shown_info, StoreHolds}
 use Rattle.ft_index.proofs.OpenedTables.{opened_holds, opens}
 use Rattle.ft_index.proofs.full_text.FullText.new.Goals as goal
 

@@ -1,14 +1,10 @@
 -- a note changes no table
-use Rattle.std.proofs.Common.{map, refl, subst, sym}
-use Rattle.sqlite.proofs.StateLemmas.{survives_weaker}
-use Rattle.std.specs.Prelude.{is_ok}
-use Rattle.ft_content.specs.Views.{shown_info}
-use Rattle.ft_index.specs.Kept.{FullText, Notes}
+use Rattle.std.proofs.Common.{map, refl, subst, sym, is_ok}
+use Rattle.ft_index.proofs.Common.{survives_weaker, shown_info, FullText, with_tables, shows}
+use Rattle.ft_index.specs.Kept.{Notes}
 use Rattle.ft_index.specs.Crashes.{LeavesNote}
-use Rattle.ft_index.specs.Changed.{with_tables}
 use Rattle.ft_index.proofs.Calls.{note_holds}
-use Rattle.ft_index.proofs.Pinging.{ok_then}
-use Rattle.ft_store.specs.Kept.{shows}
+use Rattle.ft_index.proofs.Doing.{ok_then}
 use Rattle.ft_index.proofs.full_text.FullText.note.Goals as goal
 
 pub invariant_of-self : goal.invariant_of-self

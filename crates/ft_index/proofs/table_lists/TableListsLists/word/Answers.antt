@@ -1,15 +1,8 @@
 -- the rows of one term
-use Rattle.std.proofs.Common.{◌≡◌, ◌⊎◌, true, subst, ℤ, ◌+◌, ◌-◌, ◌^◌, min, w64, SFits, to_z-of_z, ◌&&◌, map, sym, ap, ◌∙◌, rules}
-use Rattle.std.specs.Prelude.{bytes_eq}
-use Rattle.std.specs.Ordering.{int_eq, is_eq}
-use Rattle.ft_query.specs.Documents.{plain_list, lists_with}
-use Rattle.ft_rows.specs.Store.{name_cmp}
-use Rattle.ft_index.specs.Walked.{table_documents}
+use Rattle.std.proofs.Common.{◌≡◌, ◌⊎◌, true, subst, ℤ, ◌+◌, ◌-◌, ◌^◌, min, w64, SFits, to_z-of_z, ◌&&◌, map, sym, ap, ◌∙◌, rules, bytes_eq, int_eq, is_eq}
+use Rattle.ft_index.proofs.Common.{plain_list, lists_with, name_cmp, table_documents, HasCleanDisk, IsBlamed, shows, value_in}
 use Rattle.ft_documents.proofs.AskedLemmas.{rows_count}
-use Rattle.sqlite.specs.State.{HasCleanDisk}
-use Rattle.ft_store.specs.Blame.{IsBlamed}
-use Rattle.ft_store.specs.Kept.{shows, value_in}
-use Rattle.ft_index.proofs.Blaming.{none_damaged, read_failed}
+use Rattle.ft_index.proofs.Doing.{none_damaged, read_failed}
 use Rattle.ft_index.proofs.WalkedLemmas.{still_after, walk_answer, asks_term}
 use Rattle.ft_index.proofs.table_lists.TableListsLists.word.Goals as goal
 

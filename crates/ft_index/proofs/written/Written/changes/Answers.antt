@@ -1,10 +1,6 @@
 -- by the row changes of all documents at once
-use Rattle.std.proofs.Common.{rules, map, subst, to_z-of_z, to_z, of_z, w64, FitsSigned}
-use Rattle.std.specs.Prelude.{All}
-use Rattle.ft_rows.specs.Changes.{shown_change}
-use Rattle.ft_content.specs.Views.{column_of}
-use Rattle.ft_documents.specs.Rewrite.{AreRight, shown_rewrite, rewritten_docids}
-use Rattle.ft_documents.specs.Tables.{IsOfDocids}
+use Rattle.std.proofs.Common.{rules, map, subst, to_z-of_z, to_z, of_z, w64, FitsSigned, All}
+use Rattle.ft_index.proofs.Common.{shown_change, column_of, AreRight, shown_rewrite, rewritten_docids, IsOfDocids}
 use Rattle.ft_index.proofs.written.Written.changes.Goals as goal
 
 pub returns : goal.returns

@@ -1,17 +1,10 @@
 -- by the groups
-use Rattle.std.proofs.Common.{rules, ◌≡◌, ◌++◌, Err, Ok, List, map, sym, ap, subst, ◌∙◌}
-use Rattle.std.specs.List.{flat_map}
-use Rattle.std.specs.Vec.{vec_items}
+use Rattle.std.proofs.Common.{rules, ◌≡◌, ◌++◌, Err, Ok, List, map, sym, ap, subst, ◌∙◌, flat_map, vec_items}
+use Rattle.ft_index.proofs.Common.{Change, changes_in, column_of, MakesRows, first_parts, MakesWritten, BlamesMade}
 use Rattle.std.specs.Vec.Iter.{into_iter_items}
-use Rattle.ft_rows.specs.Store.{Change}
-use Rattle.ft_store.specs.Parts.{changes_in}
 use Rattle.ft_values.specs.declared.fault.Fault.TheVariants as faults
-use Rattle.ft_content.specs.Views.{column_of}
-use Rattle.ft_index.specs.Changed.{MakesRows}
-use Rattle.ft_index.specs.Written.{first_parts, MakesWritten}
 use Rattle.ft_index.proofs.GroupLemmas.{parts_of, parts_behind, of_groups, own_groups, makes_nothing}
-use Rattle.ft_index.proofs.Blaming.{made_blamed}
-use Rattle.ft_index.specs.Refused.{BlamesMade}
+use Rattle.ft_index.proofs.Doing.{made_blamed}
 use Rattle.ft_index.proofs.written.Written.make.Goals as goal
 
 pub returns-in_err-groups : goal.returns-in_err-groups
