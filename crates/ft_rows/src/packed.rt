@@ -24,6 +24,7 @@ const ORIGIN: Spot = Spot {
 };
 
 // Where a number counts from: the last one in the same column, else 0.
+#[inline]
 fn kept(same: bool, number: u32) -> u32
     ensures { result ≡ (if same then number else 0) }
 {
@@ -82,6 +83,7 @@ pub fn pack(alloc: Global, spots: &[Spot]) -> Result<Vec<u8>, AllocError>
 
 // ---- which places can be packed
 
+#[inline]
 fn is_spot(spot: &Spot) -> bool
     ensures { result ≡ is_spot spot.now }
 {
@@ -92,6 +94,7 @@ fn is_spot(spot: &Spot) -> bool
         && spot.size <= 1_000_000
 }
 
+#[inline]
 fn is_after(last: &Spot, spot: &Spot) -> bool
     ensures { result ≡ is_after last.now spot.now }
 {
@@ -100,6 +103,7 @@ fn is_after(last: &Spot, spot: &Spot) -> bool
 }
 
 // Whether a posting may have a place, the first or one after the last.
+#[inline]
 fn passes(is_first: bool, last: &Spot, spot: &Spot) -> bool
     ensures { result ≡ passes is_first last.now spot.now }
 {
@@ -124,6 +128,7 @@ pub fn can_pack(spots: &[Spot]) -> bool
 // ---- unpacking
 
 // The first byte, and what comes behind it.
+#[inline]
 fn first_byte(bytes: &[u8]) -> Option<(u32, &[u8])>
     ensures { MatchOption result (bytes.now ≡ []) (λ byte. (bytes.now ≡ byte.0 ∷ byte.1.now)
         × (byte.0 < 256)) }
@@ -134,6 +139,7 @@ fn first_byte(bytes: &[u8]) -> Option<(u32, &[u8])>
 
 // What a number has above its lowest seven bits, in at most two bytes. None where it is 0 or needs
 // more: no number of a list does.
+#[inline]
 fn upper_part(bytes: &[u8]) -> Option<(u32, &[u8])>
     ensures found { IfSome result (λ part. (0 < part.0) × (part.0 < 16384)
         × BeginsWith bytes.now part.0 part.1.now) }
@@ -154,6 +160,7 @@ fn upper_part(bytes: &[u8]) -> Option<(u32, &[u8])>
 }
 
 // The first number of bytes, and what comes behind it. None where no list has it.
+#[inline(always)]
 fn first_number(bytes: &[u8]) -> Option<(u32, &[u8])>
     ensures found { IfSome result (λ number. BeginsWith bytes.now number.0 number.1.now) }
     ensures none { IfNone result (HasNoNumber bytes.now) }
@@ -167,6 +174,7 @@ fn first_number(bytes: &[u8]) -> Option<(u32, &[u8])>
 }
 
 // The place that four numbers say after the last one, if a posting may have it.
+#[inline(always)]
 fn spot_at(last: &Spot, is_first: bool, c: u32, p: u32, l: u32, z: u32) -> Option<Spot>
     ensures found { IfSome result (λ spot. (passes is_first last.now
         (spot_from last.now c p l z) ≡ true)
@@ -186,6 +194,7 @@ fn spot_at(last: &Spot, is_first: bool, c: u32, p: u32, l: u32, z: u32) -> Optio
 
 // The place that bytes begin with, after the last one, and what comes behind it; if a posting may
 // have it.
+#[inline(always)]
 fn first_spot<'a>(bytes: &'a [u8], last: &Spot, is_first: bool) -> Option<(Spot, &'a [u8])>
     ensures found { IfSome result (λ spot. BeginsWithSpot is_first last.now bytes.now
         spot.0 spot.1.now) }
