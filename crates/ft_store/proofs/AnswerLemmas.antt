@@ -409,10 +409,10 @@ module _ {schema : Schema} (old new : State) (has : IsTrue old.is_open → old.n
 
   pub query_refused : IsBlamed old new ⊎ (IsUnasked old sql params ⊎ GivesUntaken old sql params Takes) → IsBlamed old new ⊎ (IsTrue old.is_open × ¬ AllByRecursion P (overlay old.now.trees [] tree))
   query_refused why = unless_shut old new inl (λ is_open. elim why [
-        | inl blamed ↦ inl blamed
-        | inr (inl unasked) ↦ inl (inr (inr (asked (has is_open) unasked)))
-        | inr (inr untaken) ↦ inr (is_open, λ each. taken old sql params names tree terms show order limit offset (has is_open) is plain unlisted P each Takes takes untaken)
-      ])
+    | inl blamed ↦ inl blamed
+    | inr (inl unasked) ↦ inl (inr (inr (asked (has is_open) unasked)))
+    | inr (inr untaken) ↦ inr (is_open, λ each. taken old sql params names tree terms show order limit offset (has is_open) is plain unlisted P each Takes takes untaken)
+  ])
 
 -- why a query on one table of an open store is refused: by what lies outside it
 module _ (old new : State) (store : IsTrue old.is_open → IsStore old.now) (sql : List ℕ) (params : Row) (names : List (List ℕ)) (tree : ℕ) (terms : List Term) (show : List ℕ) (order : List (Term × Key)) (limit offset : Term)

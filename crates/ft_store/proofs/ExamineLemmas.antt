@@ -305,9 +305,9 @@ last_there (r ∷ rows) row = inr (last_there rows row)
 pub looked_refused : (layout : Layout) (at : ℕ) → at < tables_of layout → (old was now : State) → Looking old was → (C : _) → Survives was now C → HasCleanDisk now
     → IsBlamed was now ⊎ ¬ HasOwnRowids (was.now.trees (tree_at at)) → IsBlamed old now ⊎ ¬ HaveOwnRowids (schema_of layout).tables old.now.trees
 looked_refused layout at below old was now look C s clean why = unless_shut old now inl (λ is_open. elim why [
-      | inl blamed ↦ inl (blamed_then old was now _ _ before look.survives s blamed)
-      | inr again ↦ inr (λ all. again (subst (λ (d : Database). HasOwnRowids (d.trees (tree_at at))) (sym (look.kept before (look.live before is_open)).0) (numbered_at layout old.now.trees at below all)))
-    ])
+  | inl blamed ↦ inl (blamed_then old was now _ _ before look.survives s blamed)
+  | inr again ↦ inr (λ all. again (subst (λ (d : Database). HasOwnRowids (d.trees (tree_at at))) (sym (look.kept before (look.live before is_open)).0) (numbered_at layout old.now.trees at below all)))
+])
   where
     before : HasCleanDisk was
     before = omega (arith, s.clean, clean)

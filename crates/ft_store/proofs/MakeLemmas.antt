@@ -131,8 +131,17 @@ makes_skip = record { command = refl; plain = (refl, refl); whole = refl; define
 pub allows_skip : IsAllowed (first_tables 7) make_skip_text (skip_table 0)
 unfolding tests_compute
 allows_skip = record {
-  whole = refl; utf8 = (IsUtf8-from_is_utf8 _ refl, IsUtf8-from_is_utf8 _ refl); free = refl; indexes = (refl, tt); unreserved = refl; formed = refl;
-  fits = refl; room = omega arith; reals = omega arith; key_reals = (omega arith, tt); short = omega arith;
+  whole = refl;
+  utf8 = (IsUtf8-from_is_utf8 _ refl, IsUtf8-from_is_utf8 _ refl);
+  free = refl;
+  indexes = (refl, tt);
+  unreserved = refl;
+  formed = refl;
+  fits = refl;
+  room = omega arith;
+  reals = omega arith;
+  key_reals = (omega arith, tt);
+  short = omega arith;
 }
 
 pub next_last : (at : ℕ) → 7 ≤ at → at < 8 → MakesNext at make_skip_text

@@ -10,8 +10,17 @@ returns-in-0 c = rw c.in-0.is (λ below. record {
   table = meta_table 0;
   makes = record { command = refl; plain = (refl, refl); whole = refl; defined = refl; uncounted = refl };
   allowed = record {
-    whole = refl; utf8 = (IsUtf8-from_is_utf8 _ refl, IsUtf8-from_is_utf8 _ refl); free = refl; indexes = tt; unreserved = refl; formed = refl;
-    fits = refl; room = omega arith; reals = omega arith; key_reals = tt; short = omega arith;
+    whole = refl;
+    utf8 = (IsUtf8-from_is_utf8 _ refl, IsUtf8-from_is_utf8 _ refl);
+    free = refl;
+    indexes = tt;
+    unreserved = refl;
+    formed = refl;
+    fits = refl;
+    room = omega arith;
+    reals = omega arith;
+    key_reals = tt;
+    short = omega arith;
   };
   next = refl;
 })
@@ -22,8 +31,17 @@ returns-in-1 c = rw c.in-1.is (λ below. record {
   table = tab_table 0;
   makes = record { command = refl; plain = (refl, refl); whole = refl; defined = refl; uncounted = refl };
   allowed = record {
-    whole = refl; utf8 = (IsUtf8-from_is_utf8 _ refl, IsUtf8-from_is_utf8 _ refl); free = refl; indexes = (refl, tt); unreserved = refl; formed = refl;
-    fits = refl; room = omega arith; reals = omega arith; key_reals = (omega arith, tt); short = omega arith;
+    whole = refl;
+    utf8 = (IsUtf8-from_is_utf8 _ refl, IsUtf8-from_is_utf8 _ refl);
+    free = refl;
+    indexes = (refl, tt);
+    unreserved = refl;
+    formed = refl;
+    fits = refl;
+    room = omega arith;
+    reals = omega arith;
+    key_reals = (omega arith, tt);
+    short = omega arith;
   };
   next = refl;
 })
@@ -34,8 +52,17 @@ returns-in-2 c = rw c.in-2.is (λ below. record {
   table = col_table 0;
   makes = record { command = refl; plain = (refl, refl); whole = refl; defined = refl; uncounted = refl };
   allowed = record {
-    whole = refl; utf8 = (IsUtf8-from_is_utf8 _ refl, IsUtf8-from_is_utf8 _ refl); free = refl; indexes = (refl, tt); unreserved = refl; formed = refl;
-    fits = refl; room = omega arith; reals = omega arith; key_reals = (omega arith, tt); short = omega arith;
+    whole = refl;
+    utf8 = (IsUtf8-from_is_utf8 _ refl, IsUtf8-from_is_utf8 _ refl);
+    free = refl;
+    indexes = (refl, tt);
+    unreserved = refl;
+    formed = refl;
+    fits = refl;
+    room = omega arith;
+    reals = omega arith;
+    key_reals = (omega arith, tt);
+    short = omega arith;
   };
   next = refl;
 })
@@ -46,8 +73,17 @@ returns-in-3 c = rw c.in-3.is (λ below. record {
   table = cell_table 0;
   makes = record { command = refl; plain = (refl, refl); whole = refl; defined = refl; uncounted = refl };
   allowed = record {
-    whole = refl; utf8 = (IsUtf8-from_is_utf8 _ refl, IsUtf8-from_is_utf8 _ refl); free = refl; indexes = (refl, tt); unreserved = refl; formed = refl;
-    fits = refl; room = omega arith; reals = omega arith; key_reals = (omega arith, tt); short = omega arith;
+    whole = refl;
+    utf8 = (IsUtf8-from_is_utf8 _ refl, IsUtf8-from_is_utf8 _ refl);
+    free = refl;
+    indexes = (refl, tt);
+    unreserved = refl;
+    formed = refl;
+    fits = refl;
+    room = omega arith;
+    reals = omega arith;
+    key_reals = (omega arith, tt);
+    short = omega arith;
   };
   next = refl;
 })
@@ -58,8 +94,17 @@ returns-in-4 c = rw c.in-4.is (λ below. record {
   table = posting_table 0;
   makes = record { command = refl; plain = (refl, refl); whole = refl; defined = refl; uncounted = refl };
   allowed = record {
-    whole = refl; utf8 = (IsUtf8-from_is_utf8 _ refl, IsUtf8-from_is_utf8 _ refl); free = refl; indexes = (refl, tt); unreserved = refl; formed = refl;
-    fits = refl; room = omega arith; reals = omega arith; key_reals = (omega arith, tt); short = omega arith;
+    whole = refl;
+    utf8 = (IsUtf8-from_is_utf8 _ refl, IsUtf8-from_is_utf8 _ refl);
+    free = refl;
+    indexes = (refl, tt);
+    unreserved = refl;
+    formed = refl;
+    fits = refl;
+    room = omega arith;
+    reals = omega arith;
+    key_reals = (omega arith, tt);
+    short = omega arith;
   };
   next = refl;
 })
@@ -70,8 +115,17 @@ returns-in-5 c = rw c.in-5.is (λ below. record {
   table = sizes_table 0;
   makes = record { command = refl; plain = (refl, refl); whole = refl; defined = refl; uncounted = refl };
   allowed = record {
-    whole = refl; utf8 = (IsUtf8-from_is_utf8 _ refl, IsUtf8-from_is_utf8 _ refl); free = refl; indexes = (refl, tt); unreserved = refl; formed = refl;
-    fits = refl; room = omega arith; reals = omega arith; key_reals = (omega arith, tt); short = omega arith;
+    whole = refl;
+    utf8 = (IsUtf8-from_is_utf8 _ refl, IsUtf8-from_is_utf8 _ refl);
+    free = refl;
+    indexes = (refl, tt);
+    unreserved = refl;
+    formed = refl;
+    fits = refl;
+    room = omega arith;
+    reals = omega arith;
+    key_reals = (omega arith, tt);
+    short = omega arith;
   };
   next = refl;
 })
@@ -82,8 +136,17 @@ returns-in-6 c = rw c.in-6.is (λ below. record {
   table = noted_table 0;
   makes = record { command = refl; plain = (refl, refl); whole = refl; defined = refl; uncounted = refl };
   allowed = record {
-    whole = refl; utf8 = (IsUtf8-from_is_utf8 _ refl, IsUtf8-from_is_utf8 _ refl); free = refl; indexes = (refl, tt); unreserved = refl; formed = refl;
-    fits = refl; room = omega arith; reals = omega arith; key_reals = (omega arith, tt); short = omega arith;
+    whole = refl;
+    utf8 = (IsUtf8-from_is_utf8 _ refl, IsUtf8-from_is_utf8 _ refl);
+    free = refl;
+    indexes = (refl, tt);
+    unreserved = refl;
+    formed = refl;
+    fits = refl;
+    room = omega arith;
+    reals = omega arith;
+    key_reals = (omega arith, tt);
+    short = omega arith;
   };
   next = refl;
 })
