@@ -10,7 +10,7 @@ crate=$room/crates/walk_lists
 mkdir -p "$crate/src" "$crate/proofs/count"
 cp -r "$top/crates/ft_query" "$room/crates/"
 cat > "$room/crates.txt" <<'TXT'
-ft_query: itoa thiserror
+ft_query: itoa smallvec thiserror
 walk_lists: ft_query anyhow
 TXT
 cat > "$crate/proofs/Lib.antt" <<'ANTT'
@@ -61,7 +61,7 @@ fn made(alloc: Global, places: usize, second: bool) -> Result<Vec<DocList>, Allo
             break;
         }
         let mut list: Vec<Place> = Vec::new(alloc);
-        for i in 0..50_usize {
+        for i in 0..50_u32 {
             let pos = if second { 2 * i + 1 } else { 2 * i };
             list.push(Place::new(0, pos, 2 * pos, 1))?;
         }

@@ -1,10 +1,11 @@
 //! Index rows, as lists of places by document.
 ghost use Rattle.std.specs.Prelude.{◌≡◌, map, IfOk, OnOk, IsPermutation, IsSorted};
 ghost use Rattle.ft_query.specs.Documents.{plain_list};
-ghost use Rattle.ft_documents.specs.Placed.{list_of, all_in, posting_cmp, is_before, is_in_order, are_in_order, AreListsOf};
+ghost use Rattle.ft_rows.specs.Terms.{lists_of_postings};
+ghost use Rattle.ft_documents.specs.Placed.{place_of, read_list, list_of, all_in, posting_cmp, is_before, is_in_order, are_in_order, AreListsOf};
 
 use ft_query::{DocList, Place};
-use ft_rows::{Posting, lists_of};
+use ft_rows::{Posting, split_list};
 use ft_values::{ListRow, Spot};
 use std::alloc::{AllocError, Global};
 
@@ -32,6 +33,13 @@ fn are_in_order(rows: &[ListRow]) -> bool
         && rows.iter().all(|row| is_in_order(row))
 }
 
+// A spot as the walk has it.
+fn place_of(spot: &Spot) -> Place
+    ensures { result ≡ place_of spot.now }
+{
+    Place::new(spot.column, spot.pos, spot.place, spot.size)
+}
+
 // The lists of rows. Each row goes as its list is made, so that the next list finds its room free.
 fn row_lists(alloc: Global, rows: Vec<ListRow>) -> Result<Vec<DocList>, AllocError>
     ensures { IfOk result (λ lists. map plain_list lists.items ≡ map list_of rows.items) }
@@ -39,9 +47,7 @@ fn row_lists(alloc: Global, rows: Vec<ListRow>) -> Result<Vec<DocList>, AllocErr
     let mut lists = Vec::with_capacity(alloc, rows.len())?;
     for row in rows {
         let mut places = Vec::with_capacity(alloc, row.spots.len())?;
-        places.extend(
-            row.spots.iter().map(|spot| Place::new(spot.column, spot.pos, spot.place, spot.size)),
-        )?;
+        places.extend(row.spots.iter().map(|spot| place_of(spot)))?;
         lists.push(DocList::new(row.docid, places))?;
     }
     Ok(lists)
@@ -73,6 +79,24 @@ fn put_in_order(postings: &mut Vec<Posting>) -> Result<(), AllocError>
     Ok(())
 }
 
+// The lists of postings: those of one document that stand beside each other are one.
+fn posting_lists(alloc: Global, postings: &[Posting]) -> Result<Vec<DocList>, AllocError>
+    ensures { IfOk result (λ lists. map plain_list lists.items
+        ≡ map read_list (lists_of_postings postings.now)) }
+{
+    let mut lists = Vec::new(alloc);
+    let mut left = postings;
+    while let Some((docid, list, rest)) = split_list(left) {
+        let places = list
+            .iter()
+            .map(|posting| place_of(&posting.spot))
+            .collect(alloc)?;
+        lists.push(DocList::new(docid, places))?;
+        left = rest;
+    }
+    Ok(lists)
+}
+
 /// A list for each document of some rows, by rising docid, with its places by column and position.
 pub fn doc_lists(alloc: Global, rows: Vec<ListRow>) -> Result<Vec<DocList>, AllocError>
     ensures { IfOk result (λ lists. AreListsOf rows.items (map plain_list lists.items)) }
@@ -82,5 +106,5 @@ pub fn doc_lists(alloc: Global, rows: Vec<ListRow>) -> Result<Vec<DocList>, Allo
     }
     let mut postings = postings_of(alloc, rows.as_slice())?;
     put_in_order(&mut postings)?;
-    row_lists(alloc, lists_of(alloc, postings.as_slice())?)
+    posting_lists(alloc, postings.as_slice())
 }

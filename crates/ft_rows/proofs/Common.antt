@@ -7,5 +7,5 @@ pub use Rattle.std.specs.Option.{option_and_then}
 pub use Rattle.ft_rows.specs.declared.terms.Posting.{Posting}
 pub use Rattle.ft_rows.specs.Packed.{Spot, origin, numbers_in, unpacked, CanPack, is_spot, is_after, rise_after, leb128_within, leb128, going_on, numbers_after, spots_after, are_spots, packed, PackedIsRead, PackedIsExact, OnlyPackedIsRead}
 pub use Rattle.ft_rows.specs.Shown.{shown_list}
-pub use Rattle.ft_rows.specs.Terms.{spot_of, joined_posting, lists_of_postings, AreFirstList}
+pub use Rattle.ft_rows.specs.Terms.{spot_of, joined_posting, lists_of_postings, AreFirstList, IsSplit}
 pub use Rattle.ft_rows.specs.Unpacking.{spot_from, passes, checked, read_after, BeginsWithSpot, BeginsWith, HasNoNumber}

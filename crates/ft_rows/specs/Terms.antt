@@ -26,6 +26,11 @@ AreFirstList [] n = n ≡ 0
 AreFirstList (p ∷ ps) n =
     (0 < n) × (n ≤ length (p ∷ ps)) × (lists_of_postings (p ∷ ps) ≡ (p.docid, map spot_of (take n (p ∷ ps))) ∷ lists_of_postings (drop n (p ∷ ps)))
 
+-- these are the docid of the first list of postings, its postings, and those behind them
+pub record IsSplit (postings : List Posting) (docid : ℤ) (list rest : List Posting) : Type 0 where
+  pub lists : lists_of_postings postings ≡ (docid, map spot_of list) ∷ lists_of_postings rest
+  pub shorter : length rest < length postings
+
 -- the lists of one term in a table, and those of terms one after another
 abbrev pub lists_under : ℤ → TermLists → List (ListKey × List Spot)
 lists_under tab t = map (λ (l : ℤ × List Spot). ((tab, string_bytes t.term, l.0), l.1)) (lists_of_postings t.postings.items)

@@ -192,8 +192,24 @@ fn spot_at(last: &Spot, is_first: bool, c: u32, p: u32, l: u32, z: u32) -> Optio
     passes(is_first, last, &spot).then_some(spot)
 }
 
+// The first four bytes, if each of them is a number, and what comes behind them.
+#[inline(always)]
+fn small_numbers(bytes: &[u8]) -> Option<(u32, u32, u32, u32, &[u8])>
+    ensures { IfSome result (λ n. (bytes.now ≡ n.0 ∷ n.1 ∷ n.2 ∷ n.3 ∷ n.4.now)
+        × (n.0 < 128) × (n.1 < 128) × (n.2 < 128) × (n.3 < 128)) }
+{
+    if bytes.len() < 4 {
+        return None;
+    }
+    let (c, rest) = first_byte(bytes)?;
+    let (p, rest) = first_byte(rest)?;
+    let (l, rest) = first_byte(rest)?;
+    let (z, rest) = first_byte(rest)?;
+    (c < 128 && p < 128 && l < 128 && z < 128).then_some((c, p, l, z, rest))
+}
+
 // The place that bytes begin with, after the last one, and what comes behind it; if a posting may
-// have it.
+// have it. The numbers of most places have a byte each.
 #[inline(always)]
 fn first_spot<'a>(bytes: &'a [u8], last: &Spot, is_first: bool) -> Option<(Spot, &'a [u8])>
     ensures found { IfSome result (λ spot. BeginsWithSpot is_first last.now bytes.now
@@ -201,6 +217,10 @@ fn first_spot<'a>(bytes: &'a [u8], last: &Spot, is_first: bool) -> Option<(Spot,
     ensures none { IfNone result (IsTrue (nat_lt 0 (length bytes.now))
         → read_after is_first last.now bytes.now ≡ None) }
 {
+    if let Some((column, pos, place, size, rest)) = small_numbers(bytes) {
+        let spot = spot_at(last, is_first, column, pos, place, size)?;
+        return Some((spot, rest));
+    }
     let (column, rest) = first_number(bytes)?;
     let (pos, rest) = first_number(rest)?;
     let (place, rest) = first_number(rest)?;

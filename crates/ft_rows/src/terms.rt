@@ -1,7 +1,7 @@
 //! Postings by their terms.
-ghost use Rattle.std.specs.Prelude.{◌≡◌, map, IfOk};
+ghost use Rattle.std.specs.Prelude.{◌≡◌, [], map, IfOk, MatchOption};
 ghost use Rattle.ft_rows.specs.Shown.{shown_list};
-ghost use Rattle.ft_rows.specs.Terms.{AreFirstList, lists_of_postings};
+ghost use Rattle.ft_rows.specs.Terms.{AreFirstList, IsSplit, lists_of_postings};
 
 use ft_values::{ListRow, Spot};
 use std::alloc::{AllocError, Global};
@@ -32,18 +32,27 @@ pub fn first_list(postings: &[Posting]) -> usize
     postings.iter().take_while(|p| p.docid == docid).count()
 }
 
+/// The docid of the first list of postings, its postings, and those behind them; None where there is
+/// no posting.
+pub fn split_list(postings: &[Posting]) -> Option<(i64, &[Posting], &[Posting])>
+    ensures { MatchOption result (postings.now ≡ [])
+        (λ list. IsSplit postings.now list.0 list.1.now list.2.now) }
+{
+    let docid = postings.first()?.docid;
+    let (list, rest) = postings.split_at(first_list(postings));
+    Some((docid, list, rest))
+}
+
 /// The lists of postings: those of one document that stand beside each other are one.
 pub fn lists_of(alloc: Global, postings: &[Posting]) -> Result<Vec<ListRow>, AllocError>
     ensures { IfOk result (λ lists. map shown_list lists.items ≡ lists_of_postings postings.now) }
 {
     let mut lists = Vec::new(alloc);
-    let mut rest = postings;
-    while let Some(first) = rest.first() {
-        let docid = first.docid;
-        let (own, others) = rest.split_at(first_list(rest));
-        let spots = own.iter().map(|posting| posting.spot).collect(alloc)?;
+    let mut left = postings;
+    while let Some((docid, list, rest)) = split_list(left) {
+        let spots = list.iter().map(|posting| posting.spot).collect(alloc)?;
         lists.push(ListRow { docid, spots })?;
-        rest = others;
+        left = rest;
     }
     Ok(lists)
 }

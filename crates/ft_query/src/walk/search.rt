@@ -96,8 +96,9 @@ fn search_on(
         (walk_at query.now cursors.new steps.new.taken)) }
     ensures rise { steps.old.taken ≤ steps.new.taken }
 {
+    let mut joints = Vec::new(alloc);
     while let Some(docid) = least(cursors, steps) {
-        let offsets = visit(alloc, query, cursors, docid, wanted, steps)?;
+        let offsets = visit(query, &mut joints, cursors, docid, wanted, steps)?;
         pass(cursors, docid, steps);
         if let Some(offsets) = offsets {
             return Ok(Some(Hit { docid, offsets }));

@@ -18,6 +18,7 @@ use crate::walk::joint::{By, Joint};
 use crate::walk::spine::{Leaf, add_spine, chain_count, term_count};
 use crate::walk::starts::{are_filled, begin, followed, mark, near_those};
 use crate::walk::{Offset, Steps};
+use smallvec::SmallVec;
 use std::alloc::{AllocError, Global};
 
 // Of these occurrences of a phrase's first term the ones that its other terms follow, which have
@@ -425,17 +426,17 @@ impl Cursor {
     }
 }
 
-// The places of each term in this document.
+// The places of each term in this document. Those of few terms take no memory of their own.
 fn lists_of<'a>(
     alloc: Global,
     cursors: &'a [Cursor],
     docid: i64,
     steps: &mut Steps,
-) -> Result<Vec<&'a [Place]>, AllocError>
+) -> Result<SmallVec<&'a [Place], 4>, AllocError>
     ensures lists { IfOk result (λ v. plain_lists v.items ≡ places_in docid cursors.now) }
     ensures steps { LooksForAll (length cursors.now) result steps.old steps.new }
 {
-    let mut lists = Vec::new(alloc);
+    let mut lists = SmallVec::new(alloc);
     for cursor in cursors {
         lists.push(cursor.places(docid, steps))?;
     }
@@ -443,10 +444,11 @@ fn lists_of<'a>(
 }
 
 /// The offsets of a document, if the query accepts it: none where they aren't wanted. The cursors
-/// are those of the query's terms, in the text's order.
-pub(crate) fn visit(
-    alloc: Global,
-    query: &Query,
+/// are those of the query's terms, in the text's order. The joints are as they were, so that all
+/// documents of a search have one room for them.
+pub(crate) fn visit<'q>(
+    query: &'q Query,
+    joints: &mut Vec<Joint<'q>>,
     cursors: &[Cursor],
     docid: i64,
     wanted: Wanted,
@@ -464,11 +466,11 @@ pub(crate) fn visit(
     ensures nodes { OnOk result (more_steps
         (length cursors.now + node_count (tree_of query.now)) steps.old ≤ steps.new.taken) }
 {
+    let alloc = *joints.allocator();
     let lists = lists_of(alloc, cursors, docid, steps)?;
     let mut left = lists.as_slice();
     let mut found = no_offsets(alloc, wanted);
-    let mut joints = Vec::new(alloc);
-    if !visit_part(query, &mut joints, &mut left, &mut found, steps)? {
+    if !visit_part(query, joints, &mut left, &mut found, steps)? {
         return Ok(None);
     }
     let mut offsets = found.offsets;

@@ -1,7 +1,6 @@
 -- rows in order are lists
-use Rattle.std.proofs.Common.{◌≡◌, map, sym, subst, ap, ◌∙◌, IsPermutation}
-use Rattle.sqlite_keyed.proofs.ListLemmas.{map-map}
-use Rattle.ft_documents.proofs.Common.{IfOk-weaker, shown_list, lists_of_postings, read_list, list_of, all_in, are_in_order, AreListsOf}
+use Rattle.std.proofs.Common.{map, sym, subst, ap, ◌∙◌, IsPermutation}
+use Rattle.ft_documents.proofs.Common.{IfOk-weaker, lists_of_postings, read_list, list_of, all_in, are_in_order, AreListsOf}
 use Rattle.ft_documents.proofs.AskedLemmas.{rows_in_order}
 use Rattle.ft_documents.proofs.lists.doc_lists.Goals as goal
 
@@ -11,8 +10,6 @@ returns-then-are_in_order c =
 
 pub returns : goal.returns
 returns c =
-    let rows = c.in_ok-lists_of.field-0.items in
     let ps = c.put_in_order.new.postings.items in
-    let read : map list_of rows ≡ map read_list (lists_of_postings ps) = sym (map-map read_list shown_list rows) ∙ ap (map read_list) (c.in_ok-lists_of.ensures ∙ ap lists_of_postings c.as_slice-3.ensures.value) in
     let same : IsPermutation (all_in (map list_of c.args.rows.items)) ps = subst (λ xs. IsPermutation xs ps) (c.in_ok-postings.ensures ∙ ap (λ xs. all_in (map list_of xs)) c.as_slice-2.ensures.value) c.put_in_order.ensures.0 in
-    IfOk-weaker c.row_lists-2.result _ _ (λ lists is. record { places = ps; same = same; sorted = c.in_ok-put_in_order.ensures.1; lists = is ∙ read }) c.row_lists-2.ensures
+    IfOk-weaker c.posting_lists.result _ _ (λ lists is. record { places = ps; same = same; sorted = c.in_ok-put_in_order.ensures.1; lists = is ∙ ap (λ qs. map read_list (lists_of_postings qs)) c.as_slice-3.ensures.value }) c.posting_lists.ensures

@@ -3,8 +3,8 @@ use Rattle.std.proofs.Common.{◌≡◌, ◌++◌, map, length}
 use Rattle.ft_rows.proofs.Common.{shown_list, lists_of_postings}
 use Rattle.ft_rows.proofs.terms.lists_of.Given as goal
 
-abbrev pub invariant-loop-first : goal.invariant-loop-first
-invariant-loop-first l = map shown_list l.lists.items ++ lists_of_postings l.rest ≡ lists_of_postings l.initial.rest
+abbrev pub invariant-loop-docid : goal.invariant-loop-docid
+invariant-loop-docid l = map shown_list l.lists.items ++ lists_of_postings l.left ≡ lists_of_postings l.initial.left
 
-abbrev pub decreases-loop-first : goal.decreases-loop-first
-decreases-loop-first l = length l.rest
+abbrev pub decreases-loop-docid : goal.decreases-loop-docid
+decreases-loop-docid l = length l.left

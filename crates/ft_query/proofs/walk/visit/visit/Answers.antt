@@ -7,7 +7,7 @@ use Rattle.ft_query.proofs.walk.visit.visit.Goals as goal
 
 -- the lists are those of the document
 here : (c : After-no_offsets-found) → plain_lists c.as_slice-left.result.now ≡ places_in c.args.docid c.args.cursors.now
-here c = ap plain_lists c.as_slice-left.ensures.value ∙ c.in_ok-lists.ensures.lists ∙ ap (λ z. places_in z c.args.cursors.now)
+here c = ap plain_lists c.as_slice-left.ensures ∙ c.in_ok-lists.ensures.lists ∙ ap (λ z. places_in z c.args.cursors.now)
     (to_z-of_z c.ranges.docid)
 
 pub returns-then-not-branch-clause-offsets : goal.returns-then-not-branch-clause-offsets
