@@ -15,9 +15,9 @@ use Rattle.ft_store.specs.Kept.{StoreState, shows}
 use Rattle.ft_index.specs.Kept.{StoreHolds}
 use Rattle.ft_files.specs.declared.databases.OpenFault.{OpenFault}
 use Rattle.ft_files.specs.declared.databases.OpenFault.TheVariants as opening
-use Rattle.ft_files.specs.Hosts.{Names, OpensBothIn, Stay, StayBut, files_in}
+use Rattle.ft_files.specs.Hosts.{IsLeft, Names, OpensBothIn, Stay, StayBut, files_in}
 use Rattle.ft_files.specs.Opening.{OpensMemory, file_path, has_long_name, store_path}
-use Rattle.ft_program.specs.Closed.{Closed, RunsAndTells, RunsOn, TellsClose}
+use Rattle.ft_program.specs.Closed.{Closed, IsStoreLeft, RunsAndTells, RunsBoth, RunsOn, TellsClose}
 use Rattle.ft_program.proofs.Reopening.{finds_left}
 use Rattle.ft_program.specs.InFiles.{IsCause, RunsBeside, RunsInFiles}
 use Rattle.ft_program.specs.Inputs.{NotOpened, Outputs, due}
@@ -27,18 +27,24 @@ use Rattle.ft_program.specs.Memory.{FromNothing, IsOfMemory, RunsIn, RunsLine}
 pub from_nothing : {D : Type 0} (g : disk.Ghosts D) (settings : Settings) (plain : Held (FileStore D g)) (store : StoreState (FileStore D g)) (tables texts : Closed D) (inputs : List (Option (List ℕ))) (old new : Outputs) (status : ℕ) →
     ((store : StoreState (FileStore D g)) → HasCleanDisk (shows over_files store)) → OpensMemory over_files over_files (Ok (plain, store)) → RunsOn settings plain store inputs tables texts old new status →
     ((why : OpenFault) × IsOfMemory why × NotOpened why old new status) ⊎ FromNothing g settings inputs old new status
-from_nothing g settings plain store tables texts inputs old new status always opens (inl refused) = inl (opening.Store, inr refl, refused.told)
-from_nothing g settings plain store tables texts inputs old new status always opens (inr (runs, closed)) = inr (record {
-  plain = plain;
-  no_plain = opens.plain;
-  store = store;
-  no_store = opens.store;
-  runs = runs;
-  kept = runs.kept [] (subst (λ v. StoreHolds v []) (sym opens.store) tt) (always runs.last.parts.full_text.store);
-  tables = tables;
-  texts = texts;
-  closed = closed;
-})
+from_nothing {D} g settings plain store tables texts inputs old new status always opens ran = go ran.runs
+  where
+    go : RunsBoth over_files over_files settings plain store inputs ran.plain_after ran.after old new status → ((why : OpenFault) × IsOfMemory why × NotOpened why old new status) ⊎ FromNothing g settings inputs old new status
+    go (inl unread) = inl (opening.Store, inr refl, unread.told)
+    go (inr (runs, held)) = inr (record {
+      plain = plain;
+      no_plain = opens.plain;
+      store = store;
+      no_store = opens.store;
+      runs = runs;
+      kept = runs.kept [] (subst (λ v. StoreHolds v []) (sym opens.store) tt) (always runs.last.parts.full_text.store);
+      tables = tables;
+      texts = texts;
+      closed = record {
+        tables_left = subst (λ (p : Held (FileStore D g)). IsLeft p tables) held.plain_is ran.tables_left;
+        texts_left = subst (λ (s : StoreState (FileStore D g)). IsStoreLeft s texts) held.store_is ran.texts_left;
+      };
+    })
 
 -- what is told of the closes comes last
 pub told_last : {D E : Type 0} {g : disk.Ghosts D} {h : disk.Ghosts E} (settings : Settings) (plain : Held (FileStore D g)) (store : StoreState (FileStore E h)) (inputs : List (Option (List ℕ))) (tables : Closed D) (texts : Closed E) (old mid new : Outputs) (ended status : ℕ) (is_closed : Bool) →

@@ -4,8 +4,8 @@ ghost use Rattle.std.specs.Prelude.{◌≡◌, ◌&&◌, false, is_ok, map, Some
 ghost use Rattle.sqlite.specs.Files.{over_files};
 ghost use Rattle.shell_io.specs.Writing.{AppendsUpTo, SameWriters, Sends};
 ghost use Rattle.ft_files.specs.declared.databases.OpenFault.TheVariants as opening;
-ghost use Rattle.ft_files.specs.Hosts.{IsLeft, empty_image};
-ghost use Rattle.ft_program.specs.Closed.{IsStoreLeft, RunsOn, TellsClose};
+ghost use Rattle.ft_files.specs.Hosts.{empty_image};
+ghost use Rattle.ft_program.specs.Closed.{IsStoreLeft, RunsBoth, RunsOn, TellsClose};
 ghost use Rattle.ft_program.specs.InFiles.{RunsInFiles};
 ghost use Rattle.ft_program.specs.Inputs.{outputs_of, stage_of, due, RunsInTurn, RunsAndKeeps, Closes, opening_line};
 ghost use Rattle.ft_program.specs.Inputs as forms;
@@ -25,7 +25,6 @@ use itoa::Buffer;
 use shell_text::{PrintFault, Settings, write_out};
 use sqlite::{Alter, Connection, File, FileStore};
 use sqlite_disk::Disk;
-use std::alloc::Global;
 use std::io::{Read, Write};
 
 // The program's statuses.
@@ -190,8 +189,8 @@ fn refuse_line<O: Write, E: Write>(fault: &LineFault, outputs: &mut Outputs<'_, 
     }
 }
 
-// Runs the inputs over both databases, if the store can be read, and closes them: what was
-// committed goes from the log into each file.
+// Runs the inputs over both databases, and closes them: what was committed goes from the log into
+// each file. Where a close is refused the log keeps it, and the next open finds it.
 fn on_databases<D: Disk + Drop, F: Disk + Drop, R: Read, O: Write, E: Write>(
     rt: &HostRuntime,
     plain: Connection<FileStore<D>>,
@@ -206,52 +205,56 @@ fn on_databases<D: Disk + Drop, F: Disk + Drop, R: Read, O: Write, E: Write>(
         (outputs_of O.contents E.contents outputs.new) result.0 }
     ensures writers { SameWriters outputs.old outputs.new }
 {
+    let (status, plain, store) = run_beside(rt, plain, store, work, input, outputs);
+    (status, close_one(plain), close_store(store))
+}
+
+// Runs the inputs over a plain database in files and a store. Of the two one is named at a time: to
+// name both in one call takes more steps than the checker has.
+fn run_beside<D: Disk + Drop, S: Alter, R: Read, O: Write, E: Write>(
+    rt: &HostRuntime,
+    plain: Connection<FileStore<D>>,
+    store: Store<S>,
+    work: Work<'_>,
+    input: &mut R,
+    outputs: &mut Outputs<'_, O, E>,
+) -> (u8, Connection<FileStore<D>>, Store<S>)
+    ensures runs { RunsBoth over_files S.Store work.entry.settings plain store
+        (due (map string_bytes work.entry.inputs.now) (R.remaining input.old)) result.1 result.2
+        (outputs_of O.contents E.contents outputs.old)
+        (outputs_of O.contents E.contents outputs.new) result.0 }
+    ensures writers { SameWriters outputs.old outputs.new }
+{
+    run_over(rt, plain, store, work, input, outputs)
+}
+
+// Runs the inputs over both databases, if the store can be read, and hands them back as they stand
+// then.
+fn run_over<P: Alter, S: Alter, R: Read, O: Write, E: Write>(
+    rt: &HostRuntime,
+    plain: Connection<P>,
+    store: Store<S>,
+    work: Work<'_>,
+    input: &mut R,
+    outputs: &mut Outputs<'_, O, E>,
+) -> (u8, Connection<P>, Store<S>)
+    ensures runs { RunsBoth P.Store S.Store work.entry.settings plain store
+        (due (map string_bytes work.entry.inputs.now) (R.remaining input.old)) result.1 result.2
+        (outputs_of O.contents E.contents outputs.old)
+        (outputs_of O.contents E.contents outputs.new) result.0 }
+    ensures writers { SameWriters outputs.old outputs.new }
+{
     let full_text = match FullText::new(rt.alloc(), store) {
         Ok(full_text) => full_text,
-        Err(fault) => {
-            let status = tell(outputs.err, OpenFault::Store);
-            return (status, close_one(plain), close_store(fault.store));
-        }
+        Err(fault) => return (tell(outputs.err, OpenFault::Store), plain, fault.store),
     };
     full_text.is_settled();
-    let mut session = session_over(rt.alloc(), plain, full_text, work.settings);
+    let mut session = Session::new(rt.alloc(), plain, full_text, work.settings);
     let mut files = SystemFiles { rt };
     let ended = run_all(&mut session, work.inputs, input, &mut files, outputs);
-    let (tables, texts) = close(session);
-    (status_of(ended, outputs.err), tables, texts)
-}
-
-// A session over a plain database in files. Here, too, one of the two stores is named at a time.
-fn session_over<D: Disk + Drop, S: Alter>(
-    alloc: Global,
-    plain: Connection<FileStore<D>>,
-    full_text: FullText<S>,
-    settings: Settings,
-) -> Session<FileStore<D>, S>
-    ensures { result ≡ record { settings = settings; plain = plain; full_text = full_text } }
-{
-    Session::new(alloc, plain, full_text, settings)
-}
-
-// Such a session taken apart.
-fn parts_over<D: Disk + Drop, S: Alter>(
-    session: Session<FileStore<D>, S>,
-) -> (Connection<FileStore<D>>, FullText<S>)
-    ensures { result ≡ (session.plain, session.full_text) }
-{
-    session.into_parts()
-}
-
-// Closes both databases. Where that is refused their logs keep what was committed, and the next
-// open finds it.
-fn close<D: Disk + Drop, F: Disk + Drop>(
-    session: Session<FileStore<D>, FileStore<F>>,
-) -> (Left<D>, Left<F>)
-    ensures tables { IsLeft session.plain result.0 }
-    ensures texts { IsStoreLeft session.full_text.store result.1 }
-{
-    let (plain, full_text) = parts_over(session);
-    (close_one(plain), close_store(full_text.into_store()))
+    let status = status_of(ended, outputs.err);
+    let (plain, full_text) = session.into_parts();
+    (status, plain, full_text.into_store())
 }
 
 // Whether neither close was refused.
@@ -336,22 +339,21 @@ fn status_of<E: Write>(ended: Result<Status, RunFault>, err: &mut E) -> u8
     }
 }
 
-// Runs the texts that were given, or else the input, over a plain database in files. Of the two
-// stores one is named at a time: to name both in one call takes more steps than the checker has.
-fn run_all<D: Disk + Drop, S: Alter, R: Read, O: Write, E: Write>(
-    session: &mut Session<FileStore<D>, S>,
+// Runs the texts that were given, or else the input.
+fn run_all<P: Alter, S: Alter, R: Read, O: Write, E: Write>(
+    session: &mut Session<P, S>,
     inputs: &[String],
     input: &mut R,
     files: &mut SystemFiles<'_>,
     outputs: &mut Outputs<'_, O, E>,
 ) -> Result<Status, RunFault>
-    ensures runs { RunsAndKeeps over_files S.Store
+    ensures runs { RunsAndKeeps P.Store S.Store
         (due (map string_bytes inputs.now) (R.remaining input.old)) result
         (stage_of O.contents E.contents session.old outputs.old)
         (stage_of O.contents E.contents session.new outputs.new) }
     ensures writers { SameWriters outputs.old outputs.new }
 {
-    Session::<FileStore<D>, S>::kept_by_runs();
+    Session::<P, S>::kept_by_runs();
     if inputs.is_empty() {
         session.run(input, outputs.out, outputs.err, files)
     } else {

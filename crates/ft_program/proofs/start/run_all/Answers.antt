@@ -1,7 +1,6 @@
 -- the input alone, or the texts
 use Rattle.std.proofs.Common.{rules, ◌≡◌, ◌∙◌, true, false, length, subst, sym, ap}
 use Rattle.std.specs.Prelude.{◌≢◌, ◌==◌}
-use Rattle.sqlite.specs.Files.{over_files}
 use Rattle.ft_program.specs.Inputs.{RunsInTurn, Stage}
 use Rattle.ft_program.proofs.InputLemmas.{due_none, due_some, one_alone, runs_and_keeps}
 use Rattle.ft_program.proofs.start.run_all.Goals as goal
@@ -12,9 +11,9 @@ returns-then-is_empty-clause-runs g c =
     let standard = g.R.Read.remaining c.args.input.now in
     let old : Stage _ g.row.S.Denot = record { parts = c.args.session.now; on = record { out = g.O.Write.contents c.args.outputs.now.out.now; err = g.E.Write.contents c.args.outputs.now.err.now } } in
     let new : Stage _ g.row.S.Denot = record { parts = c.run.new.self; on = record { out = g.O.Write.contents c.run.new.out; err = g.E.Write.contents c.run.new.err } } in
-    runs_and_keeps (over_files {D = g.row.D.Denot} {g = g.D.Disk}) g.S.Store _ c.run.result old new c.kept_by_runs.ensures
-    (subst (λ inputs. RunsInTurn (over_files {D = g.row.D.Denot} {g = g.D.Disk}) g.S.Store inputs c.run.result old new) (sym (due_none c.args.inputs.now standard none))
-    (one_alone (over_files {D = g.row.D.Denot} {g = g.D.Disk}) g.S.Store c.run.result standard old new c.run.ensures.ran.0 (g.R.Read.remaining c.run.new.reader, c.run.ensures.ran.1)))
+    runs_and_keeps g.P.Store g.S.Store _ c.run.result old new c.kept_by_runs.ensures
+    (subst (λ inputs. RunsInTurn g.P.Store g.S.Store inputs c.run.result old new) (sym (due_none c.args.inputs.now standard none))
+    (one_alone g.P.Store g.S.Store c.run.result standard old new c.run.ensures.ran.0 (g.R.Read.remaining c.run.new.reader, c.run.ensures.ran.1)))
 
 pub returns-else-is_empty-clause-runs : goal.returns-else-is_empty-clause-runs
 returns-else-is_empty-clause-runs g c =
@@ -23,5 +22,5 @@ returns-else-is_empty-clause-runs g c =
     let standard = g.R.Read.remaining c.args.input.now in
     let old : Stage _ g.row.S.Denot = record { parts = c.args.session.now; on = record { out = g.O.Write.contents c.args.outputs.now.out.now; err = g.E.Write.contents c.args.outputs.now.err.now } } in
     let new : Stage _ g.row.S.Denot = record { parts = c.run_texts.new.session; on = record { out = g.O.Write.contents c.run_texts.new.outputs.out.now; err = g.E.Write.contents c.run_texts.new.outputs.err.now } } in
-    runs_and_keeps (over_files {D = g.row.D.Denot} {g = g.D.Disk}) g.S.Store _ c.run_texts.result old new c.kept_by_runs.ensures
-    (subst (λ inputs. RunsInTurn (over_files {D = g.row.D.Denot} {g = g.D.Disk}) g.S.Store inputs c.run_texts.result old new) (sym (due_some c.args.inputs.now standard some)) c.run_texts.ensures.runs)
+    runs_and_keeps g.P.Store g.S.Store _ c.run_texts.result old new c.kept_by_runs.ensures
+    (subst (λ inputs. RunsInTurn g.P.Store g.S.Store inputs c.run_texts.result old new) (sym (due_some c.args.inputs.now standard some)) c.run_texts.ensures.runs)
