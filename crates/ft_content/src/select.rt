@@ -122,7 +122,7 @@ pub fn item_row(
     ensures { IfOk result (λ row. IsItemRow (bare_content columns.now) (map item_of items.now)
         (docid, map shown_value cells.now) offsets.now (cells_of row)) }
 {
-    let mut row = Vec::new(alloc);
+    let mut row = Vec::with_capacity(alloc, items.len())?;
     for item in items {
         match item {
             Item::All => row.extend_with_clones(cells)?,

@@ -26,7 +26,7 @@ fn row_of(alloc: Global, values: Vec<Value>) -> Result<Vec<Cell>, AllocError>
     ensures { IfOk result (λ row. map print.value_of_cell row.items
         ≡ map forms.cell_value (views.cells_of values)) }
 {
-    let mut row = Vec::new(alloc);
+    let mut row = Vec::with_capacity(alloc, values.len())?;
     for value in values {
         row.push(cell_of(value))?;
     }
