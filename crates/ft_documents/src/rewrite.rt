@@ -210,11 +210,8 @@ fn drop_sizes(changes: &mut Changes, tab: i64, old: &Sizes, new: &Sizes) -> Resu
         ≡ map shown_change changes.old.items ++ rows.dropped_sizes tab
         (rows.gone column_key_cmp old.now.entries new.now.entries)) }
 {
-    for (key, _n) in old.iter() {
-        if !new.contains_key(key) {
-            changes.push(RowChange::DropSize(tab, key.0, key.1))?;
-        }
-    }
+    let gone = old.iter().filter(|&(key, _n)| !new.contains_key(key));
+    changes.extend(gone.map(|(key, _n)| RowChange::DropSize(tab, key.0, key.1)))?;
     Ok(())
 }
 
@@ -224,11 +221,8 @@ fn put_sizes(changes: &mut Changes, tab: i64, old: &Sizes, new: &Sizes) -> Resul
         ≡ map shown_change changes.old.items ++ rows.put_sizes tab
         (rows.changed column_key_cmp int_eq old.now.entries new.now.entries)) }
 {
-    for (key, n) in new.iter() {
-        if old.get(key) != Some(n) {
-            changes.push(RowChange::PutSize(tab, key.0, key.1, *n))?;
-        }
-    }
+    let changed = new.iter().filter(|&(key, n)| old.get(key) != Some(n));
+    changes.extend(changed.map(|(key, n)| RowChange::PutSize(tab, key.0, key.1, *n)))?;
     Ok(())
 }
 
