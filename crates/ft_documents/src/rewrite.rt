@@ -8,7 +8,7 @@ ghost use Rattle.ft_rows.specs.Store.{column_key_cmp};
 ghost use Rattle.ft_content.specs.Index.{key_cmp};
 ghost use Rattle.ft_content.specs.Views.{cells_of, column_of};
 ghost use Rattle.ft_documents.specs.Tables.{IsOfDocids};
-ghost use Rattle.ft_documents.specs.Rewrite.{shown_rewrite, rewritten_docids, under_docids, AreRight, AreNew, FitIfAny, IsSmall};
+ghost use Rattle.ft_documents.specs.Rewrite.{shown_rewrite, rewritten_docids, under_docids, AreRight, FitIfAny, IsSmall};
 ghost use Rattle.ft_documents.specs.Rewrite as texts;
 ghost use Rattle.ft_documents.specs.Terms.{kept_list, lists_of_term, lists_in_groups};
 ghost use Rattle.std.specs.Vec.{vec_items};
@@ -59,8 +59,6 @@ pub fn row_changes(
         → IsTrue (is_sorted int_cmp (under_docids (map shown_rewrite rewrites.items)))
         → All (FitIfAny (length columns.now)) (map shown_rewrite rewrites.items)
         → All CanApply changes.items) }
-    ensures new { IfOk result (λ changes. AreNew tab (map column_of columns.now)
-        (map shown_rewrite rewrites.items) (map shown_change changes.items)) }
     ensures near { IfOk result (λ changes. All
         (IsOfDocids tab (rewritten_docids (map shown_rewrite rewrites.items)))
         (map shown_change changes.items)) }

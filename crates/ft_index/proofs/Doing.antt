@@ -1,5 +1,5 @@
 -- What calls do that read, and then change rows, and why they are refused.
-use Rattle.std.proofs.Common.{◌≡◌, ◌⊎◌, inl, inr, ℕ, ◌+◌, ◌-◌, ◌^◌, ◌<◌, Bool, true, false, min, refl, ◌∙◌, arith, IsTrue, Result, Ok, Err, ℤ, sym, ap, subst, is_ok, OnOk, List, map, None, cond, [], ◌∷◌, Some, Option, All as AllOf, ◌≢◌, ◌&&◌, Less, Equal, Greater, drop, All, IsSome, is_some, filter, int_cmp, int_eq, map-id, Vec, Global}
+use Rattle.std.proofs.Common.{◌≡◌, ◌⊎◌, inl, inr, ℕ, ◌+◌, ◌-◌, ◌^◌, ◌<◌, Bool, true, false, min, refl, ◌∙◌, arith, IsTrue, Result, Ok, Err, ℤ, sym, ap, subst, is_ok, OnOk, List, map, None, cond, [], ◌∷◌, Some, Option, All as AllOf, ◌≢◌, ◌&&◌, Less, Equal, Greater, drop, All, IsSome, is_some, filter, int_cmp, int_eq, map-id}
 use Rattle.ft_index.proofs.Common.{State, HasCleanDisk, Survives, Ghosts, Trees, StoreState, shows, value_in, ReadsStore, IsIndexed, Database}
 use Rattle.ft_index.proofs.Common.{survives_then, value_of, Content, table_rows, HasRows, Looks, IsOf, StoreValue, Change, all_applied, Fault}
 use Rattle.ft_index.proofs.Common.{Command, Done, TableInfo, Contents, deserved, TableState, Sound, Table, after, reply_to, step, step_by}
@@ -11,7 +11,7 @@ use Rattle.ft_index.proofs.Common.{answer_of, FullText, OnlyLooks, store_value, 
 use Rattle.ft_index.proofs.Common.{CountsRows, CountsCommand, All-nil, put, find, by_order, where_key, map-map, Hit, PlainHit, plain_hit, AreInOrder}
 use Rattle.ft_index.proofs.Common.{ListKey, list_key_cmp, IsBlamed, Cell, chosen, is_chosen, cut, query_in, Column, IsContent, hit_read, chosen_hits}
 use Rattle.ft_index.proofs.Common.{as_wanted, AreThere, AreRewrites, BlamesMade, Key, Spot, IndexRows, index_rows, HasContent, table_index}
-use Rattle.ft_index.proofs.Common.{IsSoundNamed, info_named, held_columns, Written, PlansIn, PlansTo, WritesIn, BlamesDone}
+use Rattle.ft_index.proofs.Common.{IsSoundNamed, info_named, held_columns, PlansTo, BlamesDone}
 use Rattle.ft_query.specs.Lists.{Reaches, Stays, Goes, Ends}
 use Rattle.ft_store.proofs.ChainLemmas.{kept_then}
 use Rattle.ft_content.specs.Command.{Reply}

@@ -1,5 +1,5 @@
 -- by what each command was found to write, and by what a Check or an Optimize is answered
-use Rattle.std.proofs.Common.{inl, refl, rules, ◌≡◌, ◌∙◌, [], string_bytes, ℕ, List, map, Ok, Err, Result, Vec, Global, sym, ap, subst, subst₂}
+use Rattle.std.proofs.Common.{inl, refl, rules, ◌≡◌, [], string_bytes, ℕ, List, map, Ok, Err, Result, Vec, Global, sym, ap, subst, subst₂}
 use Rattle.ft_index.proofs.Common.{Ghosts, StoreState, changes_of, Fault, RowChange, Change, shown_change, value_in, Reply, TableInfo, shown_info}
 use Rattle.ft_index.proofs.Common.{command_of, items_of, filter_of, IsUnfit, IsSoundNamed, answer_of, Answers, Looks, Written, WritesIn, PlansIn}
 use Rattle.ft_index.proofs.Common.{PlansTo}
