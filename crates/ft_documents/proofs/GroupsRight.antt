@@ -7,7 +7,7 @@ use Rattle.ft_documents.proofs.Common.{list_all, AllByRecursion, int_cmp_total, 
 use Rattle.ft_documents.proofs.KeyedRows.{below_apart, found_holds, each_found}
 use Rattle.ft_documents.proofs.RightLemmas.{applied_append, order_after, are_right}
 use Rattle.ft_documents.proofs.RewriteLemmas.{sorted_rewritten, written, find_rewritten}
-use Rattle.ft_documents.proofs.NewLemmas.{changes_near, contains_own}
+use Rattle.ft_documents.proofs.NearLemmas.{changes_near, contains_own}
 
 -- ---- two lists, one after the other
 
@@ -141,8 +141,7 @@ each_near tab columns docids [] own = All-nil (IsOfDocids tab docids)
 each_near tab columns docids (group ∷ groups) own =
     let D : Rewrite → Type 0 = λ r. Contains docids r.docid in
     All-append (IsOfDocids tab docids) (rewrite_changes tab columns group) (flat_map (rewrite_changes tab columns) groups)
-    (changes_near (Contains docids) (IsOfDocids tab docids) tab columns group (λ docid is. (refl, is)) (λ docid column cell is. (refl, is)) (λ term docid is. (refl, is)) (λ term docid spots is. (refl, is)) (λ docid column is. (refl, is)) (λ docid column n is. (refl, is))
-    (All-from_recursion D group (all_parts D group (flat_map (λ g. g) groups) own).0))
+    (changes_near tab docids columns group (All-from_recursion D group (all_parts D group (flat_map (λ g. g) groups) own).0))
     (each_near tab columns docids groups (all_parts D group (flat_map (λ g. g) groups) own).1)
 
 pub groups_near : (tab : ℤ) (columns : List Column) (groups : List (List Rewrite)) → All (IsOfDocids tab (rewritten_docids (flat_map (λ group. group) groups))) (flat_map (rewrite_changes tab columns) groups)

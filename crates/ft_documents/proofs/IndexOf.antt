@@ -10,15 +10,13 @@ use Rattle.ft_documents.proofs.Common.{enumerate_from, map-append, nat_tests, eq
 use Rattle.ft_documents.specs.declared.document_index.DocumentIndex.{DocumentIndex}
 use Rattle.ft_documents.proofs.TermOrder.{with_spots-append, spots_under, joined, made_of}
 use Rattle.ft_documents.proofs.KeyedRows.{true_of}
+use Rattle.ft_documents.proofs.RowKinds.{size_at}
 
 -- ---- the entries and sizes of a document, cell by cell
 
 -- entries and sizes of the columns from one on
 abbrev pub entries_from : ℤ → ℕ → List (List PlainToken) → List Entry
 entries_from docid k columns = map (entry_at docid) (flat_map (λ c. map (posting c.0) c.1) (enumerate_from k columns))
-
-abbrev pub size_at : ℤ → ℕ × List PlainToken → Size
-size_at docid c = record { docid = docid; column = c.0; n = length c.1 }
 
 abbrev pub sizes_from : ℤ → ℕ → List (List PlainToken) → List ((ℤ × ℤ) × ℤ)
 sizes_from docid k columns = sized (map size_row (filter (λ (s : Size). nat_lt 0 s.n) (map (size_at docid) (enumerate_from k columns))))

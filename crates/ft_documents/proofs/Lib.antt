@@ -14,7 +14,7 @@ pub mod InsertRows
 pub mod KeyedRows
 pub mod ListSearch
 pub mod MatchedLemmas
-pub mod NewLemmas
+pub mod NearLemmas
 pub mod PackedChanges
 pub mod ReadRows
 pub mod RewriteLemmas

@@ -218,33 +218,19 @@ first_of_all row (d ∷ ds) old is none = absurd (let no : suc (length (ds ++ []
 
 -- a cell at the front and one at the end, of equal docids or not
 ends_one : (x row : CellRow) (b : Bool) → int_eq x.docid row.docid ≡ b → with_cell x ((row.docid, row.value ∷ []) ∷ []) ≡ with_last row ((x.docid, x.value ∷ []) ∷ [])
-ends_one x row true is =
-    let same : x.docid ≡ row.docid = (Decides-int_eq x.docid row.docid).0 is in
-    ap (λ b. cond b ((row.docid, x.value ∷ row.value ∷ []) ∷ []) ((x.docid, x.value ∷ []) ∷ (row.docid, row.value ∷ []) ∷ [])) is
-    ∙ ap (λ k. (k, x.value ∷ row.value ∷ []) ∷ []) (sym same)
-    ∙ sym (ap (λ b. cond b ((x.docid, x.value ∷ row.value ∷ []) ∷ []) ((x.docid, x.value ∷ []) ∷ (row.docid, row.value ∷ []) ∷ [])) is)
-ends_one x row false is =
-    ap (λ b. cond b ((row.docid, x.value ∷ row.value ∷ []) ∷ []) ((x.docid, x.value ∷ []) ∷ (row.docid, row.value ∷ []) ∷ [])) is
-    ∙ sym (ap (λ b. cond b ((x.docid, x.value ∷ row.value ∷ []) ∷ []) ((x.docid, x.value ∷ []) ∷ (row.docid, row.value ∷ []) ∷ [])) is)
+ends_one x row true is = simp is (ap (λ k. (k, x.value ∷ row.value ∷ []) ∷ []) (sym ((Decides-int_eq x.docid row.docid).0 is)))
+ends_one x row false is = simp is
 
 -- the same of one document, by the two tests
-abbrev one_more : CellRow → CellRow → ℤ × List Cell → Bool → Bool → Documents
-one_more x row d b true = cond b ((d.0, (x.value ∷ d.1) ++ row.value ∷ []) ∷ []) ((d.0, x.value ∷ d.1) ∷ (row.docid, row.value ∷ []) ∷ [])
-one_more x row d b false = (x.docid, x.value ∷ []) ∷ cond b ((d.0, d.1 ++ row.value ∷ []) ∷ []) (d ∷ (row.docid, row.value ∷ []) ∷ [])
-
-last_of_one : (x row : CellRow) (d : ℤ × List Cell) (c : Bool) → with_last row (cond c ((d.0, x.value ∷ d.1) ∷ []) ((x.docid, x.value ∷ []) ∷ d ∷ [])) ≡ one_more x row d (int_eq d.0 row.docid) c
-last_of_one x row d true = refl
-last_of_one x row d false = refl
-
-cell_of_one : (x row : CellRow) (d : ℤ × List Cell) (b c : Bool) → int_eq x.docid d.0 ≡ c → with_cell x (cond b ((d.0, d.1 ++ row.value ∷ []) ∷ []) (d ∷ (row.docid, row.value ∷ []) ∷ [])) ≡ one_more x row d b c
-cell_of_one x row d true true is = ap (λ c. cond c ((d.0, x.value ∷ (d.1 ++ row.value ∷ [])) ∷ []) ((x.docid, x.value ∷ []) ∷ (d.0, d.1 ++ row.value ∷ []) ∷ [])) is
-cell_of_one x row d true false is = ap (λ c. cond c ((d.0, x.value ∷ (d.1 ++ row.value ∷ [])) ∷ []) ((x.docid, x.value ∷ []) ∷ (d.0, d.1 ++ row.value ∷ []) ∷ [])) is
-cell_of_one x row d false true is = ap (λ c. cond c ((d.0, x.value ∷ d.1) ∷ (row.docid, row.value ∷ []) ∷ []) ((x.docid, x.value ∷ []) ∷ d ∷ (row.docid, row.value ∷ []) ∷ [])) is
-cell_of_one x row d false false is = ap (λ c. cond c ((d.0, x.value ∷ d.1) ∷ (row.docid, row.value ∷ []) ∷ []) ((x.docid, x.value ∷ []) ∷ d ∷ (row.docid, row.value ∷ []) ∷ [])) is
+ends_two : (x row : CellRow) (d : ℤ × List Cell) (b c : Bool) → int_eq d.0 row.docid ≡ b → int_eq x.docid d.0 ≡ c → with_cell x (with_last row (d ∷ [])) ≡ with_last row (with_cell x (d ∷ []))
+ends_two x row d true true e f = simp (e, f)
+ends_two x row d true false e f = simp (e, f)
+ends_two x row d false true e f = simp (e, f)
+ends_two x row d false false e f = simp (e, f)
 
 ends : (x row : CellRow) (documents : Documents) → with_cell x (with_last row documents) ≡ with_last row (with_cell x documents)
 ends x row [] = ends_one x row (int_eq x.docid row.docid) refl
-ends x row (d ∷ []) = cell_of_one x row d (int_eq d.0 row.docid) (int_eq x.docid d.0) refl ∙ sym (last_of_one x row d (int_eq x.docid d.0))
+ends x row (d ∷ []) = ends_two x row d (int_eq d.0 row.docid) (int_eq x.docid d.0) refl refl
 ends x row (d ∷ e ∷ es) =
     elim (int_eq x.docid d.0) as (λ b. cond b ((d.0, x.value ∷ d.1) ∷ with_last row (e ∷ es)) ((x.docid, x.value ∷ []) ∷ d ∷ with_last row (e ∷ es)) ≡ with_last row (cond b ((d.0, x.value ∷ d.1) ∷ e ∷ es) ((x.docid, x.value ∷ []) ∷ d ∷ e ∷ es))) [ true ↦ refl | false ↦ refl ]
 

@@ -108,14 +108,6 @@ module _ {K V : Type 0} (S : K → K → Ordering) (o : IsTotalOrder S) (exact :
         | Some r ↦ λ is h. are.found q documents ordered ∙ ap (one q) (sym (before_found (docid_of q) documents rewrites r known is)) ∙ sym (old_rows q ∙ ap (λ x. one q (option_and_then (λ (r : Rewrite). r.before) x)) is) ∙ h
       ] refl
 
-  -- and there is nothing else of the documents that they get
-  pub new_there : (q : K) (v : V) → find S q (rows (afters rewrites)) ≡ Some v → find S q (rows documents) ≡ find S q (rows (befores rewrites))
-  new_there q v =
-      elim (find int_cmp (docid_of q) (under_docids rewrites)) as (λ x. find int_cmp (docid_of q) (under_docids rewrites) ≡ x → find S q (rows (afters rewrites)) ≡ Some v → find S q (rows documents) ≡ find S q (rows (befores rewrites))) [
-        | None ↦ λ is h. absurd (let no : None ≡ Some v = sym (new_rows q ∙ ap (λ x. one q (option_and_then (λ (r : Rewrite). r.after) x)) is ∙ are.none q) ∙ h in cc)
-        | Some r ↦ λ is _. are.found q documents ordered ∙ ap (one q) (sym (before_found (docid_of q) documents rewrites r known is)) ∙ sym (old_rows q ∙ ap (λ x. one q (option_and_then (λ (r : Rewrite). r.before) x)) is)
-      ] refl
-
   pub sorted_befores : is_sorted S (rows (befores rewrites)) ≡ true
   sorted_befores = are.sorted (befores rewrites) (sorted_held (λ r. r.before) rewrites rising)
 

@@ -183,11 +183,8 @@ token_count ts = pos (length ts)
 abbrev pub counts : List Column → List Cell → List (ℤ × ℤ)
 counts columns cells = passed_from has_tokens token_count 0 (document_tokens columns cells)
 
-abbrev size_at : ℤ → ℕ × List PlainToken → Size
+abbrev pub size_at : ℤ → ℕ × List PlainToken → Size
 size_at docid c = record { docid = docid; column = c.0; n = length c.1 }
-
-abbrev keyed_size : SizeRow → (ℤ × ℤ) × ℤ
-keyed_size s = ((s.docid, s.column), s.n)
 
 kept_sizes : (docid : ℤ) (es : List (ℕ × List PlainToken)) → sized (map size_row (filter (λ (s : Size). nat_lt 0 s.n) (map (size_at docid) es))) ≡ under docid (map (λ (c : ℕ × List PlainToken). (pos c.0, token_count c.1)) (filter (λ (c : ℕ × List PlainToken). has_tokens c.1) es))
 kept_sizes docid [] = refl

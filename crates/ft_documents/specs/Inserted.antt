@@ -10,21 +10,13 @@ use Rattle.ft_values.specs.declared.fault.Fault.{Fault}
 use Rattle.ft_values.specs.declared.fault.Fault.TheVariants as faults
 use Rattle.ft_content.specs.Content.{Documents}
 use Rattle.ft_content.specs.Deserved.{docids_named, has_docid}
-use Rattle.ft_documents.specs.declared.new_documents.NewDocuments.{NewDocuments}
 use Rattle.ft_documents.specs.declared.rewrite.Rewrite as source
 use Rattle.ft_documents.specs.Rewrite.{Rewrite, shown_rewrite, under_docids, rewritten}
-use Rattle.ft_documents.specs.NewDocuments.{with_new, AreBeside}
 
 -- Of each row it is known whether a document has the docid that the row gives.
 abbrev pub AreKnown : Documents → List (List (List ℕ × Cell)) → List Bool → Type 0
 AreKnown documents rows stored = (k : ℕ) (values : List (List ℕ × Cell)) → slice_get rows k ≡ Some values
     → IfSome (slice_get (docids_named values) 0) (λ docid. has_docid documents docid ≡ unwrap_or (slice_get stored k) false)
-
--- What comes of rows: the documents with theirs, or the fault of the first row that fails, but for
--- want of memory.
-abbrev pub MakesDocuments : Documents → Result Documents Fault → Result NewDocuments Fault → Type 0
-MakesDocuments documents inserted (Ok new) = AreBeside documents new × (inserted ≡ Ok (with_new new documents))
-MakesDocuments documents inserted (Err fault) = (fault ≡ faults.Memory) ⊎ (inserted ≡ Err fault)
 
 -- a rewrite makes a document where none was
 abbrev pub IsNewIn : Documents → Rewrite → Type 0
@@ -38,7 +30,8 @@ pub record AreInserts (documents : Documents) (rewrites : List Rewrite) (inserte
   pub news : AllByRecursion (IsNewIn documents) rewrites
   pub made : inserted ≡ Ok (rewritten rewrites documents)
 
--- So it is, or the fault of the first row that fails, but for a fault from outside.
-abbrev pub Inserts : Documents → Result Documents Fault → Result (Vec source.Rewrite Global) Fault → Type 0
-Inserts documents inserted (Ok rewrites) = AreInserts documents (map shown_rewrite rewrites.items) inserted
-Inserts documents inserted (Err fault) = ((fault ≡ faults.Store) ⊎ (fault ≡ faults.Memory)) ⊎ (inserted ≡ Err fault)
+-- What comes of rows: the rewrites that make their documents, or the fault of the first row that
+-- fails, but for want of memory.
+abbrev pub MakesDocuments : Documents → Result Documents Fault → Result (Vec source.Rewrite Global) Fault → Type 0
+MakesDocuments documents inserted (Ok rewrites) = AreInserts documents (map shown_rewrite rewrites.items) inserted
+MakesDocuments documents inserted (Err fault) = (fault ≡ faults.Memory) ⊎ (inserted ≡ Err fault)

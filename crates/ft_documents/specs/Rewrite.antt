@@ -1,14 +1,14 @@
 -- Meaning. Documents that are written anew, and what row changes of them do. All of it is our own
 -- choice.
-use Rattle.std.specs.Prelude.{◌≡◌, ◌≢◌, ℕ, ◌+◌, ◌-◌, ◌<◌, ℤ, List, [], ◌∷◌, map, length, take, sum_by, All}
-use Rattle.std.specs.Prelude.{Option, Some, None, option_map, IsTrue, IsSome, IfSome}
+use Rattle.std.specs.Prelude.{◌≡◌, ℕ, ◌+◌, ◌-◌, ◌<◌, ℤ, List, [], ◌∷◌, map, length, take, sum_by, All}
+use Rattle.std.specs.Prelude.{Option, Some, None, option_map, IsTrue, IfSome}
 use Rattle.std.specs.List.{flat_map}
 use Rattle.std.specs.Ordering.{int_cmp}
 use Rattle.std.specs.FinMap.Entries.{put, find, is_sorted}
 use Rattle.ft_rows.specs.Packed.{CanPack}
 use Rattle.ft_values.specs.Cells.{Cell, Null, Int, Text}
-use Rattle.ft_rows.specs.Store.{StoreValue, AreInOrder, cell_key_cmp, list_key_cmp, Change, AddTable, DropTable, PutCell, DropCells}
-use Rattle.ft_rows.specs.Store.{PutEntries, DropEntries, PutSize, DropSize, ClearIndex, Note, all_applied}
+use Rattle.ft_rows.specs.Store.{StoreValue, AreInOrder, Change}
+use Rattle.ft_rows.specs.Store.{PutEntries, all_applied}
 use Rattle.ft_content.specs.Content.{Column, Documents, Content, IsContent, content_rows, is_document}
 use Rattle.ft_content.specs.Index.{index_rows}
 use Rattle.ft_content.specs.Step.{without_docid}
@@ -85,25 +85,6 @@ AreRight tab columns rewrites changes = (name : List ℕ) (content : Content) (s
     → content.columns ≡ columns → AreOf content rewrites →
     (table_rows tab (all_applied changes store) ≡ content_rows (rewritten_content rewrites content))
     × (table_index tab (all_applied changes store) ≡ index_rows (rewritten_content rewrites content))
-
--- A change names what is new: it puts no row that stands as it is, and drops no list or size that
--- isn't there.
-abbrev pub IsNew : StoreValue → Change → Type 0
-IsNew store (AddTable tab name columns skipped) = Unit {0}
-IsNew store (DropTable tab) = Unit {0}
-IsNew store (PutCell tab docid column value) = find cell_key_cmp (tab, docid, column) store.cells ≢ Some value
-IsNew store (DropCells tab docid) = Unit {0}
-IsNew store (PutEntries tab term docid spots) = find list_key_cmp (tab, term, docid) store.lists ≢ Some spots
-IsNew store (DropEntries tab term docid) = IsSome (find list_key_cmp (tab, term, docid) store.lists)
-IsNew store (PutSize tab docid column n) = find cell_key_cmp (tab, docid, column) store.sizes ≢ Some n
-IsNew store (DropSize tab docid column) = IsSome (find cell_key_cmp (tab, docid, column) store.sizes)
-IsNew store (ClearIndex tab) = Unit {0}
-IsNew store (Note name) = Unit {0}
-
--- What stands as it was is not named.
-abbrev pub AreNew : ℤ → List Column → List Rewrite → List Change → Type 0
-AreNew tab columns rewrites changes = (name : List ℕ) (content : Content) (store : StoreValue) → HasContent name content tab store
-    → content.columns ≡ columns → AreOf content rewrites → All (IsNew store) changes
 
 -- the bytes of a cell's text
 abbrev pub cell_bytes : Cell → ℕ

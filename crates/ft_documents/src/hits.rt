@@ -1,5 +1,5 @@
 //! The query of a filter, and the hits of its walk.
-ghost use Rattle.std.specs.Prelude.{◌≡◌, ◌≢◌, option_map, None, Some, IfOk, IfErr, OnOk, List, map};
+ghost use Rattle.std.specs.Prelude.{◌≡◌, ◌≢◌, option_map, None, Some, IfOk, IfErr, OnOk, List, [], map};
 ghost use Rattle.ft_query.specs.Trees.{tree_of};
 ghost use Rattle.ft_content.specs.Deserved.{query_fault};
 ghost use Rattle.ft_content.specs.Views.{bare_content, filter_of};
@@ -42,6 +42,14 @@ pub fn filter_query(
     }
 }
 
+/// The hit of a docid, without offsets.
+pub fn bare_hit(alloc: Global, docid: i64) -> Hit
+    ensures { plain_hit result ≡ record { docid = docid; offsets = [] } }
+{
+    let offsets = Vec::new(alloc);
+    Hit { docid, offsets }
+}
+
 // The next hit, with its offsets where they are wanted, or `None` where there is none left.
 fn next_hit(
     alloc: Global,
@@ -53,11 +61,7 @@ fn next_hit(
     if wants_offsets {
         return walk.next();
     }
-    let docid = walk.next_docid()?;
-    Ok(docid.map(|docid| Hit {
-        docid,
-        offsets: Vec::new(alloc),
-    }))
+    Ok(walk.next_docid()?.map(|docid| bare_hit(alloc, docid)))
 }
 
 /// The hits that are left, or the first ones where there are more than wanted.

@@ -15,9 +15,9 @@ mod tokens;
 mod writes;
 
 pub use documents::{Document, gathered};
-pub use hits::{filter_query, taken};
+pub use hits::{bare_hit, filter_query, taken};
 pub use lists::doc_lists;
-pub use new_documents::{NewDocuments, made_documents};
+pub use new_documents::made_documents;
 pub use rewrite::{Rewrite, in_groups, row_changes};
 pub use standing_index::index_lists;
 pub use standing_rows::{is_content, listed_columns};

@@ -10,29 +10,28 @@ ghost use Rattle.ft_documents.specs.Inserted.{AreKnown, MakesDocuments};
 
 use crate::rewrite::Rewrite;
 use ft_content::{Column, Fault, Value, docid_for_row, last_docid_after, new_cells, row_docid};
-use std::alloc::{AllocError, Global};
+use std::alloc::Global;
 use std::collections::BTreeMap;
 
-/// New documents by rising docid, and the last docid of a table with them.
+// New documents by rising docid, and the last docid of a table with them.
 #[derive(Drop)]
-pub struct NewDocuments {
+struct NewDocuments {
     alloc: Global,
     last: Option<i64>,
     documents: BTreeMap<i64, Vec<Value>>,
 }
 
 impl NewDocuments {
-    ghost use Rattle.std.specs.Prelude.{map, zip, slice_get, IfSome, IfOk};
+    ghost use Rattle.std.specs.Prelude.{map, zip, slice_get, IfSome};
     ghost use Rattle.ft_values.specs.Cells.{shown_value};
     ghost use Rattle.ft_content.specs.Content.{Documents};
     ghost use Rattle.ft_content.specs.Deserved as deserved;
     ghost use Rattle.ft_content.specs.Views.{column_of};
-    ghost use Rattle.ft_documents.specs.NewDocuments.{shown_documents, with_new, new_rewrite, AreBeside, Places};
-    ghost use Rattle.ft_documents.specs.Rewrite.{shown_rewrite};
+    ghost use Rattle.ft_documents.specs.NewDocuments.{with_new, AreBeside, Places};
 
-    /// Adds the document of a row, whose docid, if it gives one, may be that of a document of the
-    /// table.
-    pub(crate) fn add(
+    // Adds the document of a row, whose docid, if it gives one, may be that of a document of the
+    // table.
+    fn add(
         &mut self,
         columns: &[Column],
         names: &[&str],
@@ -56,22 +55,11 @@ impl NewDocuments {
         self.last = Some(last_docid_after(self.last, docid));
         Ok(())
     }
-
-    /// The rewrites that make these documents.
-    pub fn into_rewrites(self) -> Result<Vec<Rewrite>, AllocError>
-        ensures { IfOk result (λ rewrites. map shown_rewrite rewrites.items
-            ≡ map new_rewrite (shown_documents self)) }
-    {
-        self.documents
-            .into_iter()
-            .map(|(docid, cells)| Rewrite::new(docid, None, Some(cells)))
-            .collect(self.alloc)
-    }
 }
 
-/// The documents that rows make in a table with this last docid, or the fault of the first row that
-/// fails. At the place of each row stands whether the table has a document with the docid that the
-/// row gives.
+/// The rewrites that make the documents of rows in a table with this last docid, or the fault of the
+/// first row that fails. At the place of each row stands whether the table has a document with the
+/// docid that the row gives.
 pub fn made_documents(
     alloc: Global,
     last: Option<i64>,
@@ -79,7 +67,7 @@ pub fn made_documents(
     names: &[&str],
     rows: &[Vec<Value>],
     stored: &[bool],
-) -> Result<NewDocuments, Fault>
+) -> Result<Vec<Rewrite>, Fault>
     ensures { (documents : Documents) → IsTrue (is_sorted int_cmp documents)
         → views.last_docid documents ≡ last
         → AreKnown documents (map (zip (map (λ n. n.now) names.now)) (map cells_of rows.now))
@@ -96,5 +84,7 @@ pub fn made_documents(
         let is_stored = stored.get(place).copied().unwrap_or(false);
         new.add(columns, names, row.as_slice(), is_stored)?;
     }
-    Ok(new)
+    let documents = new.documents.into_iter();
+    let rewrites = documents.map(|(docid, cells)| Rewrite::new(docid, None, Some(cells)));
+    Ok(rewrites.collect(alloc)?)
 }

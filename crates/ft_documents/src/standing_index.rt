@@ -15,17 +15,9 @@ use std::alloc::{AllocError, Global};
 fn are_sizes(sizes: &Sizes, rows: &[SizeRow]) -> bool
     ensures { IsTrue result ↔ (map standing.size_under_key rows.now ≡ sizes.now.entries) }
 {
-    let mut rest = rows;
-    for (key, n) in sizes.iter() {
-        let Some(row) = rest.first() else {
-            return false;
-        };
-        if row.docid != key.0 || row.column != key.1 || row.n != *n {
-            return false;
-        }
-        rest = rest.split_at(1).1;
-    }
-    rest.is_empty()
+    let own = rows.iter().map(|row| ((row.docid, row.column), row.n));
+    let mut pairs = own.zip(sizes.iter());
+    rows.len() == sizes.len() && pairs.all(|(size, (key, n))| size == (*key, *n))
 }
 
 /// The postings of a content that has these cells, made from scratch, by their terms; none where

@@ -85,5 +85,5 @@ pub use Rattle.ft_index.specs.Selected.{hit_cells, IsAsked, IsOf}
 unfoldable pub use Rattle.ft_index.specs.Walked.{table_documents}
 pub use Rattle.ft_index.specs.Walked.{IsIndexed, ReadsStore}
 pub use Rattle.ft_index.specs.Written.{WritesIn, LeadsTo, PlansTo, WritesDocuments, HasAll, MakesWritten, PlansIn, WritesTable, MakesAnew}
-pub use Rattle.ft_index.specs.Written.{PlansWritten, RebuildsIn, first_parts}
+pub use Rattle.ft_index.specs.Written.{RebuildsIn, first_parts}
 pub use Rattle.ft_index.specs.declared.written.Written.{Written}

@@ -1,17 +1,17 @@
 -- What calls do that read, and then change rows, and why they are refused.
-use Rattle.std.proofs.Common.{◌≡◌, ◌⊎◌, inl, inr, ℕ, ◌+◌, ◌-◌, ◌^◌, ◌<◌, Bool, true, false, min, refl, ◌∙◌, arith, IsTrue, Result, Ok, Err, ℤ, sym, ap, subst, is_ok, OnOk, List, map, None, cond, [], ◌∷◌, Some, Option, All as AllOf, ◌≢◌, ◌&&◌, Less, Equal, Greater, drop, All, IsSome, is_some, filter, int_cmp, int_eq, map-id, Vec, Global}
+use Rattle.std.proofs.Common.{◌≡◌, ◌⊎◌, inl, inr, ℕ, ◌+◌, ◌-◌, ◌^◌, ◌<◌, Bool, true, false, min, refl, ◌∙◌, arith, IsTrue, Result, Ok, Err, ℤ, sym, ap, subst, is_ok, OnOk, List, map, None, cond, [], ◌∷◌, Some, Option, All as AllOf, ◌≢◌, ◌&&◌, Less, Equal, Greater, drop, All, IsSome, is_some, filter, int_cmp, int_eq, map-id}
 use Rattle.ft_index.proofs.Common.{State, HasCleanDisk, Survives, Ghosts, Trees, StoreState, shows, value_in, ReadsStore, IsIndexed, Database}
 use Rattle.ft_index.proofs.Common.{survives_then, value_of, Content, table_rows, HasRows, Looks, IsOf, StoreValue, Change, all_applied, Fault}
 use Rattle.ft_index.proofs.Common.{Command, Done, TableInfo, Contents, deserved, TableState, Sound, Table, after, reply_to, step, step_by}
 use Rattle.ft_index.proofs.Common.{with_documents, on_table, with_tables, ReachesStep, IsUp, IsOutside, KeepsOthers, PlansFrom, AreHeld, Executes}
 use Rattle.ft_index.proofs.Common.{is_outside, table_info, Answers, StoreHolds, doubt, Documents, same_name, survives_weaker, IsStored}
 use Rattle.ft_index.proofs.Common.{AllByRecursion, All-weaker, All-from_recursion, RowChange, shown_change, TakesOut, IsPlainFault, IsChangeFault}
-use Rattle.ft_index.proofs.Common.{fault_of_read, StoreFault, AddTable, Note, RustReply, Select, Filter, Items, Rows, Stale, Loose, table_named}
+use Rattle.ft_index.proofs.Common.{fault_of_read, StoreFault, AddTable, Note, RustReply, Select, Filter, Items, Rows, table_named}
 use Rattle.ft_index.proofs.Common.{answer_of, FullText, OnlyLooks, store_value, SurvivesCrash, LeavesRead, Does, MakesRows, CountsFound, CountsHeld}
 use Rattle.ft_index.proofs.Common.{CountsRows, CountsCommand, All-nil, put, find, by_order, where_key, map-map, Hit, PlainHit, plain_hit, AreInOrder}
 use Rattle.ft_index.proofs.Common.{ListKey, list_key_cmp, IsBlamed, Cell, chosen, is_chosen, cut, query_in, Column, IsContent, hit_read, chosen_hits}
 use Rattle.ft_index.proofs.Common.{as_wanted, AreThere, AreRewrites, BlamesMade, Key, Spot, IndexRows, index_rows, HasContent, table_index}
-use Rattle.ft_index.proofs.Common.{IsSoundNamed, info_named, held_columns, Written, PlansIn, PlansTo, PlansWritten, WritesIn, BlamesDone}
+use Rattle.ft_index.proofs.Common.{IsSoundNamed, info_named, held_columns, PlansTo, BlamesDone}
 use Rattle.ft_query.specs.Lists.{Reaches, Stays, Goes, Ends}
 use Rattle.ft_store.proofs.ChainLemmas.{kept_then}
 use Rattle.ft_content.specs.Command.{Reply}
@@ -668,10 +668,3 @@ module _ {S : Type 0} (g : Ghosts S) (old mid : StoreState S) (tables : List Tab
           | inl blamed ↦ inl blamed
           | inr cant ↦ inr (record { puts = puts; changes = changes; own = own up contents held; reaches = reaches up contents held; cant = subst (λ (d : Database). CantMake d.trees changes) same cant })
         ])
-
--- the row changes of what was found are a plan
-pub plans_written : {S : Type 0} (g : Ghosts S) (tables : List TableInfo) (old new : StoreState S) (command : Command) (found : Result Written Fault) (answer : Result (Vec RowChange Global) Fault) →
-    WritesIn g tables old new command found → PlansWritten found answer → PlansIn g tables old new command answer
-plans_written g tables old new command (Ok written) (Ok changes) writes planned = writes.0 (map shown_change changes.items) planned
-plans_written g tables old new command (Ok written) (Err fault) writes planned = λ up contents held. inl (ap (λ f. is_outside (Err f)) planned)
-plans_written g tables old new command (Err fault) answer writes planned = subst (PlansIn g tables old new command) (sym planned) writes

@@ -10,7 +10,7 @@ use Rattle.ft_content.specs.Deserved.{insert_tests, insert_fault, fault_if_any}
 use Rattle.ft_content.specs.Step.{new_docids}
 use Rattle.ft_content.proofs.ContentLemmas.{insert_keeps_content}
 use Rattle.ft_documents.specs.declared.rewrite.Rewrite as source
-use Rattle.ft_documents.specs.Inserted.{IsNewIn, Inserts}
+use Rattle.ft_documents.specs.Inserted.{IsNewIn, MakesDocuments}
 use Rattle.ft_documents.proofs.RewriteLemmas.{written, find_rewritten}
 use Rattle.ft_documents.proofs.InsertDue.{once, inserted_is}
 use Rattle.ft_documents.proofs.InsertOf.{each_found, are_of}
@@ -83,7 +83,7 @@ module _ (columns : Option (List (List ℕ))) (rows : List (List Cell)) where
   Made content = inserted_rows content.columns (map (zip (listed_columns content columns)) rows) content.documents
 
   -- the rewrites that its rows make
-  pub writes : (name : List ℕ) (content : Content) (result : Result (Vec source.Rewrite Global) Fault) → IsContent name content → insert_tests content (listed_columns content columns) rows ≡ None → Inserts content.documents (Made content) result →
+  pub writes : (name : List ℕ) (content : Content) (result : Result (Vec source.Rewrite Global) Fault) → IsContent name content → insert_tests content (listed_columns content columns) rows ≡ None → MakesDocuments content.documents (Made content) result →
       WritesDocuments content (due content) (made content) (news content) result
   writes name content (Ok rewrites) is tested h =
       let rs = map shown_rewrite rewrites.items in
@@ -96,7 +96,7 @@ module _ (columns : Option (List (List ℕ))) (rows : List (List Cell)) where
           near = all_new content.documents (made content) rs rs h.rising leads (each_found rs h.rising) h.news;
         },
       )
-  writes name content (Err fault) is tested (inl outside) = inl outside
+  writes name content (Err fault) is tested (inl memory) = inl (inr memory)
   writes name content (Err fault) is tested (inr fails) = inr (ap (λ o. or_else o (fault_if_any (Made content))) tested ∙ ap fault_if_any fails)
 
   -- a test that refuses it
@@ -114,7 +114,7 @@ module _ (columns : Option (List (List ℕ))) (rows : List (List Cell)) where
 
   -- and what the rows make is so by the content's columns
   pub rows_are : (content : Content) (cols : List Column) (names : List (List ℕ)) (result : Result (Vec source.Rewrite Global) Fault) → content.columns ≡ map column_of cols → names ≡ listed_columns (bare_content cols) columns →
-      Inserts content.documents (inserted_rows (map column_of cols) (map (zip names) rows) content.documents) result → Inserts content.documents (Made content) result
+      MakesDocuments content.documents (inserted_rows (map column_of cols) (map (zip names) rows) content.documents) result → MakesDocuments content.documents (Made content) result
   rows_are content cols names result columns_are named h =
-      subst (λ ns. Inserts content.documents (inserted_rows content.columns (map (zip ns) rows) content.documents) result) (names_are content cols names columns_are named)
-      (subst (λ cs. Inserts content.documents (inserted_rows cs (map (zip names) rows) content.documents) result) (sym columns_are) h)
+      subst (λ ns. MakesDocuments content.documents (inserted_rows content.columns (map (zip ns) rows) content.documents) result) (names_are content cols names columns_are named)
+      (subst (λ cs. MakesDocuments content.documents (inserted_rows cs (map (zip names) rows) content.documents) result) (sym columns_are) h)

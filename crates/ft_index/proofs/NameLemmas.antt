@@ -2,8 +2,8 @@
 use Rattle.std.proofs.Common.{◌≡◌, ℕ, Bool, true, false, cond, not, ◌||◌, List, [], ◌∷◌, Some, ℤ, pos, refl, sym, ap, ◌∙◌, filter, is_some, Less, Equal, Greater, int_cmp, int_eq}
 use Rattle.ft_index.proofs.Common.{or_parts, list_any, nat_list_eq_equiv, by_order, put, same_name, repeats_name, Command, Create, Drop, Insert}
 use Rattle.ft_index.proofs.Common.{Update, Delete, Rebuild, TableState, Table, Contents, table_named, made_columns, free_id_from, new_table, inserted}
-use Rattle.ft_index.proofs.Common.{updated, deleted, with_documents, rebuilt, on_table, after, table_names, left_by, Content, Documents, Sound, Stale}
-use Rattle.ft_index.proofs.Common.{Loose, is_sound}
+use Rattle.ft_index.proofs.Common.{updated, deleted, with_documents, rebuilt, on_table, after, table_names, left_by, Content, Documents, Sound}
+use Rattle.ft_index.proofs.Common.{is_sound}
 use Rattle.std.specs.Str.{str_to_ascii_lowercase}
 use Rattle.ft_index.specs.Called.{NamesStayApart, is_unsound, NoneGetsUnsound}
 

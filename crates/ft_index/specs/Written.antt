@@ -136,9 +136,3 @@ AnswersWritten {S} g found mid new answer = (old : StoreState S) (tables : List 
 abbrev pub BlamesWritten : {S : Type 0} → Ghosts S → Result Written Fault → StoreState S → StoreState S → Result Reply Fault → Type 0
 BlamesWritten {S} g found mid new answer = (old : StoreState S) (tables : List TableInfo) (command : Command) → IsTrue (puts_rows command)
     → WritesIn g tables old mid command found → LooksOn g old mid found → BlamesOver g tables old mid found → BlamesDone g tables old command new answer
-
--- the row changes of such documents, or the fault
-abbrev pub PlansWritten : Result Written Fault → Result (Vec RowChange Global) Fault → Type 0
-PlansWritten (Ok written) (Ok changes) = AreOfWritten written (map shown_change changes.items)
-PlansWritten (Ok written) (Err fault) = fault ≡ faults.Memory
-PlansWritten (Err fault) answer = answer ≡ Err fault

@@ -10,9 +10,7 @@ ghost use Rattle.ft_index.specs.Written.{PlansIn};
 use crate::select::{select_from, select_query};
 use crate::special::{check_table, optimize, rebuild_changes, rebuild_table};
 use crate::tables::{create_changes, create_table, drop_changes, drop_table};
-use crate::written::{
-    delete_from, delete_written, found_changes, insert_written, update_written, write_found,
-};
+use crate::written::{delete_from, delete_written, insert_written, update_written, write_found};
 use ft_content::{Command, Fault, Reply, TableInfo};
 use ft_documents::sound_table;
 use ft_store::{RowChange, Store};
@@ -69,10 +67,10 @@ pub(crate) fn planned_changes<S: Alter>(
     ensures refused { BlamesOver S.Store (map shown_info tables.now) store.old store.new result }
 {
     store.is_in_order();
-    let found = match command {
-        Command::Insert(insertion) => insert_written(alloc, store, tables, insertion),
-        Command::Update(modification) => update_written(alloc, store, tables, modification),
-        Command::Delete(deletion) => delete_written(alloc, store, tables, deletion),
+    let written = match command {
+        Command::Insert(insertion) => insert_written(alloc, store, tables, insertion)?,
+        Command::Update(modification) => update_written(alloc, store, tables, modification)?,
+        Command::Delete(deletion) => delete_written(alloc, store, tables, deletion)?,
         Command::Create(creation) => return create_changes(alloc, tables, creation),
         Command::Drop { table, if_there } => {
             return drop_changes(alloc, tables, table.as_str(), *if_there);
@@ -92,5 +90,5 @@ pub(crate) fn planned_changes<S: Alter>(
             return Ok(Vec::new(alloc));
         }
     };
-    found_changes(alloc, found)
+    Ok(written.changes(alloc)?)
 }

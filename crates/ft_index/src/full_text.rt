@@ -136,8 +136,7 @@ impl<S: Alter> FullText<S> {
         ensures refused { BlamesStore (shows S.Store self.old.store) (shows S.Store self.new.store)
             result }
     {
-        let tables = self.tables.as_slice();
-        planned_changes(self.alloc, &mut self.store, tables, command)
+        planned_changes(self.alloc, &mut self.store, self.tables.as_slice(), command)
     }
 
     /// Whether each table's rows are documents with exactly the index rows made from scratch. They

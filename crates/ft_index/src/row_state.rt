@@ -100,10 +100,9 @@ pub(crate) fn opened_tables<S: Alter>(
     for row in rows {
         let columns = listed_columns(alloc, &row)?;
         let sound = read_state(alloc, store, &row)?.is_sound();
-        let TabRow { id, name, .. } = row;
         tables.push(TableInfo {
-            id,
-            name,
+            id: row.id,
+            name: row.name,
             columns,
             sound,
         })?;

@@ -29,7 +29,7 @@ use ft_content::{
     Column, Fault, Filter, Grid, Item, Items, Reply, Selection, TableInfo, Value, answer_names,
     any_offsets, count_rows, cut, is_docid, item_row, select_tests,
 };
-use ft_documents::{Document, filter_query, sound_table};
+use ft_documents::{Document, bare_hit, filter_query, sound_table};
 use ft_query::{Hit, Query, offsets_text};
 use ft_store::Store;
 use sqlite::Alter;
@@ -172,12 +172,8 @@ fn bare_hits(alloc: Global, docids: &[i64]) -> Result<Vec<Hit>, AllocError>
     ensures { IfOk result (λ hits. map plain_hit hits.items
         ≡ map (λ docid. record { docid = docid; offsets = [] }) docids.now) }
 {
-    let mut hits = Vec::new(alloc);
-    for &docid in docids {
-        let offsets = Vec::new(alloc);
-        hits.push(Hit { docid, offsets })?;
-    }
-    Ok(hits)
+    let hits = docids.iter().map(|&docid| bare_hit(alloc, docid));
+    hits.collect(alloc)
 }
 
 // A row for each document, without offsets.

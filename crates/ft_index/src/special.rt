@@ -101,8 +101,7 @@ fn rebuilt<'t, S: Alter>(
     ensures refused { BlamesStore (shows S.Store store.old) (shows S.Store store.new) result }
 {
     store.is_in_order();
-    let state = known_state(alloc, store, table)?;
-    match state {
+    match known_state(alloc, store, table)? {
         RowState::Sound => Ok(None),
         RowState::Stale => {
             let documents = all_documents(alloc, store, table.id)?;

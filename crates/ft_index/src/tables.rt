@@ -68,12 +68,10 @@ pub(crate) fn create_changes(
     ensures plans { PlansOver tables.now (creation_of creation.now) result }
     ensures never { NeverStore result }
 {
-    let made = made_table(alloc, tables, creation)?;
-    let mut changes = Vec::new(alloc);
-    if let Some(made) = made {
-        changes.push(adding(alloc, &made)?)?;
+    match made_table(alloc, tables, creation)? {
+        Some(made) => Ok(vec![in alloc; adding(alloc, &made)?]?),
+        None => Ok(Vec::new(alloc)),
     }
-    Ok(changes)
 }
 
 /// Answers a Create. A table is made in the store, and in the list that is kept beside it.
@@ -93,8 +91,7 @@ pub(crate) fn create_table<S: Alter>(
     let Some(made) = made_table(alloc, tables.as_slice(), creation)? else {
         return Ok(Reply::Done);
     };
-    let mut changes = Vec::new(alloc);
-    changes.push(adding(alloc, &made)?)?;
+    let changes = vec![in alloc; adding(alloc, &made)?]?;
     let place = insert_table(tables, made)?;
     if let Err(fault) = change_rows(store, changes.as_slice()) {
         tables.remove(place);
@@ -114,13 +111,11 @@ pub(crate) fn drop_changes(
     ensures drops { IfOk result (λ changes. All TakesOut changes.items) }
     ensures never { NeverStore result }
 {
-    let mut changes = Vec::new(alloc);
     match table_place(tables, table) {
-        Some(place) => changes.push(RowChange::DropTable(tables[place].id))?,
-        None if !if_there => return Err(Fault::NoSuchTable),
-        None => {}
+        Some(place) => Ok(vec![in alloc; RowChange::DropTable(tables[place].id)]?),
+        None if if_there => Ok(Vec::new(alloc)),
+        None => Err(Fault::NoSuchTable),
     }
-    Ok(changes)
 }
 
 /// Answers a Drop.
@@ -167,8 +162,7 @@ pub(crate) fn note_name<S: Alter>(
     ensures refused { BlamesChanges (shows S.Store store.old) (shows S.Store store.new) result
         (Note name.now ∷ []) }
 {
-    let mut changes = Vec::new(alloc);
-    changes.push(RowChange::Note(String::from_str(alloc, name)?))?;
+    let changes = vec![in alloc; RowChange::Note(String::from_str(alloc, name)?)]?;
     store.ping()?;
     change_rows(store, changes.as_slice())
 }

@@ -5,7 +5,7 @@ ghost use Rattle.ft_content.specs.Views.{column_of, cells_of, insertion_of, show
 ghost use Rattle.ft_documents.specs.Rewrite.{shown_rewrite};
 ghost use Rattle.ft_documents.specs.RewriteRows.{rewrite_changes};
 ghost use Rattle.ft_rows.specs.Changes.{shown_change};
-ghost use Rattle.ft_index.specs.Written.{first_parts, AnswersWritten, PlansWritten, MakesAnew, WritesIn, BlamesWritten};
+ghost use Rattle.ft_index.specs.Written.{first_parts, AnswersWritten, MakesAnew, WritesIn, BlamesWritten};
 ghost use Rattle.ft_store.specs.Kept.{shows};
 ghost use Rattle.ft_content.specs.Content.{Content};
 ghost use Rattle.ft_content.specs.Deserved.{docids_named};
@@ -92,16 +92,6 @@ pub(crate) fn write_found<S: Alter>(
     Ok(Reply::Done)
 }
 
-/// The row changes of a command that was found to write documents, or its fault.
-pub(crate) fn found_changes(
-    alloc: Global,
-    found: Result<Written, Fault>,
-) -> Result<Vec<RowChange>, Fault>
-    ensures { PlansWritten found.entry result }
-{
-    Ok(found?.changes(alloc)?)
-}
-
 /// Makes a table anew with documents, or nothing where nothing is to be made. All of it is made or
 /// nothing, group by group.
 pub(crate) fn make_anew<S: Alter>(
@@ -134,16 +124,13 @@ impl Parts for GroupChanges<'_> {
 
     fn next(&mut self) -> Result<Option<Vec<RowChange>>, AllocError> {
         if let Some(first) = self.first.take() {
-            let mut part = Vec::new(self.alloc);
-            part.push(first)?;
-            return Ok(Some(part));
+            return Ok(Some(vec![in self.alloc; first]?));
         }
         let Some(group) = self.groups.next() else {
             return Ok(None);
         };
         let table = self.table;
-        let changes = row_changes(self.alloc, table.id, table.columns.as_slice(), group)?;
-        Ok(Some(changes))
+        Ok(Some(row_changes(self.alloc, table.id, table.columns.as_slice(), group)?))
     }
 }
 
@@ -173,8 +160,7 @@ pub(crate) fn insert_written<'t, S: Alter>(
     }
     let last = store.last_docid(table.id)?;
     let stored = stored_docids(alloc, store, table.id, names, rows)?;
-    let new = made_documents(alloc, last, columns, names, rows, stored.as_slice())?;
-    let rewrites = new.into_rewrites()?;
+    let rewrites = made_documents(alloc, last, columns, names, rows, stored.as_slice())?;
     Ok(Written { table, rewrites })
 }
 

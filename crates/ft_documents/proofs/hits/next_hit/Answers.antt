@@ -15,7 +15,7 @@ returns-then-wants_offsets c = record {
 pub returns : goal.returns
 returns c = record {
   told = λ documents stands. subst (λ b. TellsHit b c.args.walk.now c.next_docid.new.self c.map.result documents) (sym c.if-wants_offsets.false)
-      (told_bare c.args.walk.now c.next_docid.new.self c.in_ok-docid.docid c.map.result documents (search rules) (c.in_ok-docid.ensures.walked documents stands));
+      (told_bare c.args.walk.now c.next_docid.new.self c.in_ok-next_docid.field-0 c.map.result documents (search rules) (c.in_ok-next_docid.ensures.walked documents stands));
   passes = search rules;
   query = search rules;
 }

@@ -1,8 +1,9 @@
 -- a row more
 use Rattle.std.proofs.Common.{◌≡◌, ◌+◌, inl, inr, Err, Result, map, zip, drop, refl, sym, ap, subst, ◌∙◌, rules, true, false, None, ℤ, unwrap_or, get_or, ℕ, zero, suc, Bool, List, [], ◌∷◌, slice_get, int_cmp, IsTrue}
-use Rattle.ft_documents.proofs.Common.{drop_all, slice_get_read, Fault, inserted_rows, insert_row, docids_named, new_cells, cells_of, column_of, last_docid, NewDocuments, AllByRecursion, find, is_sorted, Cell, Documents, shown_new, shown_documents, with_new, AreBeside, Places, AreKnown, MakesDocuments, all_put}
+use Rattle.sqlite_keyed.proofs.ListLemmas.{map-map}
+use Rattle.ft_documents.proofs.Common.{YieldsList-from_map_by, map_from_collect, YieldsList-at, YieldsList-from_rest, shown_rewrite, new_rewrite, drop_all, slice_get_read, Fault, inserted_rows, insert_row, docids_named, new_cells, cells_of, column_of, last_docid, NewDocuments, AllByRecursion, find, is_sorted, Cell, Documents, shown_new, shown_documents, with_new, AreBeside, Places, AreKnown, MakesDocuments, all_put}
 use Rattle.ft_documents.proofs.Steps.{taken_more}
-use Rattle.ft_documents.proofs.InsertRows.{rows_step, rows_fail, rows_none, row_at}
+use Rattle.ft_documents.proofs.InsertRows.{rows_step, rows_fail, rows_none, row_at, new_are_inserts}
 use Rattle.ft_documents.proofs.new_documents.made_documents.Goals.{After-add}
 use Rattle.ft_documents.proofs.new_documents.made_documents.Goals as goal
 
@@ -67,4 +68,7 @@ returns c documents sorted last known =
     let so_far = c.loop-place.invariant documents sorted last known in
     let columns = map column_of c.args.columns.now in
     let all = with_new c.loop-place.new documents in
-    (so_far.0, sym so_far.1 ∙ ap (λ xs. inserted_rows columns (map (zip (map (λ n. n.now) c.args.names.now)) (map cells_of xs)) all) (drop_all c.loop-place.place c.args.rows.now c.loop-place-test.false) ∙ rows_none columns all)
+    let road = YieldsList-at c.map-rewrites.ensures.source (YieldsList-from_rest c.loop-place.new.documents.entries (search rules)) in
+    let rewrites = map_from_collect _ c.collect.ensures.ran (YieldsList-from_map_by _ shown_rewrite (λ e. new_rewrite (shown_new e)) road c.map-rewrites.ensures.closure (λ x r q k. search rules)) in
+    new_are_inserts documents c.loop-place.new _ _ (search (rules, map-map)) so_far.0
+    (sym so_far.1 ∙ ap (λ xs. inserted_rows columns (map (zip (map (λ n. n.now) c.args.names.now)) (map cells_of xs)) all) (drop_all c.loop-place.place c.args.rows.now c.loop-place-test.false) ∙ rows_none columns all)

@@ -1,11 +1,11 @@
 use Rattle.std.proofs.Common.{◌≡◌, ◌≤◌, ◌+◌, ◌++◌, ◌∷◌, ◌&&◌, [], List, Bool, cond, not, true, false, map, drop, length, refl, sym, subst, ap, ◌∙◌, to_z-of_z, to_z, of_z, w64, rules, is_some, IsTrue, flat_map, int_eq}
 use Rattle.sqlite_keyed.proofs.SliceLemmas.{is_some-map}
-use Rattle.ft_documents.proofs.Common.{is_sorted, length-map, drop_all, All-same, DropCells, column_key_cmp, shown_change, Key, key_cmp, Spot, cells_of, column_of, IsOfDocids, AddsDocuments, IsIndexOf, Rewrite, shown_rewrite, befores, afters, document_if, rewritten_docids, AreRight, AreNew, Group, group_spots, lists_in_groups, kept_list, index_lists_of, goes, dropped_documents, put_documents, dropped_lists, put_lists, dropped_sizes, put_sizes, gone, changed, same_spots}
+use Rattle.ft_documents.proofs.Common.{is_sorted, length-map, drop_all, All-same, DropCells, column_key_cmp, shown_change, Key, key_cmp, Spot, cells_of, column_of, IsOfDocids, AddsDocuments, IsIndexOf, Rewrite, shown_rewrite, befores, afters, document_if, rewritten_docids, AreRight, Group, group_spots, lists_in_groups, kept_list, index_lists_of, goes, dropped_documents, put_documents, dropped_lists, put_lists, dropped_sizes, put_sizes, gone, changed, same_spots}
 use Rattle.ft_documents.specs.RewriteRows.{rewrite_changes}
 use Rattle.ft_documents.proofs.Steps.{kept_more, all_taken, taken_more, change_more, six_pieces}
 use Rattle.ft_documents.proofs.TermOrder.{sorted_joined}
 use Rattle.ft_documents.proofs.IndexOf.{more_joined, all_joined}
-use Rattle.ft_documents.proofs.NewLemmas.{near, are_new}
+use Rattle.ft_documents.proofs.NearLemmas.{near}
 use Rattle.ft_documents.proofs.RightLemmas.{are_right}
 use Rattle.ft_documents.proofs.PackedChanges.{are_packable}
 use Rattle.ft_documents.proofs.rewrite.row_changes.Goals.{then-is_some+then-is_none+in_ok-push, else-is_some, else-is_some-via-then-is_some+else-is_none, else-is_some-via-else-is_some}
@@ -82,6 +82,5 @@ returns c =
       plan = plan;
       right = subst (AreRight c.args.tab columns rewrites) (sym plan) (are_right c.args.tab columns rewrites);
       packable = λ few rising fits. are_packable c.args.tab columns rewrites c.put_sizes.new.changes.items plan (rw width few) rising (rw width fits) last.numbers;
-      new = subst (AreNew c.args.tab columns rewrites) (sym plan) (are_new c.args.tab columns rewrites);
       near = All-same (IsOfDocids c.args.tab (rewritten_docids rewrites)) made (rewrite_changes c.args.tab columns rewrites) plan (near c.args.tab columns rewrites);
     }

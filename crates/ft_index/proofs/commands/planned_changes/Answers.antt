@@ -1,47 +1,45 @@
 -- by what each command was found to write, and by what a Check or an Optimize is answered
-use Rattle.std.proofs.Common.{rules, ◌≡◌, ◌∙◌, [], string_bytes, ℕ, List, map, Ok, Err, Result, Vec, Global, sym, ap, subst, subst₂}
+use Rattle.std.proofs.Common.{inl, refl, rules, ◌≡◌, [], string_bytes, ℕ, List, map, Ok, Err, Result, Vec, Global, sym, ap, subst, subst₂}
 use Rattle.ft_index.proofs.Common.{Ghosts, StoreState, changes_of, Fault, RowChange, Change, shown_change, value_in, Reply, TableInfo, shown_info}
 use Rattle.ft_index.proofs.Common.{command_of, items_of, filter_of, IsUnfit, IsSoundNamed, answer_of, Answers, Looks, Written, WritesIn, PlansIn}
-use Rattle.ft_index.proofs.Common.{PlansTo, PlansWritten}
+use Rattle.ft_index.proofs.Common.{PlansTo}
 use Rattle.ft_content.specs.Command as plain
 use Rattle.ft_content.specs.declared.command.Command.{Command}
 use Rattle.ft_values.specs.declared.fault.Fault.TheVariants as faults
-use Rattle.ft_index.specs.Refused.{BlamesOver}
-use Rattle.ft_index.proofs.Doing.{plans_written}
 use Rattle.ft_index.proofs.SelectAnswers.{select_unplanned, select_fails, select_plans}
 use Rattle.ft_index.proofs.TablePlans.{check_plans, optimize_plans}
 use Rattle.ft_index.proofs.commands.planned_changes.Goals as goal
-use Rattle.ft_index.proofs.commands.planned_changes.Goals.{in-Insert, in-Update, in-Delete}
+use Rattle.ft_index.proofs.commands.planned_changes.Goals.{After-changes, in-Insert+in_ok-written-in-Insert, in-Update+in_ok-written-in-Update, in-Delete+in_ok-written-in-Delete}
 
--- what was found to be written, by whichever command
-record Found {S : Type 0} (g : Ghosts S) (tables : List TableInfo) (old new : StoreState S) (command : Command) (found : Result Written Fault) : Type 0 where
-  told : WritesIn g tables old new (command_of command) found
+-- documents that were found to be written, by whichever command
+record Found {S : Type 0} (g : Ghosts S) (tables : List TableInfo) (old new : StoreState S) (command : Command) (written : Written) : Type 0 where
+  told : WritesIn g tables old new (command_of command) (Ok written)
   looks : Looks g old new
-  refused : BlamesOver g tables old new found
 
-moved : {S : Type 0} (g : Ghosts S) (tables : List TableInfo) (old new later : StoreState S) (x y : Command) (found same : Result Written Fault) → y ≡ x → later ≡ new → same ≡ found → Found g tables old new x found → Found g tables old later y same
-moved g tables old new later x y found same is there was it = subst (λ c. Found g tables old later c same) (sym is) (subst (λ s. Found g tables old s x same) (sym there) (subst (Found g tables old new x) (sym was) it))
+moved : {S : Type 0} (g : Ghosts S) (tables : List TableInfo) (old new later : StoreState S) (x y : Command) (written same : Written) → y ≡ x → later ≡ new → same ≡ written → WritesIn g tables old new (command_of x) (Ok written) → Looks g old new → Found g tables old later y same
+moved g tables old new later x y written same is there kept told looks =
+    subst (λ c. Found g tables old later c same) (sym is) (subst (λ s. Found g tables old s x same) (sym there) (subst (Found g tables old new x) (sym kept) (record { told = told; looks = looks })))
 
--- what is answered `Store` was found so
-store_found : (found : Result Written Fault) (answer : Result (Vec RowChange Global) Fault) → PlansWritten found answer → answer ≡ Err faults.Store → found ≡ Err faults.Store
-store_found (Ok written) (Ok changes) planned told = absurd (let wrong = told in cc)
-store_found (Ok written) (Err fault) planned told = absurd (let wrong = ap Err (sym planned) ∙ told in cc)
-store_found (Err fault) answer planned told = let same : fault ≡ faults.Store = (let e = sym planned ∙ told in cc) in ap Err same
+found_in : (g : _) (c : After-changes g) → Found g.S.Store (map shown_info c.args.tables.now) c.args.store.now c.match-command.store c.args.command.now c.match-command.written
+found_in g c = elim c.match-command.branch [
+  | in-Insert+in_ok-written-in-Insert w ↦ moved g.S.Store (map shown_info c.args.tables.now) c.args.store.now w.insert_written.new.store _ _ _ _ _ w.in-Insert.is w.store-is w.written-is w.in_ok-written-in-Insert.ensures.told w.insert_written.ensures.looks.only
+  | in-Update+in_ok-written-in-Update w ↦ moved g.S.Store (map shown_info c.args.tables.now) c.args.store.now w.update_written.new.store _ _ _ _ _ w.in-Update.is w.store-is w.written-is w.in_ok-written-in-Update.ensures.told w.update_written.ensures.looks.only
+  | in-Delete+in_ok-written-in-Delete w ↦ moved g.S.Store (map shown_info c.args.tables.now) c.args.store.now w.delete_written.new.store _ _ _ _ _ w.in-Delete.is w.store-is w.written-is w.in_ok-written-in-Delete.ensures.told w.delete_written.ensures.looks.only
+]
 
-pub returns : goal.returns
-returns g c =
-    let tables = map shown_info c.args.tables.now in
-    let old = c.args.store.now in
-    let it : Found g.S.Store tables old c.match-command.store c.args.command.now c.match-command.found = elim c.match-command.branch [
-      | in-Insert w ↦ moved g.S.Store tables old w.insert_written-found.new.store _ _ _ w.insert_written-found.result _ w.in-Insert.is w.store-is w.found-is (record { told = w.insert_written-found.ensures.told; looks = w.insert_written-found.ensures.looks.only; refused = w.insert_written-found.ensures.refused })
-      | in-Update w ↦ moved g.S.Store tables old w.update_written-found.new.store _ _ _ w.update_written-found.result _ w.in-Update.is w.store-is w.found-is (record { told = w.update_written-found.ensures.told; looks = w.update_written-found.ensures.looks.only; refused = w.update_written-found.ensures.refused })
-      | in-Delete w ↦ moved g.S.Store tables old w.delete_written-found.new.store _ _ _ w.delete_written-found.result _ w.in-Delete.is w.store-is w.found-is (record { told = w.delete_written-found.ensures.told; looks = w.delete_written-found.ensures.looks.only; refused = w.delete_written-found.ensures.refused })
-    ] in
-    record {
-      plans = plans_written g.S.Store tables old c.match-command.store (command_of c.args.command.now) c.match-command.found c.found_changes.result it.told c.found_changes.ensures;
-      looks = it.looks;
-      refused = λ contents held clean told. it.refused contents held clean (store_found c.match-command.found c.found_changes.result c.found_changes.ensures told);
-    }
+pub returns-in_err-changes-clause-plans : goal.returns-in_err-changes-clause-plans
+returns-in_err-changes-clause-plans g c =
+    let is : c.from_residual-in_err-changes.result ≡ Err faults.Memory = search rules in
+    subst (PlansIn g.S.Store (map shown_info c.args.tables.now) c.args.store.now c.match-command.store (command_of c.args.command.now)) (sym is) (λ up contents held. inl refl)
+
+pub returns-in_err-changes-clause-looks : goal.returns-in_err-changes-clause-looks
+returns-in_err-changes-clause-looks g c = (found_in g (goal.at.returns-in_err-changes-clause-looks g c).After-changes).looks
+
+pub returns-clause-plans : goal.returns-clause-plans
+returns-clause-plans g c = (found_in g (goal.at.returns-clause-plans g c).After-changes).told.0 (map shown_change c.in_ok-changes.field-0.items) c.in_ok-changes.ensures
+
+pub returns-clause-looks : goal.returns-clause-looks
+returns-clause-looks g c = (found_in g (goal.at.returns-clause-looks g c).After-changes).looks
 
 pub returns-in_err-info-in-Select-clause-plans : goal.returns-in_err-info-in-Select-clause-plans
 returns-in_err-info-in-Select-clause-plans g c =
@@ -49,7 +47,7 @@ returns-in_err-info-in-Select-clause-plans g c =
     let select = c.in-Select.select in
     let old = c.args.store.now in
     let fault : Fault = c.in_err-info-in-Select.field-0.0 in
-    let is : c.from_residual.result ≡ Err fault = search rules in
+    let is : c.from_residual-in_err-info-in-Select.result ≡ Err fault = search rules in
     let unfit : IsUnfit tables (string_bytes select.table) fault = subst (λ (n : List ℕ). IsUnfit tables n fault) c.as_str-in-Select.ensures.value c.in_err-info-in-Select.ensures in
     subst₂ (λ (x : Command) (r : Result (Vec RowChange Global) Fault). PlansIn g.S.Store tables old old (command_of x) r) (sym c.in-Select.is) (sym is)
     (λ up contents held. select_unplanned contents (string_bytes select.table) (items_of select.items) (filter_of select.filter) select.limit select.offset (value_in g.S.Store old) tables held fault unfit)

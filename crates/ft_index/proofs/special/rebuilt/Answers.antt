@@ -15,7 +15,7 @@ returns-in-Sound-clause-told g c = λ tables name is. (
       let v = value_in g.S.Store c.args.store.now in
       let known = shown_info c.args.table.now in
       let t = told_here v tables contents name known c.is_in_order.ensures.order held is in
-      let stands = c.in_ok-state.ensures.told t.table.1.held up.clean (subst (λ k. HasState v k t.table.1.held) t.told t.stands) in
+      let stands = c.in_ok-known_state.ensures.told t.table.1.held up.clean (subst (λ k. HasState v k t.table.1.held) t.told t.stands) in
       subst (λ (cs : List Change). PlansFrom contents (plain.Rebuild name) v (Ok cs)) (sym are) (plan_right v tables contents name known c.is_in_order.ensures.order held t (sym c.in-Sound.is ∙ stands)),
   λ _ _ _. tt,
 )
@@ -27,14 +27,14 @@ returns-in_ok-rewrites-in-Stale-clause-told g c = λ tables name is.
     let old = c.args.store.now in
     let mid = c.known_state.new.store in
     let new = c.all_documents.new.store in
-    let one = c.in_ok-state.ensures.asks.only in
+    let one = c.in_ok-known_state.ensures.asks.only in
     let two = c.in_ok-documents-in-Stale.ensures.looks.only in
     let rewrites = map shown_rewrite c.in_ok-rewrites-in-Stale.rewrites.items in
     let order = c.is_in_order.ensures.order in
     let stale : IsUp g.S.Store (with_tables new tables) → (contents : Contents) → AreHeld v tables contents → IsPutAnew v contents name known rewrites = λ up contents held.
     let t = told_here v tables contents name known order held is in
     let fits : FitsSigned w64 known.id = search rules in
-    let stands = c.in_ok-state.ensures.told t.table.1.held (looks_up g.S.Store mid new tables tables two up).clean (subst (λ k. HasState v k t.table.1.held) t.told t.stands) in
+    let stands = c.in_ok-known_state.ensures.told t.table.1.held (looks_up g.S.Store mid new tables tables two up).clean (subst (λ k. HasState v k t.table.1.held) t.told t.stands) in
     let id : to_z w64 (of_z w64 known.id) ≡ t.table.0 = to_z-of_z fits ∙ ap (λ (k : TableInfo). k.id) (sym t.told) in
     record {
       told = t;
@@ -55,5 +55,5 @@ returns-in-Loose-clause-told g c = λ tables name is up contents held.
     let v = value_in g.S.Store c.args.store.now in
     let known = shown_info c.args.table.now in
     let t = told_here v tables contents name known c.is_in_order.ensures.order held is in
-    let stands = c.in_ok-state.ensures.told t.table.1.held up.clean (subst (λ k. HasState v k t.table.1.held) t.told t.stands) in
+    let stands = c.in_ok-known_state.ensures.told t.table.1.held up.clean (subst (λ k. HasState v k t.table.1.held) t.told t.stands) in
     plan_loose v tables contents name known c.is_in_order.ensures.order held t (sym c.in-Loose.is ∙ stands)

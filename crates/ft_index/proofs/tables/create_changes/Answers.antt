@@ -1,9 +1,8 @@
 -- by what is made
-use Rattle.std.proofs.Common.{rules, ◌≡◌, [], ◌∷◌, List, map, Ok, Err, None, Result, Vec, Global, sym, ap, subst, ◌∙◌}
+use Rattle.std.proofs.Common.{rules, ◌≡◌, [], ◌∷◌, List, map, Ok, Err, None, Some, Result, Vec, Global, sym, subst}
 use Rattle.ft_index.proofs.Common.{RowChange, Change, shown_change, Fault, shown_info, creation_of, PlansFrom, PlansTable, changes_of, table_change}
 use Rattle.ft_index.proofs.TablePlans.{create_refused, create_nothing, create_makes}
 use Rattle.ft_index.proofs.tables.create_changes.Goals as goal
-use Rattle.ft_index.proofs.tables.create_changes.Goals.{in-Some+in_ok-adding+in_ok-push, in_default}
 
 pub returns-in_err-made-clause-plans : goal.returns-in_err-made-clause-plans
 returns-in_err-made-clause-plans c store contents order held =
@@ -14,20 +13,15 @@ returns-in_err-made-clause-plans c store contents order held =
     (create_refused contents c.args.creation.now store (map shown_info c.args.tables.now) fault
     (subst (PlansTable contents c.args.creation.now) made (c.made_table.ensures.makes contents held.told)))
 
-pub returns-clause-plans : goal.returns-clause-plans
-returns-clause-plans c store contents order held =
-    let tables = map shown_info c.args.tables.now in
-    let command = creation_of c.args.creation.now in
-    let made : c.made_table.result ≡ Ok c.in_ok-made.made = search rules in
-    let makes = subst (PlansTable contents c.args.creation.now) made (c.made_table.ensures.makes contents held.told) in
-    elim c.match-made.branch [
-      | in-Some+in_ok-adding+in_ok-push w ↦
-          let same : map shown_change c.match-made.changes.items ≡ table_change w.in-Some.made ∷ [] = ap (λ (v : Vec RowChange Global). map shown_change v.items) w.changes-is ∙ search rules in
-          subst (λ (cs : List Change). PlansFrom contents command store (Ok cs)) (sym same)
-          (create_makes contents c.args.creation.now store tables w.in-Some.made order held (subst (λ o. PlansTable contents c.args.creation.now (Ok o)) w.in-Some.is makes))
-      | in_default w ↦
-          let none : c.in_ok-made.made ≡ None = search rules in
-          let same : map shown_change c.match-made.changes.items ≡ [] = ap (λ (v : Vec RowChange Global). map shown_change v.items) w.changes-is ∙ ap (map shown_change) c.new-changes.ensures.items in
-          subst (λ (cs : List Change). PlansFrom contents command store (Ok cs)) (sym same)
-          (create_nothing contents c.args.creation.now store tables held (subst (λ o. PlansTable contents c.args.creation.now (Ok o)) none makes))
-    ]
+pub returns-in_ok-vec-in-Some-clause-plans : goal.returns-in_ok-vec-in-Some-clause-plans
+returns-in_ok-vec-in-Some-clause-plans c store contents order held =
+    let made : c.made_table.result ≡ Ok (Some c.in-Some.made) = search rules in
+    let same : map shown_change c.in_ok-vec-in-Some.field-0.items ≡ table_change c.in-Some.made ∷ [] = search rules in
+    subst (λ (cs : List Change). PlansFrom contents (creation_of c.args.creation.now) store (Ok cs)) (sym same)
+    (create_makes contents c.args.creation.now store (map shown_info c.args.tables.now) c.in-Some.made order held (subst (PlansTable contents c.args.creation.now) made (c.made_table.ensures.makes contents held.told)))
+
+pub returns-in-None-clause-plans : goal.returns-in-None-clause-plans
+returns-in-None-clause-plans c store contents order held =
+    let none : c.made_table.result ≡ Ok None = search rules in
+    subst (λ (cs : List RowChange). PlansFrom contents (creation_of c.args.creation.now) store (Ok (map shown_change cs))) (sym c.new.ensures.items)
+    (create_nothing contents c.args.creation.now store (map shown_info c.args.tables.now) held (subst (PlansTable contents c.args.creation.now) none (c.made_table.ensures.makes contents held.told)))

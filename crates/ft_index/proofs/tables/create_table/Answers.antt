@@ -38,8 +38,8 @@ lacks g old tables creation answer is = does_failed g old old tables (creation_o
 pub returns-in_err-adding-clause-does : goal.returns-in_err-adding-clause-does
 returns-in_err-adding-clause-does g c = lacks g.S.Store c.args.store.now (map shown_info c.args.tables.now.items) c.args.creation.now _ (search rules)
 
-pub returns-in_err-push-clause-does : goal.returns-in_err-push-clause-does
-returns-in_err-push-clause-does g c = lacks g.S.Store c.args.store.now (map shown_info c.args.tables.now.items) c.args.creation.now _ (search rules)
+pub returns-in_err-changes-clause-does : goal.returns-in_err-changes-clause-does
+returns-in_err-changes-clause-does g c = lacks g.S.Store c.args.store.now (map shown_info c.args.tables.now.items) c.args.creation.now _ (search rules)
 
 pub returns-in_err-place-clause-does : goal.returns-in_err-place-clause-does
 returns-in_err-place-clause-does g c =

@@ -12,10 +12,10 @@ returns-in_err-from_str-clause-makes g c =
     let is : c.from_residual.result ≡ Err faults.Memory = search rules in
     unasked g.S.Store c.args.store.now (Note c.args.name.now ∷ []) c.from_residual.result faults.Memory is (inr refl)
 
-pub returns-in_err-push-clause-makes : goal.returns-in_err-push-clause-makes
-returns-in_err-push-clause-makes g c =
-    let is : c.from_residual-in_err-push.result ≡ Err faults.Memory = search rules in
-    unasked g.S.Store c.args.store.now (Note c.args.name.now ∷ []) c.from_residual-in_err-push.result faults.Memory is (inr refl)
+pub returns-in_err-changes-clause-makes : goal.returns-in_err-changes-clause-makes
+returns-in_err-changes-clause-makes g c =
+    let is : c.from_residual-in_err-changes.result ≡ Err faults.Memory = search rules in
+    unasked g.S.Store c.args.store.now (Note c.args.name.now ∷ []) c.from_residual-in_err-changes.result faults.Memory is (inr refl)
 
 pub returns-in_err-ping-clause-makes : goal.returns-in_err-ping-clause-makes
 returns-in_err-ping-clause-makes g c =

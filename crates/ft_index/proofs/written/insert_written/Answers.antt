@@ -2,16 +2,16 @@
 use Rattle.std.proofs.Common.{rules, ℕ, false, zip, ◌≡◌, inl, inr, List, [], Bor, String, Option, None, Some, map, option_map, string_bytes, Err, Ok, Result, Vec, Global, refl, sym, ap, subst, ◌∙◌, arith, to_z-of_z, to_z, of_z, w64, FitsSigned}
 use Rattle.ft_index.proofs.Common.{unwrap_or, HasCleanDisk, Ghosts, fault_of_read, AreInOrder, StoreState, shows, value_in, Fault, Value}
 use Rattle.ft_index.proofs.Common.{RustTableInfo, Content, repeats_name, inserted_rows, listed_columns, TableInfo, bare_content, cells_of, column_of}
-use Rattle.ft_index.proofs.Common.{insertion_of, names_in, shown_info, IsSoundNamed, IsUnfit, shown_rewrite, Written, HasAll, WritesDocuments}
+use Rattle.ft_index.proofs.Common.{insertion_of, names_in, shown_info, IsSoundNamed, IsUnfit, Written, HasAll, WritesDocuments}
 use Rattle.ft_index.proofs.Common.{PlansTo, WritesIn, Looks}
 use Rattle.ft_documents.specs.declared.rewrite.Rewrite.{Rewrite}
 use Rattle.ft_values.specs.declared.fault.Fault.TheVariants as faults
 use Rattle.ft_content.specs.Command as plain
 use Rattle.ft_content.specs.declared.command.Insertion.{Insertion}
 use Rattle.ft_content.specs.Views.{last_docid}
-use Rattle.ft_documents.specs.Inserted.{AreKnown, Inserts}
+use Rattle.ft_documents.specs.Inserted.{AreKnown, MakesDocuments}
 use Rattle.ft_documents.proofs.InsertDue.{insert_repeats}
-use Rattle.ft_documents.proofs.InsertRows.{known_from, new_are_inserts}
+use Rattle.ft_documents.proofs.InsertRows.{known_from}
 use Rattle.ft_documents.proofs.ReadRows.{last_read}
 use Rattle.ft_index.proofs.InsertWrites.{due, made, news, is_write, tested_writes, tests_are, rows_are, writes}
 use Rattle.ft_index.proofs.Doing.{rows_first, rows_then, outside_of, rows_in, err_of, over_sound}
@@ -113,7 +113,7 @@ known_in g c content has =
 
 -- what the rows make is what the command writes
 written_in : (g : _) (c : After-made_documents g) (content : Content) → HasAll g.S.Store c.in_ok-table.table.now.id (string_bytes c.in_ok-table.table.now.name) (map column_of c.in_ok-table.table.now.columns.items) c.args.store.now c.stored_docids.new.store content → (result : Result (Vec Rewrite Global) Fault) →
-    Inserts content.documents (inserted_rows (map column_of c.as_slice-columns.result.now) (map (zip (map (λ n. n.now) c.as_slice-names.result.now)) (map cells_of c.as_slice-rows.result.now)) content.documents) result →
+    MakesDocuments content.documents (inserted_rows (map column_of c.as_slice-columns.result.now) (map (zip (map (λ n. n.now) c.as_slice-names.result.now)) (map cells_of c.as_slice-rows.result.now)) content.documents) result →
     WritesDocuments content (due (option_map (λ n. map string_bytes n.now) c.as_deref-listed.result) (map cells_of c.as_slice-rows.result.now) content) (made (option_map (λ n. map string_bytes n.now) c.as_deref-listed.result) (map cells_of c.as_slice-rows.result.now) content) (news (option_map (λ n. map string_bytes n.now) c.as_deref-listed.result) (map cells_of c.as_slice-rows.result.now) content) result
 written_in g c content has result made_of =
     let columns = option_map (λ n. map string_bytes n.now) c.as_deref-listed.result in
@@ -125,21 +125,14 @@ written_in g c content has result made_of =
     let tested = tests_are columns rows content cols names None columns_are those (search rules) in
     writes columns rows (string_bytes c.in_ok-table.table.now.name) content result has.has.is_content tested (rows_are columns rows content cols names result columns_are those made_of)
 
-pub returns-in_err-new-clause-told : goal.returns-in_err-new-clause-told
-returns-in_err-new-clause-told g c = fails g.S.Store c.args.insertion.now c.as_deref-listed.result _ c.as_slice-rows.result.now c.in_ok-table.table.now (map shown_info c.args.tables.now) c.args.store.now c.stored_docids.new.store c.is_in_order.ensures.order c.as_deref-listed.ensures.value c.as_slice-rows.ensures.value refl (sym (c.repeats_name.ensures ∙ ap (λ (r : Bor (List (String Global))). repeats_name (map string_bytes r.now)) c.unwrap_or.ensures) ∙ c.if-repeats_name.false) _ c.as_str.ensures.value c.in_ok-table.ensures c.in_err-new.field-0.0 c.from_residual-in_err-new.result (search rules) (λ content has.
-    let at = (goal.at.returns-in_err-new-clause-told g c).After-made_documents in
-    let known = known_in g at content has in
-    written_in g at content has (Err c.in_err-new.field-0.0) (elim (c.in_err-new.ensures content.documents has.has.is_content.rising known.0 known.1) [ inl memory ↦ inl (inr memory) | inr failed ↦ inr failed ]))
-
 pub returns-in_err-rewrites-clause-told : goal.returns-in_err-rewrites-clause-told
-returns-in_err-rewrites-clause-told g c = fails g.S.Store c.args.insertion.now c.as_deref-listed.result _ c.as_slice-rows.result.now c.in_ok-table.table.now (map shown_info c.args.tables.now) c.args.store.now c.stored_docids.new.store c.is_in_order.ensures.order c.as_deref-listed.ensures.value c.as_slice-rows.ensures.value refl (sym (c.repeats_name.ensures ∙ ap (λ (r : Bor (List (String Global))). repeats_name (map string_bytes r.now)) c.unwrap_or.ensures) ∙ c.if-repeats_name.false) _ c.as_str.ensures.value c.in_ok-table.ensures faults.Memory c.from_residual-in_err-rewrites.result (search rules) (λ content has.
-    inl (inr refl))
+returns-in_err-rewrites-clause-told g c = fails g.S.Store c.args.insertion.now c.as_deref-listed.result _ c.as_slice-rows.result.now c.in_ok-table.table.now (map shown_info c.args.tables.now) c.args.store.now c.stored_docids.new.store c.is_in_order.ensures.order c.as_deref-listed.ensures.value c.as_slice-rows.ensures.value refl (sym (c.repeats_name.ensures ∙ ap (λ (r : Bor (List (String Global))). repeats_name (map string_bytes r.now)) c.unwrap_or.ensures) ∙ c.if-repeats_name.false) _ c.as_str.ensures.value c.in_ok-table.ensures c.in_err-rewrites.field-0.0 c.from_residual-in_err-rewrites.result (search rules) (λ content has.
+    let at = (goal.at.returns-in_err-rewrites-clause-told g c).After-made_documents in
+    let known = known_in g at content has in
+    written_in g at content has (Err c.in_err-rewrites.field-0.0) (c.in_err-rewrites.ensures content.documents has.has.is_content.rising known.0 known.1))
 
 pub returns-in_err-stored-clause-looks : goal.returns-in_err-stored-clause-looks
 returns-in_err-stored-clause-looks g c = record { only = search rules; live = search rules }
-
-pub returns-in_err-new-clause-looks : goal.returns-in_err-new-clause-looks
-returns-in_err-new-clause-looks g c = record { only = search rules; live = search rules }
 
 pub returns-in_err-rewrites-clause-looks : goal.returns-in_err-rewrites-clause-looks
 returns-in_err-rewrites-clause-looks g c = record { only = search rules; live = search rules }
@@ -161,22 +154,20 @@ returns-clause-told g c =
     (writes_do g.S.Store command name (λ table content. due columns rows content) (made columns rows) (news columns rows) (is_write columns rows name apart) c.args.store.now c.stored_docids.new.store tables written c.is_in_order.ensures.order named (λ content has.
     let at = (goal.at.returns-clause-told g c).After-made_documents in
     let known = known_in g at content has in
-    let new = c.in_ok-new.ensures content.documents has.has.is_content.rising known.0 known.1 in
-    let values = map (zip (map (λ n. n.now) c.as_slice-names.result.now)) rows in
-    written_in g at content has (Ok rewrites) (new_are_inserts content.documents c.in_ok-new.new (map shown_rewrite rewrites.items) (inserted_rows (map column_of c.as_slice-columns.result.now) values content.documents) c.in_ok-rewrites.ensures new.0 new.1)))
+    written_in g at content has (Ok rewrites) (c.in_ok-rewrites.ensures content.documents has.has.is_content.rising known.0 known.1)))
 
 pub returns-clause-looks : goal.returns-clause-looks
 returns-clause-looks g c = record { only = search rules; live = search rules }
 
-pub returns-in_err-new-clause-refused : goal.returns-in_err-new-clause-refused
-returns-in_err-new-clause-refused g c = λ contents held clean told.
+pub returns-in_err-rewrites-clause-refused : goal.returns-in_err-rewrites-clause-refused
+returns-in_err-rewrites-clause-refused g c = λ contents held clean told.
     let info : RustTableInfo = c.in_ok-table.table.now in
     let over = over_sound (value_in g.S.Store c.args.store.now) (map shown_info c.args.tables.now) contents c.as_str.result.now (shown_info info) c.is_in_order.ensures.order held c.in_ok-table.ensures in
     let middle : HasCleanDisk (shows g.S.Store c.last_docid.new.self) = omega (arith, c.in_ok-stored.ensures.looks.only.survives.clean, clean) in
     let has : HasAll g.S.Store info.id (string_bytes info.name) (map column_of info.columns.items) c.args.store.now c.stored_docids.new.store over.content = record { clean = clean; is_open = c.in_ok-stored.ensures.looks.live clean (c.in_ok-last.ensures.read.live middle); has = over.has; columns_are = over.columns_are } in
-    let known = known_in g (goal.at.returns-in_err-new-clause-refused g c).After-made_documents over.content has in
-    let store = err_of c.from_residual-in_err-new.result c.in_err-new.field-0.0 (search rules) told in
-    elim (c.in_err-new.ensures over.content.documents over.has.is_content.rising known.0 known.1) [
+    let known = known_in g (goal.at.returns-in_err-rewrites-clause-refused g c).After-made_documents over.content has in
+    let store = err_of c.from_residual-in_err-rewrites.result c.in_err-rewrites.field-0.0 (search rules) told in
+    elim (c.in_err-rewrites.ensures over.content.documents over.has.is_content.rising known.0 known.1) [
       | inl memory ↦ absurd (let no = sym memory ∙ store in cc)
       | inr failed ↦ absurd (rows_other _ _ _ (failed ∙ ap Err store))
     ]
