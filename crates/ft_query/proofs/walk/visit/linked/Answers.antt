@@ -299,4 +299,5 @@ loop-link-preserved c =
     turned c.in-Some.before.now link own c.split_at-in-Some.result.0.now (turn here) (fills here) c.in_ok-starts.starts c.in_ok-kept.kept
     c.push.new.self.items c.starts_of-in-Some.new.steps c.near_those.new.steps
     (c.in_ok-starts.ensures.starts ∙ ap (λ p. starts_of (plain_phrase p) (plain_lists own)) c.last_phrase-phrase.ensures)
-    (simp (← size, ← of_link) c.in_ok-kept.ensures.starts) c.in_ok-push.ensures.items c.in_ok-starts.ensures.steps c.in_ok-kept.ensures.steps
+    (simp (← size, ← of_link) (rw (c.deref.ensures.value, c.deref-in-Some.ensures.value) at c.in_ok-kept.ensures.starts)) c.in_ok-push.ensures.items c.in_ok-starts.ensures.steps
+    (rw (c.deref.ensures.value, c.deref-in-Some.ensures.value) at c.in_ok-kept.ensures.steps)

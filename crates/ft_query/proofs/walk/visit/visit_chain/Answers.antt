@@ -23,7 +23,7 @@ mark_links-requires-clause-all c =
     let links = c.args.near.now.links.items in
     let lists = plain_lists c.args.lists.now in
     let later = drop 1 (linked (plain_phrase c.args.near.now.first) (map plain_link links) lists) in
-    ap length (c.deref-in-Offsets.ensures.value ∙ c.reverse.ensures.items)
+    ap length (c.deref-in-Offsets-3.ensures.value ∙ c.reverse.ensures.items)
     ∙ starts_many _ later (starts_forward c.in_ok-starts.all.items later c.in_ok-starts.ensures.starts.rest)
     ∙ linked_length (plain_phrase c.args.near.now.first) (map plain_link links) lists
     ∙ length-map links plain_link
@@ -34,8 +34,8 @@ returns-clause-evaluates c =
     let lists = plain_lists c.args.lists.now in
     let old = c.args.found.now.offsets.items in
     let n = c.args.found.now.next in
-    let p = parted c.args.near.now c.args.lists.now c.in_ok-starts.starts c.in_ok-starts.all.items c.deref-in-Offsets.result.now c.len-size.result
-    (search rules) c.split_at.ensures.front c.split_at.ensures.back (c.deref-in-Offsets.ensures.value ∙ c.reverse.ensures.items) c.in_ok-starts.ensures.starts in
+    let p = parted c.args.near.now c.args.lists.now c.in_ok-starts.starts c.in_ok-starts.all.items c.deref-in-Offsets-3.result.now c.len-size.result
+    (search rules) c.split_at.ensures.front c.split_at.ensures.back (c.deref-in-Offsets-3.ensures.value ∙ c.reverse.ensures.items) c.in_ok-starts.ensures.starts in
     let told = ap (λ wanted. length (if_wanted wanted (marks_of tree lists))) c.in-Offsets.is in
     let count = chain_marks_count (plain_phrase c.args.near.now.first) (map plain_link c.args.near.now.links.items) c.args.lists.now
     c.requires.each in
@@ -45,7 +45,7 @@ returns-clause-evaluates c =
       accepted = grind (arith, common_steps);
       wanted = search rules;
       offsets =
-          simp (links.offsets, phrase.offsets, phrase.next, c.in-Offsets.is)
+          simp (links.offsets, phrase.offsets, phrase.next, c.in-Offsets.is, c.deref-in-Offsets.ensures.value, c.deref-in-Offsets-2.ensures.value)
           (numbered_marks old n c.split_at.result.0.now _ _ ∙ ap (λ ms. old ++ numbered_offsets n ms) (chain_marks p));
       next = omega (arith, told, count, links.next, phrase.next, c.split_at.ensures.front_len, c.split_at.ensures.back_len);
       room = grind (arith, common_steps);
@@ -54,15 +54,15 @@ returns-clause-evaluates c =
 pub returns-in_err-mark_links-in-Offsets-clause-steps : goal.returns-in_err-mark_links-in-Offsets-clause-steps
 returns-in_err-mark_links-in-Offsets-clause-steps c =
     let size : c.len-size.result ≡ length c.args.near.now.first.terms.items = search rules in
-    bounded (parted c.args.near.now c.args.lists.now c.in_ok-starts.starts c.in_ok-starts.all.items c.deref-in-Offsets.result.now c.len-size.result
-    size c.split_at.ensures.front c.split_at.ensures.back (c.deref-in-Offsets.ensures.value ∙ c.reverse.ensures.items) c.in_ok-starts.ensures.starts)
-    (c.split_at.ensures.front_len ∙ size) c.in_ok-starts.ensures.steps c.in_ok-mark_phrase-in-Offsets.ensures.steps
-    c.in_err-mark_links-in-Offsets.ensures.steps
+    bounded (parted c.args.near.now c.args.lists.now c.in_ok-starts.starts c.in_ok-starts.all.items c.deref-in-Offsets-3.result.now c.len-size.result
+    size c.split_at.ensures.front c.split_at.ensures.back (c.deref-in-Offsets-3.ensures.value ∙ c.reverse.ensures.items) c.in_ok-starts.ensures.starts)
+    (c.split_at.ensures.front_len ∙ size) c.in_ok-starts.ensures.steps (rw c.deref-in-Offsets.ensures.value at c.in_ok-mark_phrase-in-Offsets.ensures.steps)
+    (rw c.deref-in-Offsets-2.ensures.value at c.in_err-mark_links-in-Offsets.ensures.steps)
 
 pub returns-clause-steps : goal.returns-clause-steps
 returns-clause-steps c =
     let size : c.len-size.result ≡ length c.args.near.now.first.terms.items = search rules in
-    bounded (parted c.args.near.now c.args.lists.now c.in_ok-starts.starts c.in_ok-starts.all.items c.deref-in-Offsets.result.now c.len-size.result
-    size c.split_at.ensures.front c.split_at.ensures.back (c.deref-in-Offsets.ensures.value ∙ c.reverse.ensures.items) c.in_ok-starts.ensures.starts)
-    (c.split_at.ensures.front_len ∙ size) c.in_ok-starts.ensures.steps c.in_ok-mark_phrase-in-Offsets.ensures.steps
-    c.in_ok-mark_links-in-Offsets.ensures.steps
+    bounded (parted c.args.near.now c.args.lists.now c.in_ok-starts.starts c.in_ok-starts.all.items c.deref-in-Offsets-3.result.now c.len-size.result
+    size c.split_at.ensures.front c.split_at.ensures.back (c.deref-in-Offsets-3.ensures.value ∙ c.reverse.ensures.items) c.in_ok-starts.ensures.starts)
+    (c.split_at.ensures.front_len ∙ size) c.in_ok-starts.ensures.steps (rw c.deref-in-Offsets.ensures.value at c.in_ok-mark_phrase-in-Offsets.ensures.steps)
+    (rw c.deref-in-Offsets-2.ensures.value at c.in_ok-mark_links-in-Offsets.ensures.steps)
