@@ -48,8 +48,7 @@ second_by : (most k m : ℕ) (a c b : Place) → a.column ≡ b.column → c.col
     → are_near most k a m b ≡ false → are_near most k c m b ≡ false → (barred : Bool) → (c.pos + k == b.pos + m) ≡ barred → b.pos + m + most < c.pos
 second_by most k m a c b here there within later far far_too false is = far_beyond most k m c b far_too there (omega arith) is
 second_by most k m a c b here there within later far far_too true is =
-    let first = far_beyond most k m a b far here within (bar_moves a.pos c.pos k (b.pos + m) later is) in
-    omega arith
+    omega (arith, far_beyond most k m a b far here within (bar_moves a.pos c.pos k (b.pos + m) later is))
 
 -- of two neighbours that aren't near, the second begins too far after
 second_beyond : (most k m : ℕ) (a c b : Place) → Within most k a b → are_near most k a m b ≡ false → Before a c → are_near most k c m b ≡ false
@@ -80,10 +79,9 @@ two_decide most k m b a (c ∷ more) within first rising = by (are_near most k a
     by true e q f = ap (λ x. x || are_near most k c m b) e ∙ sym (ap (λ x. x || (are_near most k c m b || list_any (λ u. are_near most k u m b) more)) e)
     by false e true f = ap (λ y. are_near most k a m b || y) f ∙ sym (ap (λ y. are_near most k a m b || (y || list_any (λ u. are_near most k u m b) more)) f)
     by false e false f =
-        let far = second_beyond most k m a c b within e first.0 f in
         ap (λ y. are_near most k a m b || y) f
         ∙ sym (ap (λ y. are_near most k a m b || (y || list_any (λ u. are_near most k u m b) more)) f ∙ ap (λ y. are_near most k a m b || y)
-        (none_near most k m b more (all_beyond most m b c more far rising.0)))
+        (none_near most k m b more (all_beyond most m b c more (second_beyond most k m a c b within e first.0 f) rising.0)))
 
 -- what a pass up to a place leaves
 record Kept (most k m : ℕ) (near : List Place) (b : Place) (left : List Place) : Type 0 where
@@ -250,9 +248,8 @@ reach_of_choice : (postings : List Posting) (p : PlainPhrase) (links : List Plai
 reach_of_choice postings p [] at rest is = is.0
 reach_of_choice postings p (link ∷ links) at [] is = absurd is.2
 reach_of_choice postings p (link ∷ links) at (b ∷ rest) is =
-    let there = reach_of_choice postings link.to links b rest is.2 in
     filter_to (λ u. list_any (near_from p link u) (reach postings link.to links)) (occurrences postings p) at is.0
-    (any_to (near_from p link at) (reach postings link.to links) b there is.1)
+    (any_to (near_from p link at) (reach postings link.to links) b (reach_of_choice postings link.to links b rest is.2) is.1)
 
 choice_of_reach : (postings : List Posting) (p : PlainPhrase) (links : List PlainLink) (at : Place) → Contains (reach postings p links) at
     → (rest : List Place) × IsChoice postings p links (at ∷ rest)
@@ -338,17 +335,15 @@ link_marks_are postings p [] starts cs ordered rising within counted = refl
 link_marks_are postings p (link ∷ links) starts cs ordered rising within counted =
     let L = listed_places postings in
     let more = link_terms links in
-    let lists = map L (link.to.terms ++ more) in
     let k = length p.terms in
     let n = length link.to.terms in
-    let all = linked link.to links lists in
     let next = onward postings p link links starts in
     let goes_on = λ (b : Place). list_any (λ a. near_from p link a b) starts in
     let next_rising = rising_filter goes_on (reach postings link.to links) (reach_rising postings link.to links ordered) in
     let next_takes = all_filter (Takes postings 0 link.to.terms) goes_on (reach postings link.to links) (reach_takes postings link.to links) in
     let next_within = λ (b : Place) (c : Contains next b). (filter_from goes_on (reach postings link.to links) b c).0 in
     let next_counted = counted_next postings p link links starts cs counted within in
-    let is_next : near_those link.most k starts n (head_of all) ≡ next =
+    let is_next : near_those link.most k starts n (head_of (linked link.to links (map L (link.to.terms ++ more)))) ≡ next =
     ap (near_those link.most k starts n) (linked_are postings link.to links ordered)
     ∙ near_is link.most k starts n (reach postings link.to links) rising (reach_rising postings link.to links ordered) in
     simp (

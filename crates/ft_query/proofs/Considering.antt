@@ -140,10 +140,7 @@ went_on wanted q cursors passed_by s a b t docid offsets documents stands least 
     sum_mapped : {X : Type 0} (f : X → List Place) (xs : List X) → sum_by length (map f xs) ≡ sum_by (λ x. length (f x)) xs
     sum_mapped f [] = refl
     sum_mapped f (x ∷ xs) =
-        let more = sum_mapped f xs in
-        let l = sum_by-cons length (f x) (map f xs) in
-        let r = sum_by-cons (λ y. length (f y)) x xs in
-        omega arith
+        omega (arith, sum_mapped f xs, sum_by-cons length (f x) (map f xs), sum_by-cons (λ y. length (f y)) x xs)
 
 -- ---- what a pass leaves
 
@@ -154,11 +151,7 @@ fewer docid (x ∷ l) = elim (int_eq x.docid docid) as (λ v. length (cond v l (
 none_more : (docid : ℤ) (ls : List (List PlaceList)) → sum_by length (map (passed docid) ls) ≤ sum_by length ls
 none_more docid [] = omega arith
 none_more docid (l ∷ ls) =
-    let here = fewer docid l in
-    let rest = none_more docid ls in
-    let a = sum_by-cons length (passed docid l) (map (passed docid) ls) in
-    let b = sum_by-cons length l ls in
-    omega arith
+    omega (arith, fewer docid l, none_more docid ls, sum_by-cons length (passed docid l) (map (passed docid) ls), sum_by-cons length l ls)
 
 -- the least is the docid so far, or one list gets shorter
 less_left : (docid : ℤ) (so_far : Option ℤ) (ls : List (List PlaceList)) → least_from so_far ls ≡ Some docid
@@ -178,10 +171,7 @@ less_left docid so_far (l ∷ ls) least = ⊎_elim
     same_docid x xs same =
         let is : int_eq x.docid docid ≡ true = (Decides-int_eq x.docid docid).1 (cc same) in
         let passes : length (passed docid (x ∷ xs)) ≡ length xs = ap (λ v. length (cond v xs (x ∷ xs))) is in
-        let rest = none_more docid ls in
-        let a = sum_by-cons length (passed docid (x ∷ xs)) (map (passed docid) ls) in
-        let b = sum_by-cons length (x ∷ xs) ls in
-        omega arith
+        omega (arith, none_more docid ls, sum_by-cons length (passed docid (x ∷ xs)) (map (passed docid) ls), sum_by-cons length (x ∷ xs) ls)
 
     first : (l : List PlaceList) → least_of so_far l ≡ Some docid
         → (so_far ≡ Some docid) ⊎ (sum_by length (map (passed docid) (l ∷ ls)) < sum_by length (l ∷ ls))
@@ -220,6 +210,6 @@ went_then q a b c s t u hits documents first then_on = record {
   rest = then_on.rest;
   stands = then_on.stands;
   hits_are = first.hits_are ∙ then_on.hits_are;
-  at_most = let x = first.at_most in let y = then_on.at_most in omega arith;
-  at_least = let x = first.at_least in let y = then_on.at_least in omega arith;
+  at_most = omega (arith, first.at_most, then_on.at_most);
+  at_least = omega (arith, first.at_least, then_on.at_least);
 }

@@ -6,7 +6,7 @@ use Rattle.ft_query.proofs.Passes.{among_short, followed_few, near_short, filter
 total_split : (n : ℕ) (ls : List (List Place)) → total (take n ls) + total (drop n ls) ≡ total ls
 total_split zero ls = omega arith
 total_split (suc n) [] = refl
-total_split (suc n) (l ∷ ls) = let rest = total_split n ls in omega (arith, rest)
+total_split (suc n) (l ∷ ls) = omega (arith, total_split n ls)
 
 -- ---- phrases
 
@@ -18,9 +18,7 @@ followed_le : (i : ℕ) (ts : List PlainTerm) (ls : List (List Place)) (starts :
 followed_le i [] ls starts = omega arith
 followed_le i (t ∷ ts) [] starts = omega arith
 followed_le i (t ∷ ts) (l ∷ ls) starts =
-    let rest = followed_le (i + 1) ts ls (cond t.first [] (among i 0 starts l)) in
-    let one = one_le t.first i starts l in
-    omega (arith, rest, one)
+    omega (arith, followed_le (i + 1) ts ls (cond t.first [] (among i 0 starts l)), one_le t.first i starts l)
 
 followed_times : (i : ℕ) (ts : List PlainTerm) (ls : List (List Place)) (starts : List Place) → length ts ≡ length ls
     → length ts * length (followed i ts ls starts) ≤ total ls
@@ -28,27 +26,20 @@ followed_times i [] ls starts same = omega arith
 followed_times i (t ∷ ts) [] starts same = absurd (omega arith)
 followed_times i (t ∷ ts) (l ∷ ls) starts same =
     let next = cond t.first [] (among i 0 starts l) in
-    let rest = followed_times (i + 1) ts ls next (omega arith) in
-    let short = followed_le (i + 1) ts ls next in
-    let few = followed_few t.first i starts l in
-    omega (arith, rest, short, few)
+    omega (arith, followed_times (i + 1) ts ls next (omega arith), followed_le (i + 1) ts ls next, followed_few t.first i starts l)
 
 from_le : (only : Option ℕ) (ts : List PlainTerm) (ls : List (List Place)) → length (starts_from only ts ls) ≤ total ls
 from_le only [] ls = omega arith
 from_le only (t ∷ ts) [] = omega arith
 from_le only (t ∷ ts) (l ∷ ls) =
-    let rest = followed_le 1 ts ls (filter (may_begin only t.first) l) in
-    let one = filter_short (may_begin only t.first) l in
-    omega (arith, rest, one)
+    omega (arith, followed_le 1 ts ls (filter (may_begin only t.first) l), filter_short (may_begin only t.first) l)
 
 from_times : (only : Option ℕ) (ts : List PlainTerm) (ls : List (List Place)) → length ts ≡ length ls → length ts * length (starts_from only ts ls) ≤ total ls
 from_times only [] ls same = omega arith
 from_times only (t ∷ ts) [] same = omega arith
 from_times only (t ∷ ts) (l ∷ ls) same =
-    let rest = followed_le 1 ts ls (filter (may_begin only t.first) l) in
-    let times = followed_times 1 ts ls (filter (may_begin only t.first) l) (omega arith) in
     let one = filter_short (may_begin only t.first) l in
-    omega (arith, rest, times, one)
+    omega (arith, followed_le 1 ts ls (filter (may_begin only t.first) l), followed_times 1 ts ls (filter (may_begin only t.first) l) (omega arith), one)
 
 -- ---- chains
 
@@ -58,13 +49,12 @@ link_terms links = flat_map (λ link. link.to.terms) links
 linked_le : (p : PlainPhrase) (links : List PlainLink) (ls : List (List Place)) → length ls ≡ length (p.terms ++ link_terms links)
     → length (head_of (linked p links ls)) ≤ total (take (length p.terms) ls)
 linked_le p [] ls same =
-    let all = take_all (length p.terms) ls (let sum = length-append p.terms [] in omega (arith, sum, same)) in
+    let all = take_all (length p.terms) ls (omega (arith, length-append p.terms [], same)) in
     subst (λ l. length (starts_of p ls) ≤ total l) (sym all) (from_le p.filter p.terms ls)
 linked_le p (link ∷ links) ls same =
     let n = length p.terms in
-    let short = near_short link.most (length link.to.terms) (head_of (linked link.to links (drop n ls))) n (starts_of p (take n ls)) in
     let one = from_le p.filter p.terms (take n ls) in
-    omega (arith, short, one)
+    omega (arith, near_short link.most (length link.to.terms) (head_of (linked link.to links (drop n ls))) n (starts_of p (take n ls)), one)
 
 linked_times : (p : PlainPhrase) (links : List PlainLink) (ls : List (List Place)) → length ls ≡ length (p.terms ++ link_terms links)
     → length p.terms * length (head_of (linked p links ls)) ≤ total (take (length p.terms) ls)
@@ -74,23 +64,17 @@ linked_times p [] ls same =
     subst (λ l. length p.terms * length (starts_of p ls) ≤ total l) (sym all) (from_times p.filter p.terms ls (omega (arith, sum, same)))
 linked_times p (link ∷ links) ls same =
     let n = length p.terms in
-    let sum = length-append p.terms (link_terms (link ∷ links)) in
-    let front = length-take-le n ls (omega (arith, sum, same)) in
-    let short = near_short link.most (length link.to.terms) (head_of (linked link.to links (drop n ls))) n (starts_of p (take n ls)) in
-    let one = from_times p.filter p.terms (take n ls) (sym front) in
-    let more = mul-le-mul_left n short in
-    omega (arith, more, one)
+    let front = length-take-le n ls (omega (arith, length-append p.terms (link_terms (link ∷ links)), same)) in
+    let more = mul-le-mul_left n (near_short link.most (length link.to.terms) (head_of (linked link.to links (drop n ls))) n (starts_of p (take n ls))) in
+    omega (arith, more, from_times p.filter p.terms (take n ls) (sym front))
 
 linked_bound : (p : PlainPhrase) (links : List PlainLink) (ls : List (List Place))
     → linked_cost p links ls + length (head_of (linked p links ls)) ≤ 6 * total ls
-linked_bound p [] ls = let one = from_le p.filter p.terms ls in omega (arith, one)
+linked_bound p [] ls = omega (arith, from_le p.filter p.terms ls)
 linked_bound p (link ∷ links) ls =
     let n = length p.terms in
-    let parts = total_split n ls in
-    let rest = linked_bound link.to links (drop n ls) in
-    let one = from_le p.filter p.terms (take n ls) in
     let short = near_short link.most (length link.to.terms) (head_of (linked link.to links (drop n ls))) n (starts_of p (take n ls)) in
-    omega (arith, parts, rest, one, short)
+    omega (arith, total_split n ls, linked_bound link.to links (drop n ls), from_le p.filter p.terms (take n ls), short)
 
 links_bound : (p : PlainPhrase) (links : List PlainLink) (ls : List (List Place)) (starts : List Place) → length ls ≡ length (p.terms ++ link_terms links)
     → link_cost (length p.terms) starts links (drop (length p.terms) ls) (drop 1 (linked p links ls)) ≤ length starts + 6 * total (drop (length p.terms) ls)
@@ -99,17 +83,14 @@ links_bound p (link ∷ links) ls starts same =
     let behind = drop (length p.terms) ls in
     let n = length link.to.terms in
     let all = linked link.to links behind in
-    let next = near_those link.most (length p.terms) starts n (head_of all) in
-    let sum = length-append p.terms (link_terms (link ∷ links)) in
     let left = length-drop (length p.terms) ls in
-    let many : length behind ≡ length (link.to.terms ++ link_terms links) = omega (arith, sum, left, same) in
-    let rest = links_bound link.to links behind next many in
+    let many : length behind ≡ length (link.to.terms ++ link_terms links) = omega (arith, length-append p.terms (link_terms (link ∷ links)), left, same) in
     let parts = total_split n behind in
     let short = near_short link.most (length p.terms) starts n (head_of all) in
     let few = linked_le link.to links behind many in
     let times = linked_times link.to links behind many in
     let more = mul-le-mul_left n short in
-    omega (arith, rest, parts, short, few, times, more)
+    omega (arith, links_bound link.to links behind (near_those link.most (length p.terms) starts n (head_of all)) many, parts, short, few, times, more)
 
 -- ---- queries
 
@@ -119,20 +100,13 @@ some_width p = omega arith
 links_few : (links : List PlainLink) → length links ≤ sum_by (λ link. max 1 (length link.to.terms)) links
 links_few [] = omega arith
 links_few (link ∷ links) =
-    let rest = links_few links in
-    let all = sum_by-cons (λ (l : PlainLink). max 1 (length l.to.terms)) link links in
-    omega (arith, rest, all)
+    omega (arith, links_few links, sum_by-cons (λ (l : PlainLink). max 1 (length l.to.terms)) link links)
 
 chain_bound : (p : PlainPhrase) (links : List PlainLink) (ls : List (List Place)) → length ls ≡ length (p.terms ++ link_terms links)
     → visit_cost (chain p links) ls ≤ 1 + length links + 12 * total ls
 chain_bound p links ls same =
-    let n = length p.terms in
-    let back = linked_bound p links ls in
-    let parts = total_split n ls in
-    let few = linked_le p links ls same in
-    let times = linked_times p links ls same in
     let rest = links_bound p links ls (head_of (linked p links ls)) same in
-    omega (arith, back, parts, few, times, rest)
+    omega (arith, linked_bound p links ls, total_split (length p.terms) ls, linked_le p links ls same, linked_times p links ls same, rest)
 
 two_bound : (p q : Tree) (ls : List (List Place)) → length ls ≡ length (terms_in p ++ terms_in q)
     → ((l : List (List Place)) → length l ≡ length (terms_in p) → visit_cost p l + 1 ≤ 12 * total l + 2 * width p)
@@ -141,24 +115,14 @@ two_bound : (p q : Tree) (ls : List (List Place)) → length ls ≡ length (term
 two_bound p q ls same left right =
     let n = length (terms_in p) in
     let sum = length-append (terms_in p) (terms_in q) in
-    let front = length-take-le n ls (omega (arith, sum, same)) in
-    let back = length-drop n ls in
-    let one = left (take n ls) front in
-    let other = right (drop n ls) (omega (arith, sum, back, same)) in
     let parts = total_split n ls in
-    omega (arith, one, other, parts)
+    omega (arith, left (take n ls) (length-take-le n ls (omega (arith, sum, same))), right (drop n ls) (omega (arith, sum, length-drop n ls, same)), parts)
 
 visit_bound : (tree : Tree) (ls : List (List Place)) → length ls ≡ length (terms_in tree) → visit_cost tree ls + 1 ≤ 12 * total ls + 2 * width tree
 visit_bound (phrase p) ls same =
-    let times = from_times p.filter p.terms ls (sym same) in
-    let many = ap (λ n. n * length (starts_of p ls)) same in
-    let some = some_width p in
-    omega (arith, times, many, some)
+    omega (arith, from_times p.filter p.terms ls (sym same), ap (λ n. n * length (starts_of p ls)) same, some_width p)
 visit_bound (chain p links) ls same =
-    let cost = chain_bound p links ls same in
-    let some = some_width p in
-    let few = links_few links in
-    omega (arith, cost, some, few)
+    omega (arith, chain_bound p links ls same, some_width p, links_few links)
 visit_bound (both p q) ls same = two_bound p q ls same (visit_bound p) (visit_bound q)
 visit_bound (either p q) ls same = two_bound p q ls same (visit_bound p) (visit_bound q)
 visit_bound (without p q) ls same = two_bound p q ls same (visit_bound p) (visit_bound q)
@@ -166,20 +130,17 @@ visit_bound (without p q) ls same = two_bound p q ls same (visit_bound p) (visit
 links_width : (links : List PlainLink) → length (link_terms links) ≤ sum_by (λ link. max 1 (length link.to.terms)) links
 links_width [] = omega arith
 links_width (link ∷ links) =
-    let rest = links_width links in
-    let sum = length-append link.to.terms (link_terms links) in
-    let all = sum_by-cons (λ (l : PlainLink). max 1 (length l.to.terms)) link links in
-    omega (arith, rest, sum, all)
+    omega (arith, links_width links, length-append link.to.terms (link_terms links), sum_by-cons (λ (l : PlainLink). max 1 (length l.to.terms)) link links)
 
 pub terms_width : (tree : Tree) → length (terms_in tree) ≤ width tree
 terms_width (phrase p) = omega arith
-terms_width (chain p links) = let sum = length-append p.terms (link_terms links) in let rest = links_width links in omega (arith, sum, rest)
+terms_width (chain p links) = omega (arith, length-append p.terms (link_terms links), links_width links)
 terms_width (both p q) =
-    let sum = length-append (terms_in p) (terms_in q) in let one = terms_width p in let other = terms_width q in omega (arith, sum, one, other)
+    omega (arith, length-append (terms_in p) (terms_in q), terms_width p, terms_width q)
 terms_width (either p q) =
-    let sum = length-append (terms_in p) (terms_in q) in let one = terms_width p in let other = terms_width q in omega (arith, sum, one, other)
+    omega (arith, length-append (terms_in p) (terms_in q), terms_width p, terms_width q)
 terms_width (without p q) =
-    let sum = length-append (terms_in p) (terms_in q) in let one = terms_width p in let other = terms_width q in omega (arith, sum, one, other)
+    omega (arith, length-append (terms_in p) (terms_in q), terms_width p, terms_width q)
 
 total_is : (docid : ℤ) (cursors : List Cursor) → total (places_in docid cursors) ≡ sum_by (λ c. length (places_at docid (lists_left c))) cursors
 total_is docid [] = refl
@@ -193,10 +154,7 @@ pub document_bound : (tree : Tree) (docid : ℤ) (cursors : List Cursor) (lists 
     → length cursors + visit_cost tree lists ≤ 12 * sum_by (λ c. length (places_at docid (lists_left c))) cursors + 3 * width tree
 document_bound tree docid cursors lists same is =
     let many : length lists ≡ length (terms_in tree) = ap length is ∙ length-map cursors (λ c. places_at docid (lists_left c)) ∙ same in
-    let cost = visit_bound tree lists many in
-    let all = ap total is ∙ total_is docid cursors in
-    let terms = terms_width tree in
-    omega (arith, cost, all, terms, same)
+    omega (arith, visit_bound tree lists many, ap total is ∙ total_is docid cursors, terms_width tree, same)
 
 -- where the lists are just those of the query's terms, they are all its own
 pub own_are : (tree : Tree) (docid : ℤ) (cursors : List Cursor) (lists : List LentPlaces) → length cursors ≡ length (terms_in tree)

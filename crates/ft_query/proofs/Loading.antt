@@ -46,7 +46,7 @@ cursors_on documents terms cursors i c d at many within one =
     ∙ ap (λ n. map list (take n terms)) (sym (length-append cursors (c ∷ []) ∙ ap (λ n. n + 1) many))
 
 pub places_on : (cursors : List Cursor) (c : Cursor) → places_left (cursors ++ c ∷ []) ≡ places_left cursors + place_count (lists_kept c)
-places_on cursors c = let sum = sum_by-append (λ (u : Cursor). place_count (lists_kept u)) cursors (c ∷ []) in omega (arith, sum)
+places_on cursors c = omega (arith, sum_by-append (λ (u : Cursor). place_count (lists_kept u)) cursors (c ∷ []))
 
 -- those of all terms
 pub cursors_all : (documents : List Document) (terms : List (Bor QueryTerm)) (cursors : List Cursor) → AreCursorsOf documents terms cursors

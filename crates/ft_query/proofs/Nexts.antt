@@ -90,7 +90,7 @@ module _ (d : Document) (ds : List Document) (later : AllByRecursion (λ e. d.do
       by : (v : Bool) → has_places here ≡ v
           → place_count (cond v (here ∷ listed_for ds t) (listed_for ds t)) ≡ length (listed_places d.postings t) + place_count (listed_for ds t)
       by true is = sum_by-cons (λ (l : PlaceList). length l.places) here (listed_for ds t)
-      by false is = let none = ap length (empty_one (listed_places d.postings t) is) in omega arith
+      by false is = omega (arith, ap length (empty_one (listed_places d.postings t) is))
 
 -- ---- the lists of all terms
 
@@ -107,12 +107,9 @@ module _ (d : Document) (ds : List Document) (later : AllByRecursion (λ e. d.do
       → sum_by place_count (map (listed_for (d ∷ ds)) ts) ≡ sum_by length (map (listed_places d.postings) ts) + sum_by place_count (map (listed_for ds) ts)
   all_counted [] = refl
   all_counted (t ∷ ts) =
-      let more = all_counted ts in
-      let one = one_count d ds later t in
-      let left = sum_by-cons place_count (listed_for (d ∷ ds) t) (map (listed_for (d ∷ ds)) ts) in
       let here = sum_by-cons length (listed_places d.postings t) (map (listed_places d.postings) ts) in
       let right = sum_by-cons place_count (listed_for ds t) (map (listed_for ds) ts) in
-      omega arith
+      omega (arith, all_counted ts, one_count d ds later t, sum_by-cons place_count (listed_for (d ∷ ds) t) (map (listed_for (d ∷ ds)) ts))
 
   -- the least docid so far is after the document, or there is none
   abbrev IsBehind : Option ℤ → Type 0
@@ -219,9 +216,8 @@ next_of tree (d ∷ ds) are = by (list_any (has_term d.postings) (terms_in tree)
         First d ds are (least_is d ds later None (terms_in tree) tt is) refl refl (counted tree d ds ∙ ap (λ v. cond v 1 0 + candidate_count tree ds) is)
     by false is (Nothing least same hits count) =
         let lists = unlisted d ds (terms_in tree) is in
-        let here = without_it tree d ds (accepts_none d.postings tree is) in
         let more = counted tree d ds ∙ ap (λ v. cond v 1 0 + candidate_count tree ds) is in
-        Nothing (ap (least_from None) lists ∙ least) (lists ∙ same) (here ∙ hits) (omega arith)
+        Nothing (ap (least_from None) lists ∙ least) (lists ∙ same) ((without_it tree d ds (accepts_none d.postings tree is)) ∙ hits) (omega arith)
     by false is (First e es are_next least same hits count) =
         let lists = unlisted d ds (terms_in tree) is in
         let here = without_it tree d ds (accepts_none d.postings tree is) in

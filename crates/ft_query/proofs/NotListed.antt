@@ -41,8 +41,7 @@ accepts_none postings (chain p links) none =
     let first = (or_parts (list_any (has_term postings) p.terms) _ (sym (list_any-append (has_term postings) p.terms _) ∙ none)).0 in
     ap is_filled (no_choice postings p links (no_occurrence postings p first))
 accepts_none postings (both p q) none =
-    let sides = sym (list_any-append (has_term postings) (terms_in p) (terms_in q)) ∙ none in
-    let left = (or_parts (list_any (has_term postings) (terms_in p)) _ sides).0 in
+    let left = (or_parts (list_any (has_term postings) (terms_in p)) _ (sym (list_any-append (has_term postings) (terms_in p) (terms_in q)) ∙ none)).0 in
     ap (λ b. b && accepts postings q) (accepts_none postings p left)
 accepts_none postings (either p q) none =
     let sides = sym (list_any-append (has_term postings) (terms_in p) (terms_in q)) ∙ none in
@@ -50,6 +49,5 @@ accepts_none postings (either p q) none =
     let right = (or_parts (list_any (has_term postings) (terms_in p)) (list_any (has_term postings) (terms_in q)) sides).1 in
     ap (λ b. b || accepts postings q) (accepts_none postings p left) ∙ accepts_none postings q right
 accepts_none postings (without p q) none =
-    let sides = sym (list_any-append (has_term postings) (terms_in p) (terms_in q)) ∙ none in
-    let left = (or_parts (list_any (has_term postings) (terms_in p)) _ sides).0 in
+    let left = (or_parts (list_any (has_term postings) (terms_in p)) _ (sym (list_any-append (has_term postings) (terms_in p) (terms_in q)) ∙ none)).0 in
     ap (λ b. b && not (accepts postings q)) (accepts_none postings p left)

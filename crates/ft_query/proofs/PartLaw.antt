@@ -110,7 +110,7 @@ are_read (next_part {part} {bytes} {behind} {parts} is later) = part_read is ∙
 -- ---- up to the first byte of a kind
 
 before_fails : (p : ℕ → Bool) (bytes : List ℕ) → All (λ b. p b ≡ false) (before_first p bytes)
-before_fails p bytes = λ k d inside. let fails = fails_before_first p bytes k d (grind (arith, common_steps)) in grind (arith, common_steps)
+before_fails p bytes = λ k d inside. grind (arith, common_steps, fails_before_first p bytes k d (grind (arith, common_steps)))
 
 whole : (p : ℕ → Bool) (bytes : List ℕ) → bytes ≡ before_first p bytes ++ drop (position_or_len p bytes) bytes
 whole p bytes = sym (take-append-drop (position_or_len p bytes) bytes)

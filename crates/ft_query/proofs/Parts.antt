@@ -106,9 +106,7 @@ left_ended : (text : List ℕ) (q : Bool) (start place : ℕ) → place < length
     ≡ parts_ended (begun_part q (slice_range text start place)) (byte_mark (get_or text place 0)) ++ parts_left text (not q && get_or text place 0 == 34) (place + 1)
     (place + 1)
 left_ended text q start place h e =
-    let b = get_or text place 0 in
-    let bytes = slice_range text start place in
-    simp (rest_at text place h, ends_after q bytes b e, range_empty)
+    simp (rest_at text place h, ends_after q (slice_range text start place) (get_or text place 0) e, range_empty)
 
 -- the lexemes of some parts, as the parser holds them
 abbrev pub held : List (List ℕ) → List Part → List Lexeme

@@ -29,17 +29,13 @@ pub among_short : (i j : ℕ) (xs ys : List Place) → length (among i j xs ys) 
 among_short i j [] ys = omega arith
 among_short i j (x ∷ xs) ys =
     let r = seek i x j ys in
-    let rest = among_short i j xs r.1 in
-    kept_le r.0 x (among i j xs r.1) (length xs) rest
+    kept_le r.0 x (among i j xs r.1) (length xs) (among_short i j xs r.1)
 
 among_few : (i j : ℕ) (xs ys : List Place) → length (among i j xs ys) ≤ length ys
 among_few i j [] ys = omega arith
 among_few i j (x ∷ xs) ys =
     let r = seek i x j ys in
-    let rest = among_few i j xs r.1 in
-    let left = seek_short i x j ys in
-    let one = among_one r.0 x (among i j xs r.1) in
-    omega (arith, rest, left, one)
+    omega (arith, among_few i j xs r.1, seek_short i x j ys, among_one r.0 x (among i j xs r.1))
 
 pub near_short : (most k : ℕ) (near : List Place) (m : ℕ) (bs : List Place) → length (near_those most k near m bs) ≤ length bs
 near_short most k near m [] = omega arith
@@ -205,11 +201,10 @@ chain_marks_length p links lists same =
     let all = linked p links lists in
     let sum = length-append p.terms (flat_map (λ l. l.to.terms) links) in
     let back = length-drop n lists in
-    let rest = link_marks_length n (head_of all) links (drop n lists) (drop 1 all) (omega (arith, sum, back, same)) in
     let front = marks_length 0 (take n lists) (head_of all) in
     let short = length-take-le n lists (omega (arith, sum, same)) in
     length-append (marks_from 0 (take n lists) (head_of all)) (link_marks n (head_of all) links (drop n lists) (drop 1 all))
-    ∙ omega (arith, sum, back, rest, front, short, same)
+    ∙ omega (arith, sum, back, link_marks_length n (head_of all) links (drop n lists) (drop 1 all) (omega (arith, sum, back, same)), front, short, same)
 
 -- what a query's left side adds before its right one
 pub numbered_more : (old : List Offset) (n : ℕ) (ms more : List (List Place))

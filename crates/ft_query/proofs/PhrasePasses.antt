@@ -201,13 +201,13 @@ apart p q f order =
     ⊎_elim
     (λ (before : IsBefore p q). ⊎_elim
     (λ (less : p.place.column < q.place.column). by_column (grind (arith, nat_tests)))
-    (λ (less : (p.place.column ≡ q.place.column) × (p.place.pos < q.place.pos) × (p.place.start < q.place.start)). let h = less.1 in by_position
-    (grind (arith, nat_tests)))
+    (λ (less : (p.place.column ≡ q.place.column) × (p.place.pos < q.place.pos) × (p.place.start < q.place.start)). by_position
+    (grind (arith, nat_tests, less.1)))
     before)
     (λ (after : IsBefore q p). ⊎_elim
     (λ (less : q.place.column < p.place.column). by_column (grind (arith, nat_tests)))
-    (λ (less : (q.place.column ≡ p.place.column) × (q.place.pos < p.place.pos) × (q.place.start < p.place.start)). let h = less.1 in by_position
-    (grind (arith, nat_tests)))
+    (λ (less : (q.place.column ≡ p.place.column) × (q.place.pos < p.place.pos) × (q.place.start < p.place.start)). by_position
+    (grind (arith, nat_tests, less.1)))
     after)
     order
 
@@ -279,8 +279,7 @@ none_occurs : (postings ps : List Posting) (only : Option ℕ)
 none_occurs postings [] only = refl
 none_occurs postings (p ∷ ps) only =
     let right = filter (λ at. occurs postings (record { filter = only; terms = [] }) at.column at.pos) (places_of ps) in
-    let within = is_within only p.place.column in
-    ap (λ b. cond (b && true) (p.place ∷ right) right) (and-false within) ∙ none_occurs postings ps only
+    ap (λ b. cond (b && true) (p.place ∷ right) right) (and-false (is_within only p.place.column)) ∙ none_occurs postings ps only
 
 -- a phrase's occurrences are its terms' lists joined
 pub occurrences_by_lists : (postings : List Posting) (only : Option ℕ) (terms : List PlainTerm) → AllPairs IsBefore postings
@@ -320,11 +319,10 @@ listed_later p t (q ∷ qs) all =
 pub listed_rising : (postings : List Posting) (t : PlainTerm) → AllPairs IsBefore postings → Rising (listed_places postings t)
 listed_rising [] t ordered = tt
 listed_rising (p ∷ ps) t ordered =
-    let later = listed_later p t ps (recursion_from_All (IsBefore p) ps (pairs_head IsBefore p ps ordered)) in
     let rest = listed_rising ps t (pairs_tail IsBefore p ps ordered) in
     elim (is_listed t p.term) as (λ b. Rising (map (λ (u : Posting). u.place)
     (cond b (p ∷ filter (λ u. is_listed t u.term) ps) (filter (λ u. is_listed t u.term) ps)))) [
-      | true ↦ (later, rest)
+      | true ↦ ((listed_later p t ps (recursion_from_All (IsBefore p) ps (pairs_head IsBefore p ps ordered))), rest)
       | false ↦ rest
     ]
 
@@ -403,11 +401,10 @@ followed_is : (postings : List Posting) (i : ℕ) (ts : List PlainTerm) (starts 
 followed_is postings i [] starts ordered some rising = sym (filter_all starts)
 followed_is postings i (t ∷ ts) starts ordered some rising =
     let here = λ (at : Place). list_any (stands at.column (at.pos + i)) (filter (may_take t) (listed_places postings t)) in
-    let kept = filter here starts in
     let rest = map (term_places postings) ts in
     ap (followed (i + 1) ts (map (listed_places postings) ts))
     (one_test t.first i starts (listed_places postings t) some rising (listed_rising postings t ordered))
-    ∙ followed_is postings (i + 1) ts kept ordered (omega arith) (rising_filter here starts rising)
+    ∙ followed_is postings (i + 1) ts (filter here starts) ordered (omega arith) (rising_filter here starts rising)
     ∙ filter_filter (λ at. follow rest at.column (at.pos + (i + 1))) here starts
     ∙ filter_alike (λ at. here at && follow rest at.column (at.pos + (i + 1)))
     (λ at. list_any (stands at.column (at.pos + i)) (term_places postings t) && follow rest at.column (at.pos + i + 1)) starts
@@ -425,8 +422,7 @@ pub starts_are : (postings : List Posting) (only : Option ℕ) (ts : List PlainT
 starts_are postings only [] ordered = occurrences_by_lists postings only [] ordered
 starts_are postings only (t ∷ ts) ordered =
     let list = listed_places postings t in
-    let rest = map (term_places postings) ts in
-    let after = λ (at : Place). follow rest at.column (at.pos + 1) in
+    let after = λ (at : Place). follow (map (term_places postings) ts) at.column (at.pos + 1) in
     followed_is postings 1 ts (filter (may_begin only t.first) list) ordered (omega arith)
     (rising_filter (may_begin only t.first) list (listed_rising postings t ordered))
     ∙ filter_filter after (may_begin only t.first) list
@@ -479,8 +475,7 @@ kept_of_list : (t : PlainTerm) (p : Place → Bool) (ps : List Posting) → AllB
     → filter p (listed_places ps t) ≡ filter p (places_of ps)
 kept_of_list t p [] all = refl
 kept_of_list t p (q ∷ qs) all =
-    let rest = kept_of_list t p qs all.1 in
-    by (is_listed t q.term) refl (p q.place) refl rest
+    by (is_listed t q.term) refl (p q.place) refl (kept_of_list t p qs all.1)
   where
     by : (listed : Bool) → is_listed t q.term ≡ listed → (passes : Bool) → p q.place ≡ passes → filter p (listed_places qs t) ≡ filter p (places_of qs)
         → filter p (map (λ (u : Posting). u.place) (cond listed (q ∷ filter (λ u. is_listed t u.term) qs) (filter (λ u. is_listed t u.term) qs)))

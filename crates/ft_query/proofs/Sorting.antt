@@ -167,7 +167,7 @@ at_same a b e = (grind (arith, nat_tests), grind (arith, nat_tests))
 
 not_before : (a b : Place) → Before a b → a.column ≡ b.column → a.pos ≡ b.pos → ⊥
 not_before a b (inl h) columns places = omega arith
-not_before a b (inr h) columns places = let x = h.1 in omega arith
+not_before a b (inr h) columns places = omega (arith, h.1)
 
 -- one place at a column and position
 one_place : (places : List Place) → Rising places → (a b : Place) → Contains places a → Contains places b → a.column ≡ b.column → a.pos ≡ b.pos → a ≡ b
@@ -197,8 +197,7 @@ at_place_marked places rising n (m ∷ ms) all at here o c = by (list_any (is_at
         (λ (first : offset_at n at ≡ o).
         let one = any_from (is_at at) m is in
         let same = at_same at one.0 one.2 in
-        let whole = one_place places rising at one.0 here (all.0 one.0 one.1) same.0 same.1 in
-        inl (at, subst (Contains m) (sym whole) one.1, first))
+        inl (at, subst (Contains m) (sym (one_place places rising at one.0 here (all.0 one.0 one.1) same.0 same.1)) one.1, first))
         (λ (later : Contains (from_term (n + 1) ms at) o). inr (rest later))
         (contains_cases (offset_at n at) o (from_term (n + 1) ms at) d)
 

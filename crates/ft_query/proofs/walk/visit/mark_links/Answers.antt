@@ -83,21 +83,18 @@ enough : (c : After-len-size) → c.loop-i.at + c.len-size.result ≤ length c.a
 enough c =
     let size : c.len-size.result ≡ length c.link-item.result.to.terms.items = search rules in
     let links_are = c.deref-link-items.ensures.value in
-    let is = ap (λ l. length l.to.terms.items) (rw links_are at c.link-item.is) in
     let more = count_more c.args.near.now.links.items c.loop-i.i c.link-item.result (rw links_are at c.loop-i-test.true) in
-    omega (arith, size, is, more, c.loop-i.invariant.each, c.loop-i.invariant.left)
+    omega (arith, size, ap (λ l. length l.to.terms.items) (rw links_are at c.link-item.is), more, c.loop-i.invariant.each, c.loop-i.invariant.left)
 
 pub slice_bounds-own-end : goal.slice_bounds-own-end
-slice_bounds-own-end c = let h = enough c in omega arith
+slice_bounds-own-end c = omega (arith, enough c)
 
 pub mark_phrase-requires : goal.mark_phrase-requires
 mark_phrase-requires c =
     let before = enough (goal.at.mark_phrase-requires c).After-len-size in
     let same : c.loop-i.at + c.len-size.result - c.loop-i.at ≡ c.len-size.result = omega arith in
-    let left = length-drop c.loop-i.at c.args.lists.now in
-    let few = length-take-le c.len-size.result (drop c.loop-i.at c.args.lists.now) (omega (arith, before, left)) in
-    let own = ap (λ n. length (take n (drop c.loop-i.at c.args.lists.now))) same in
-    omega (arith, before, few, own, c.loop-i.invariant.next, c.requires.lists.fits)
+    let few = length-take-le c.len-size.result (drop c.loop-i.at c.args.lists.now) (omega (arith, before, length-drop c.loop-i.at c.args.lists.now)) in
+    omega (arith, before, few, ap (λ n. length (take n (drop c.loop-i.at c.args.lists.now))) same, c.loop-i.invariant.next, c.requires.lists.fits)
 
 -- what is marked so far, with the next link
 here : (c : After-near_those)
@@ -127,9 +124,7 @@ returns-in_err-mark_phrase-clause-steps c =
     let same : at + c.len-size.result - at ≡ c.len-size.result = omega arith in
     let own = ap (λ n. take n (drop at lists)) same in
     let before = enough (goal.at.returns-in_err-mark_phrase-clause-steps c).After-len-size in
-    let left = length-drop at lists in
-    let few = ap length own ∙ length-take-le c.len-size.result (drop at lists) (omega (arith, before, left)) in
-    let own_too = ap (λ n. n * length c.in_ok-next.next.items) few in
+    let few = ap length own ∙ length-take-le c.len-size.result (drop at lists) (omega (arith, before, length-drop at lists)) in
     let costs =
     cost_one c.loop-i.k c.unwrap_or-starts.result.now c.link-item.result (drop (c.loop-i.i + 1) c.args.near.now.links.items) (drop at lists)
     (take (at + c.len-size.result - at) (drop at lists)) (drop c.len-size.result (drop at lists)) c.index-all-i.result
@@ -141,7 +136,7 @@ returns-in_err-mark_phrase-clause-steps c =
         arith,
         so_far.at_most,
         costs,
-        own_too,
+        ap (λ n. n * length c.in_ok-next.next.items) few,
         ap length c.deref.ensures.value,
         c.in_ok-next.ensures.steps.at_most,
         rw c.deref-in-loop-i.ensures.value at c.in_err-mark_phrase.ensures.steps.at_most,

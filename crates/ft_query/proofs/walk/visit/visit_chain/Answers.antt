@@ -11,11 +11,9 @@ bounded : {near : Chain} {lists own behind : List LentPlaces} {starts : List Pla
     → TakesAtMost (link_cost (length near.first.terms.items) starts (map plain_link near.links.items) (plain_lists behind) (plain_starts all)) mid new
     → TakesOf (visit_cost (chain_tree near) (plain_lists lists)) (node_count (chain_tree near)) begun new
 bounded {starts = starts} p fills one two three =
-    let whole = chain_cost p in
-    let own_too = ap (λ n. n * length starts) fills in
     record {
       at_least = omega (arith, one.at_least, two.at_least, three.at_least);
-      at_most = omega (arith, whole, own_too, one.at_most, two.at_most, three.at_most);
+      at_most = omega (arith, chain_cost p, ap (λ n. n * length starts) fills, one.at_most, two.at_most, three.at_most);
     }
 
 pub mark_links-requires-clause-all : goal.mark_links-requires-clause-all
@@ -30,13 +28,11 @@ mark_links-requires-clause-all c =
 
 pub returns-clause-evaluates : goal.returns-clause-evaluates
 returns-clause-evaluates c =
-    let tree = chain_tree c.args.near.now in
-    let lists = plain_lists c.args.lists.now in
     let old = c.args.found.now.offsets.items in
     let n = c.args.found.now.next in
     let p = parted c.args.near.now c.args.lists.now c.in_ok-starts.starts c.in_ok-starts.all.items c.deref-in-Offsets-3.result.now c.len-size.result
     (search rules) c.split_at.ensures.front c.split_at.ensures.back (c.deref-in-Offsets-3.ensures.value ∙ c.reverse.ensures.items) c.in_ok-starts.ensures.starts in
-    let told = ap (λ wanted. length (if_wanted wanted (marks_of tree lists))) c.in-Offsets.is in
+    let told = ap (λ wanted. length (if_wanted wanted (marks_of (chain_tree c.args.near.now) (plain_lists c.args.lists.now)))) c.in-Offsets.is in
     let count = chain_marks_count (plain_phrase c.args.near.now.first) (map plain_link c.args.near.now.links.items) c.args.lists.now
     c.requires.each in
     let phrase = c.in_ok-mark_phrase-in-Offsets.ensures.marks in
