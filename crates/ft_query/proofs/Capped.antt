@@ -1,7 +1,7 @@
 -- The tests say of the lexemes as the parser holds them what they say of the text's, and where no
 -- number is too great they are the text's.
 use Rattle.std.proofs.Common.{◌≡◌, ℕ, ◌<◌, ◌≤◌, Bool, true, false, cond, List, [], ◌∷◌, length, map, refl, sym, ap, ◌∙◌, arith, ◌||◌, ◌==◌, nat_lt, min, sum_by, Option, Some, None, Err, lt-ltb, le-ltb, ltb-false}
-use Rattle.ft_query.proofs.Common.{list_any, or_parts, or_left, or_right, or_from, nat_tests, sum_by-cons, QueryFault, Malformed, TooLarge, Lexeme, near_word, parts_of, lexemes_of, is_unclosed_part, term_count, is_far, open_after, nests_deep, query_from, query_unless, capped, asks_much, query_within, query_of}
+use Rattle.ft_query.proofs.Common.{list_any, or_parts, or_left, or_right, or_from, nat_tests, sum_by-cons, QueryFault, Malformed, TooLarge, Lexeme, near_word, parts_of, lexemes_of, is_unclosed_part, term_count, is_far, open_after, nests_deep, query_from, query_unless, capped, asks_much, query_within, query_of, common_steps}
 
 -- ---- one lexeme
 
@@ -43,9 +43,7 @@ depths_capped (l ∷ ls) n = simp (depth_capped, depths_capped ls)
 
 kept : (ls : List Lexeme) → list_any is_far ls ≡ false → map capped ls ≡ ls
 kept [] near = refl
-kept (l ∷ ls) near =
-    let both = or_parts (is_far l) (list_any is_far ls) near in
-    ap (λ m. m ∷ map capped ls) (near_kept l both.0) ∙ ap (λ rest. l ∷ rest) (kept ls both.1)
+kept (l ∷ ls) near = grind (arith, kept ls (or_parts (is_far l) (list_any is_far ls) near).1)
 
 -- ---- the tests of a text
 
@@ -78,13 +76,11 @@ broken_is_malformed columns default text short broken =
 
 pub zero_is_malformed : (columns : List (List ℕ)) (default : Option ℕ) (text : List ℕ) → length text ≤ 10000 → list_any (λ b. b == 0) text ≡ true
     → query_of columns default text ≡ Err Malformed
-zero_is_malformed columns default text short zero =
-    broken_is_malformed columns default text short (or_right (list_any is_unclosed_part (parts_of text)) (list_any (λ b. b == 0) text) zero)
+zero_is_malformed columns default text short zero = grind (arith, nat_tests, broken_is_malformed columns default text short)
 
 pub open_is_malformed : (columns : List (List ℕ)) (default : Option ℕ) (text : List ℕ) → length text ≤ 10000 → list_any is_unclosed_part (parts_of text) ≡ true
     → query_of columns default text ≡ Err Malformed
-open_is_malformed columns default text short unclosed =
-    broken_is_malformed columns default text short (or_left (list_any is_unclosed_part (parts_of text)) (list_any (λ b. b == 0) text) unclosed)
+open_is_malformed columns default text short unclosed = grind (arith, nat_tests, broken_is_malformed columns default text short)
 
 -- the lexemes as the parser holds them read as the text does
 pub read_within : (columns : List (List ℕ)) (default : Option ℕ) (text : List ℕ) (found : List Lexeme) → length text ≤ 10000

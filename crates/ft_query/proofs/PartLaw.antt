@@ -26,12 +26,7 @@ inside_on : (q : Bool) (bytes more rest : List ℕ) → AllByRecursion (λ b. en
     → parts_from (begun_part q bytes) (more ++ rest) ≡ parts_from (begun_part q (bytes ++ more)) rest
 inside_on q bytes [] rest none = ap (λ bs. parts_from (begun_part q bs) rest) (sym (append-nil bytes))
 inside_on q bytes (b ∷ more) rest none =
-    simp (
-      append_assoc,
-      inside_ends q bytes (byte_mark b) none.0,
-      inside_grows q bytes (byte_mark b) b none.0,
-      inside_on q (bytes ++ b ∷ []) more rest none.1,
-    )
+    simp (append_assoc, inside_ends q bytes (byte_mark b) none.0, inside_grows q bytes (byte_mark b) b none.0, inside_on q (bytes ++ b ∷ []) more rest none.1)
 
 -- ---- which bytes end a chunk or a quoted part
 
@@ -69,12 +64,7 @@ abbrev by_bytes : List ℕ → List Part
 by_bytes text = parts_from (in_chunk []) text
 
 mark_of_space : (b : ℕ) → is_query_space b ≡ true → byte_mark b ≡ space
-mark_of_space b is =
-    let low : b < 33 = grind (arith, nat_tests) in
-    let no_quote : (b == 34) ≡ false = ne_eqb b 34 (λ e. omega arith) in
-    let no_open : (b == 40) ≡ false = ne_eqb b 40 (λ e. omega arith) in
-    let no_close : (b == 41) ≡ false = ne_eqb b 41 (λ e. omega arith) in
-    rw (no_quote, no_open, no_close, is) refl
+mark_of_space b is = grind arith
 
 space_read : (b : ℕ) (text : List ℕ) → is_query_space b ≡ true → by_bytes (b ∷ text) ≡ by_bytes text
 space_read b text is = ap (λ m. parts_ended (in_chunk []) m ++ parts_from (begun_after (in_chunk []) m b) text) (mark_of_space b is)
@@ -117,9 +107,7 @@ whole p bytes = sym (take-append-drop (position_or_len p bytes) bytes)
 
 none_passes : (p : ℕ → Bool) (bytes : List ℕ) → list_any p bytes ≡ false → All (λ b. p b ≡ false) bytes
 none_passes p [] none = All-nil (λ b. p b ≡ false)
-none_passes p (b ∷ bytes) none =
-    let parts = or_parts (p b) (list_any p bytes) none in
-    All-cons (λ c. p c ≡ false) b bytes parts.0 (none_passes p bytes parts.1)
+none_passes p (b ∷ bytes) none = grind (arith, common_steps, All-cons)
 
 run_stops : (bytes : List ℕ) → ends_chunk (drop (position_or_len stops_chunk bytes) bytes) ≡ true
 run_stops [] = refl

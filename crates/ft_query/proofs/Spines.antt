@@ -1,6 +1,6 @@
 -- What is joined to the first operand of a query, one joint after the other.
 use Rattle.std.proofs.Common.{◌≡◌, ◌+◌, ◌≤◌, ◌<◌, List, [], ◌∷◌, ◌++◌, length, refl, sym, ap, subst, ◌∙◌, append_assoc, arith, length-append}
-use Rattle.ft_query.proofs.Common.{By, Joint, Tree, phrase, chain, both, either, without, tree_of, terms_in, node_count, width, joined_sides, whole, AddsSpine}
+use Rattle.ft_query.proofs.Common.{By, Joint, Tree, phrase, chain, both, either, without, tree_of, terms_in, node_count, width, joined_sides, whole, AddsSpine, nat_tests, common_steps}
 use Rattle.ft_query.specs.declared.walk.joint.By.TheVariants as by
 
 -- the last joint is joined first
@@ -49,8 +49,7 @@ part_terms (j ∷ js) p =
 
 part_width : (js : List Joint) (p : Tree) → width p ≤ width (whole js p)
 part_width [] p = omega arith
-part_width (j ∷ js) p =
-    omega (arith, part_width js p, joined_width (whole js p) j.by (tree_of j.right.now))
+part_width (j ∷ js) p = grind (arith, part_width js p)
 
 -- a right side is less wide than the whole
 pub right_width : (js : List Joint) (j : Joint) (p query : Tree) → whole (js ++ j ∷ []) p ≡ query → width (tree_of j.right.now) < width query
