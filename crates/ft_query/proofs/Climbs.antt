@@ -1,6 +1,6 @@
 -- The evaluation of a query from its first operand on, one joint after the other.
 use Rattle.std.proofs.Common.{◌≡◌, ℕ, ◌+◌, ◌-◌, ◌≤◌, ◌<◌, ◌^◌, Bool, List, [], ◌∷◌, ◌++◌, length, take, drop, refl, sym, ap, ◌∙◌, subst, append-nil, append_assoc, add_assoc, arith, Ok, length-append, length-take-le, take-append-drop}
-use Rattle.ft_query.proofs.Common.{nil_from_length, take-append-le, drop-append-le, Place, Offset, Steps, LentPlaces, By, Joint, Found, Wanted, Docids, Offsets, Tree, phrase, chain, both, either, without, tree_of, terms_in, node_count, width, more_steps, TakesAtMost, joined_sides, joined_answer, joined_marks, whole, is_accepted, marks_of, numbered_offsets, if_wanted, plain_lists, visit_cost, own_lists, lists_after, HaveLists, Evaluates, Joins}
+use Rattle.ft_query.proofs.Common.{nil_from_length, take-append-le, drop-append-le, Place, Offset, Steps, LentPlaces, By, Joint, Found, Wanted, Docids, Offsets, Tree, phrase, chain, both, either, without, tree_of, terms_in, node_count, width, more_steps, TakesAtMost, joined_sides, joined_answer, joined_marks, whole, is_accepted, marks_of, numbered_offsets, if_wanted, plain_lists, visit_cost, own_lists, lists_after, HaveLists, Evaluates, Joins, nat_tests, common_steps}
 use Rattle.ft_query.proofs.Passes.{numbered_more, lists_front, lists_back}
 use Rattle.ft_query.proofs.Spines.{joined_terms, part_terms, right_width, whole_last}
 use Rattle.ft_query.specs.declared.walk.joint.By.TheVariants as by
@@ -66,19 +66,15 @@ joined_evaluates b p q front own left all old mid new same one two =
 cost_front : (p : Tree) (front own : List LentPlaces) → length front ≡ length (terms_in p) → (b : By) (q : Tree)
     → visit_cost (joined_sides p b q) (plain_lists (front ++ own)) ≡ 1 + (visit_cost p (plain_lists front) + visit_cost q (plain_lists own))
 cost_front p front own same b q =
-    let n = length (terms_in p) in
-    simp (joined_cost p b q (plain_lists (front ++ own)), lists_front front own n same, lists_back front own n same)
+    grind (arith, nat_tests, joined_cost p b q (plain_lists (front ++ own)), lists_front front own (length (terms_in p)) same, lists_back front own (length (terms_in p)) same)
 
 -- each node is a step
 pub nodes_cost : (t : Tree) (ls : List (List Place)) → node_count t ≤ visit_cost t ls
 nodes_cost (phrase p) ls = omega arith
 nodes_cost (chain p links) ls = omega arith
-nodes_cost (both p q) ls =
-    omega (arith, nodes_cost p (take (length (terms_in p)) ls), nodes_cost q (drop (length (terms_in p)) ls))
-nodes_cost (either p q) ls =
-    omega (arith, nodes_cost p (take (length (terms_in p)) ls), nodes_cost q (drop (length (terms_in p)) ls))
-nodes_cost (without p q) ls =
-    omega (arith, nodes_cost p (take (length (terms_in p)) ls), nodes_cost q (drop (length (terms_in p)) ls))
+nodes_cost (both p q) ls = grind (arith, nodes_cost p (take (length (terms_in p)) ls), nodes_cost q (drop (length (terms_in p)) ls))
+nodes_cost (either p q) ls = grind (arith, nodes_cost p (take (length (terms_in p)) ls), nodes_cost q (drop (length (terms_in p)) ls))
+nodes_cost (without p q) ls = grind (arith, nodes_cost p (take (length (terms_in p)) ls), nodes_cost q (drop (length (terms_in p)) ls))
 
 joined_nodes : (p : Tree) (b : By) (q : Tree) → node_count (joined_sides p b q) ≡ 1 + (node_count p + node_count q)
 joined_nodes p by.And q = refl
@@ -95,8 +91,7 @@ part_cost : (js : List Joint) (p : Tree) (front rest : List LentPlaces) → leng
     → length (front ++ rest) ≡ length (terms_in (whole js p))
     → visit_cost p (plain_lists front) ≤ visit_cost (whole js p) (plain_lists (front ++ rest))
 part_cost [] p front rest same all =
-    let is : front ++ rest ≡ front = ap (λ l. front ++ l) (nil_from_length rest (omega (arith, length-append front rest, same, all))) ∙ append-nil front in
-    subst (λ l. visit_cost p (plain_lists front) ≤ visit_cost p (plain_lists l)) (sym is) (omega arith)
+    grind (arith, nat_tests, length-append front rest, same, all, nil_from_length rest (omega (arith, length-append front rest, same, all)), append-nil front)
 part_cost (j ∷ js) p front rest same all =
     let q = tree_of j.right.now in
     let w = whole js p in
@@ -206,8 +201,7 @@ pub record Climbing (query : Tree) (lists left : List LentPlaces) (joints : List
 
 pub with_joints : {query : Tree} {lists left : List LentPlaces} {js ks : List Joint} {accepted : Bool} {old now : Found} {begun steps : Steps}
     → js ≡ ks → Climbing query lists left js accepted old now begun steps → Climbing query lists left ks accepted old now begun steps
-with_joints {query} {lists} {left} {js} {ks} {accepted} {old} {now} {begun} {steps} is at =
-    subst (λ joints. Climbing query lists left joints accepted old now begun steps) is at
+with_joints {query} {lists} {left} {js} {ks} {accepted} {old} {now} {begun} {steps} is at = grind arith
 
 -- the lists of a part are the first of those that are the query's
 record IsFront (leaf query : Tree) (lists : List LentPlaces) : Type 0 where

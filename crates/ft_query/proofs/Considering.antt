@@ -1,7 +1,7 @@
 -- What considering one document does to a walk.
 use Rattle.std.proofs.Common.{◌≡◌, ◌≢◌, ℕ, ◌+◌, ◌-◌, ◌*◌, ◌^◌, ◌<◌, ◌≤◌, ◌⊎◌, inl, inr, ℤ, ◌<ℤ◌, min, Bool, true, false, cond, List, [], ◌∷◌, ◌++◌, length, map, refl, sym, ap, subst, ◌∙◌, arith, Option, Some, None, ⊎_elim, AllPairs, sum_by, int_lt, if◌then◌else◌, option_map, IfSome, int_eq, mul-suc}
 use Rattle.std.proofs.lemmas.Simd.{map-map}
-use Rattle.ft_query.proofs.Common.{recursion_from_All, All-nil, All-head, Decides-int_eq, sum_by-cons, Query, Place, Offset, Cursor, Wanted, Posting, Document, AreDocuments, IsBefore, PlaceList, place_count, Tree, tree_of, PlainHit, accepts, offsets_of, hits_of, terms_in, lists_of, node_count, width, entry_count, candidate_count, lists_left, places_at, passed, least_of, least_from, listed_for, listed_places, if_wanted, Walk, StandsBefore, steps_to_come, Went, hit_at, walk_at, Finds, Steps, more_steps, TakesSteps, TakesAtMost}
+use Rattle.ft_query.proofs.Common.{recursion_from_All, All-nil, All-head, Decides-int_eq, sum_by-cons, Query, Place, Offset, Cursor, Wanted, Posting, Document, AreDocuments, IsBefore, PlaceList, place_count, Tree, tree_of, PlainHit, accepts, offsets_of, hits_of, terms_in, lists_of, node_count, width, entry_count, candidate_count, lists_left, places_at, passed, least_of, least_from, listed_for, listed_places, if_wanted, Walk, StandsBefore, steps_to_come, Went, hit_at, walk_at, Finds, Steps, more_steps, TakesSteps, TakesAtMost, nat_tests, common_steps}
 use Rattle.ft_query.proofs.Spines.{some_nodes}
 use Rattle.ft_query.proofs.Costs.{terms_width}
 use Rattle.ft_query.proofs.TokenOnce.{pairs_head}
@@ -55,19 +55,7 @@ answer_here wanted tree d v = if v then Some (if_wanted wanted (offsets_of d.pos
 hits_here : (wanted : Wanted) (docid : ℤ) (answer : Option (List Offset)) (tree : Tree) (d : Document) (ds : List Document) → d.docid ≡ docid
     → answer ≡ answer_here wanted tree d (accepts d.postings tree) →
     hits_of tree (d ∷ ds) ≡ hit_at (option_map (λ (o : List Offset). docid) answer) (offsets_of d.postings tree) ++ hits_of tree ds
-hits_here wanted docid answer tree d ds one here = cases (accepts d.postings tree) refl
-  where
-    cases : (v : Bool) → accepts d.postings tree ≡ v
-        → hits_of tree (d ∷ ds) ≡ hit_at (option_map (λ (o : List Offset). docid) answer) (offsets_of d.postings tree) ++ hits_of tree ds
-    cases true is =
-        with_it tree d ds is
-        ∙ ap (λ z. record { docid = z; offsets = offsets_of d.postings tree } ∷ hits_of tree ds) one
-        ∙ ap (λ o. hit_at (option_map (λ (os : List Offset). docid) o) (offsets_of d.postings tree) ++ hits_of tree ds)
-        (sym (here ∙ ap (answer_here wanted tree d) is))
-    cases false is =
-        without_it tree d ds is
-        ∙ ap (λ o. hit_at (option_map (λ (os : List Offset). docid) o) (offsets_of d.postings tree) ++ hits_of tree ds)
-        (sym (here ∙ ap (answer_here wanted tree d) is))
+hits_here wanted docid answer tree d ds one here = grind arith
 
 told_here : (wanted : Wanted) (answer : Option (List Offset)) (tree : Tree) (d : Document) (v : Bool) → answer ≡ answer_here wanted tree d v
     → IfSome answer (λ o. o ≡ if_wanted wanted (offsets_of d.postings tree))
@@ -157,48 +145,16 @@ none_more docid (l ∷ ls) =
 less_left : (docid : ℤ) (so_far : Option ℤ) (ls : List (List PlaceList)) → least_from so_far ls ≡ Some docid
     → (so_far ≡ Some docid) ⊎ (sum_by length (map (passed docid) ls) < sum_by length ls)
 less_left docid so_far [] least = inl least
-less_left docid so_far (l ∷ ls) least = ⊎_elim
-    (λ (here : least_of so_far l ≡ Some docid). first l here)
-    (λ (shorter : sum_by length (map (passed docid) ls) < sum_by length ls).
-    let one = fewer docid l in
-    let a = sum_by-cons length (passed docid l) (map (passed docid) ls) in
-    let b = sum_by-cons length l ls in
-    inr (omega arith))
-    (less_left docid (least_of so_far l) ls least)
-  where
-    same_docid : (x : PlaceList) (xs : List PlaceList) → (Some x.docid ≡ Some docid)
-        → sum_by length (map (passed docid) ((x ∷ xs) ∷ ls)) < sum_by length ((x ∷ xs) ∷ ls)
-    same_docid x xs same =
-        let is : int_eq x.docid docid ≡ true = (Decides-int_eq x.docid docid).1 (cc same) in
-        let passes : length (passed docid (x ∷ xs)) ≡ length xs = ap (λ v. length (cond v xs (x ∷ xs))) is in
-        omega (arith, none_more docid ls, sum_by-cons length (passed docid (x ∷ xs)) (map (passed docid) ls), sum_by-cons length (x ∷ xs) ls)
-
-    first : (l : List PlaceList) → least_of so_far l ≡ Some docid
-        → (so_far ≡ Some docid) ⊎ (sum_by length (map (passed docid) (l ∷ ls)) < sum_by length (l ∷ ls))
-    first [] here = inl here
-    first (x ∷ xs) here = by so_far here
-      where
-        by : (o : Option ℤ) → least_of o (x ∷ xs) ≡ Some docid
-            → (o ≡ Some docid) ⊎ (sum_by length (map (passed docid) ((x ∷ xs) ∷ ls)) < sum_by length ((x ∷ xs) ∷ ls))
-        by None here = inr (same_docid x xs here)
-        by (Some z) here = less (int_lt x.docid z) refl
-          where
-            less : (v : Bool) → int_lt x.docid z ≡ v
-                → (Some z ≡ Some docid) ⊎ (sum_by length (map (passed docid) ((x ∷ xs) ∷ ls)) < sum_by length ((x ∷ xs) ∷ ls))
-            less true is = inr (same_docid x xs (sym (ap (λ v. if v then Some x.docid else Some z) is) ∙ here))
-            less false is = inl (sym (ap (λ v. if v then Some x.docid else Some z) is) ∙ here)
+less_left docid so_far (l ∷ ls) least =
+    grind (arith, common_steps, less_left docid (least_of so_far l) ls least, none_more docid ls, sum_by-cons, Decides-int_eq)
 
 passes_one : (docid : ℤ) (ls : List (List PlaceList)) → least_from None ls ≡ Some docid → sum_by length (map (passed docid) ls) < sum_by length ls
-passes_one docid ls least = ⊎_elim
-    (λ (never : None ≡ Some docid). cc)
-    (λ (less : sum_by length (map (passed docid) ls) < sum_by length ls). less)
-    (less_left docid None ls least)
+passes_one docid ls least = grind (arith, nat_tests, less_left docid None ls least)
 
 pub fewer_left : (docid : ℤ) (cursors passed_by : List Cursor) → least_from None (map lists_left cursors) ≡ Some docid
     → map lists_left passed_by ≡ map (passed docid) (map lists_left cursors) →
     sum_by length (map lists_left passed_by) < sum_by length (map lists_left cursors)
-fewer_left docid cursors passed_by least left =
-    subst (λ ls. sum_by length ls < sum_by length (map lists_left cursors)) (sym left) (passes_one docid (map lists_left cursors) least)
+fewer_left docid cursors passed_by least left = grind (arith, nat_tests, passes_one docid (map lists_left cursors) least)
 
 -- ---- one walk after the other
 

@@ -1,6 +1,6 @@
 -- The steps for one document are few for each place of its lists and each term of the query.
 use Rattle.std.proofs.Common.{◌≡◌, ℕ, ◌+◌, ◌*◌, ◌≤◌, Bool, true, false, cond, List, [], ◌∷◌, ◌++◌, length, take, drop, zero, suc, refl, sym, ap, ◌∙◌, subst, arith, max, ℤ, filter, flat_map, sum_by, Option, mul-le-mul_left, length-append, length-take-le, length-drop, take_all}
-use Rattle.ft_query.proofs.Common.{length-map, sum_by-cons, Place, Cursor, Steps, TakesAtMost, LentPlaces, own_lists, PlainTerm, PlainPhrase, PlainLink, Tree, phrase, chain, both, either, without, terms_in, width, lists_left, places_at, among, may_begin, followed, starts_from, starts_of, near_those, head_of, linked, total, linked_cost, link_cost, visit_cost, plain_lists, places_in}
+use Rattle.ft_query.proofs.Common.{length-map, sum_by-cons, Place, Cursor, Steps, TakesAtMost, LentPlaces, own_lists, PlainTerm, PlainPhrase, PlainLink, Tree, phrase, chain, both, either, without, terms_in, width, lists_left, places_at, among, may_begin, followed, starts_from, starts_of, near_those, head_of, linked, total, linked_cost, link_cost, visit_cost, plain_lists, places_in, nat_tests, common_steps}
 use Rattle.ft_query.proofs.Passes.{among_short, followed_few, near_short, filter_short}
 
 total_split : (n : ℕ) (ls : List (List Place)) → total (take n ls) + total (drop n ls) ≡ total ls
@@ -17,8 +17,7 @@ one_le false i starts list = among_short i 0 starts list
 followed_le : (i : ℕ) (ts : List PlainTerm) (ls : List (List Place)) (starts : List Place) → length (followed i ts ls starts) ≤ length starts
 followed_le i [] ls starts = omega arith
 followed_le i (t ∷ ts) [] starts = omega arith
-followed_le i (t ∷ ts) (l ∷ ls) starts =
-    omega (arith, followed_le (i + 1) ts ls (cond t.first [] (among i 0 starts l)), one_le t.first i starts l)
+followed_le i (t ∷ ts) (l ∷ ls) starts = grind (arith, nat_tests, followed_le (i + 1) ts ls (cond t.first [] (among i 0 starts l)), one_le t.first i starts l)
 
 followed_times : (i : ℕ) (ts : List PlainTerm) (ls : List (List Place)) (starts : List Place) → length ts ≡ length ls
     → length ts * length (followed i ts ls starts) ≤ total ls
@@ -31,8 +30,7 @@ followed_times i (t ∷ ts) (l ∷ ls) starts same =
 from_le : (only : Option ℕ) (ts : List PlainTerm) (ls : List (List Place)) → length (starts_from only ts ls) ≤ total ls
 from_le only [] ls = omega arith
 from_le only (t ∷ ts) [] = omega arith
-from_le only (t ∷ ts) (l ∷ ls) =
-    omega (arith, followed_le 1 ts ls (filter (may_begin only t.first) l), filter_short (may_begin only t.first) l)
+from_le only (t ∷ ts) (l ∷ ls) = grind (arith, nat_tests, followed_le 1 ts ls (filter (may_begin only t.first) l), filter_short (may_begin only t.first) l)
 
 from_times : (only : Option ℕ) (ts : List PlainTerm) (ls : List (List Place)) → length ts ≡ length ls → length ts * length (starts_from only ts ls) ≤ total ls
 from_times only [] ls same = omega arith
@@ -49,8 +47,7 @@ link_terms links = flat_map (λ link. link.to.terms) links
 linked_le : (p : PlainPhrase) (links : List PlainLink) (ls : List (List Place)) → length ls ≡ length (p.terms ++ link_terms links)
     → length (head_of (linked p links ls)) ≤ total (take (length p.terms) ls)
 linked_le p [] ls same =
-    let all = take_all (length p.terms) ls (omega (arith, length-append p.terms [], same)) in
-    subst (λ l. length (starts_of p ls) ≤ total l) (sym all) (from_le p.filter p.terms ls)
+    grind (arith, nat_tests, length-append p.terms [], same, take_all (length p.terms) ls (omega (arith, length-append p.terms [], same)), from_le p.filter p.terms ls)
 linked_le p (link ∷ links) ls same =
     let n = length p.terms in
     let one = from_le p.filter p.terms (take n ls) in
@@ -99,8 +96,7 @@ some_width p = omega arith
 
 links_few : (links : List PlainLink) → length links ≤ sum_by (λ link. max 1 (length link.to.terms)) links
 links_few [] = omega arith
-links_few (link ∷ links) =
-    omega (arith, links_few links, sum_by-cons (λ (l : PlainLink). max 1 (length l.to.terms)) link links)
+links_few (link ∷ links) = grind (arith, common_steps, links_few links, sum_by-cons)
 
 chain_bound : (p : PlainPhrase) (links : List PlainLink) (ls : List (List Place)) → length ls ≡ length (p.terms ++ link_terms links)
     → visit_cost (chain p links) ls ≤ 1 + length links + 12 * total ls
@@ -119,34 +115,26 @@ two_bound p q ls same left right =
     omega (arith, left (take n ls) (length-take-le n ls (omega (arith, sum, same))), right (drop n ls) (omega (arith, sum, length-drop n ls, same)), parts)
 
 visit_bound : (tree : Tree) (ls : List (List Place)) → length ls ≡ length (terms_in tree) → visit_cost tree ls + 1 ≤ 12 * total ls + 2 * width tree
-visit_bound (phrase p) ls same =
-    omega (arith, from_times p.filter p.terms ls (sym same), ap (λ n. n * length (starts_of p ls)) same, some_width p)
-visit_bound (chain p links) ls same =
-    omega (arith, chain_bound p links ls same, some_width p, links_few links)
+visit_bound (phrase p) ls same = grind (arith, nat_tests, from_times p.filter p.terms ls (sym same), ap, some_width p)
+visit_bound (chain p links) ls same = grind (arith, nat_tests, chain_bound p links ls same, some_width p, links_few links)
 visit_bound (both p q) ls same = two_bound p q ls same (visit_bound p) (visit_bound q)
 visit_bound (either p q) ls same = two_bound p q ls same (visit_bound p) (visit_bound q)
 visit_bound (without p q) ls same = two_bound p q ls same (visit_bound p) (visit_bound q)
 
 links_width : (links : List PlainLink) → length (link_terms links) ≤ sum_by (λ link. max 1 (length link.to.terms)) links
 links_width [] = omega arith
-links_width (link ∷ links) =
-    omega (arith, links_width links, length-append link.to.terms (link_terms links), sum_by-cons (λ (l : PlainLink). max 1 (length l.to.terms)) link links)
+links_width (link ∷ links) = grind (arith, common_steps, links_width links, length-append link.to.terms (link_terms links), sum_by-cons)
 
 pub terms_width : (tree : Tree) → length (terms_in tree) ≤ width tree
 terms_width (phrase p) = omega arith
 terms_width (chain p links) = omega (arith, length-append p.terms (link_terms links), links_width links)
-terms_width (both p q) =
-    omega (arith, length-append (terms_in p) (terms_in q), terms_width p, terms_width q)
-terms_width (either p q) =
-    omega (arith, length-append (terms_in p) (terms_in q), terms_width p, terms_width q)
-terms_width (without p q) =
-    omega (arith, length-append (terms_in p) (terms_in q), terms_width p, terms_width q)
+terms_width (both p q) = grind (arith, nat_tests, length-append (terms_in p) (terms_in q), terms_width p, terms_width q)
+terms_width (either p q) = grind (arith, nat_tests, length-append (terms_in p) (terms_in q), terms_width p, terms_width q)
+terms_width (without p q) = grind (arith, nat_tests, length-append (terms_in p) (terms_in q), terms_width p, terms_width q)
 
 total_is : (docid : ℤ) (cursors : List Cursor) → total (places_in docid cursors) ≡ sum_by (λ c. length (places_at docid (lists_left c))) cursors
 total_is docid [] = refl
-total_is docid (c ∷ cs) =
-    let rest = total_is docid cs in
-    ap (λ n. length (places_at docid (lists_left c)) + n) rest ∙ sym (sum_by-cons (λ (u : Cursor). length (places_at docid (lists_left u))) c cs)
+total_is docid (c ∷ cs) = grind (arith, common_steps, total_is docid cs, sum_by-cons)
 
 -- what a document costs, with one step for each of its lists
 pub document_bound : (tree : Tree) (docid : ℤ) (cursors : List Cursor) (lists : List (List Place)) → length cursors ≡ length (terms_in tree)
