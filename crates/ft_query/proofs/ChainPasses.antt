@@ -1,5 +1,5 @@
 -- The passes over the phrases of a chain, backwards and forwards, give the members of its choices.
-use Rattle.std.proofs.Common.{◌≡◌, ℕ, ◌+◌, ◌<◌, ◌≤◌, ◌==◌, ◌||◌, Bool, true, false, cond, List, [], ◌∷◌, ◌⊎◌, inl, inr, refl, sym, ap, ◌∙◌, arith, filter, ◌++◌, length, map, take, drop, AllPairs, ◌-◌, ◌&&◌, not, subst, ⊎_elim, flat_map, Contains, nat_le, max, append-nil}
+use Rattle.std.proofs.Common.{◌≡◌, ℕ, ◌+◌, ◌<◌, ◌≤◌, ◌==◌, ◌||◌, Bool, true, false, cond, List, [], ◌∷◌, ◌⊎◌, inl, inr, refl, sym, ap, ◌∙◌, arith, filter, ◌++◌, length, map, take, drop, AllPairs, ◌-◌, ◌&&◌, not, subst, ⊎_elim, flat_map, Contains, nat_le, max, append-nil, rules}
 use Rattle.std.proofs.Math.Bool.{or-false, or-true}
 use Rattle.ft_query.proofs.Common.{list_any, AllByRecursion, nat_tests, Place, are_near, is_behind, skip_behind, begin_near, near_those, Posting, IsBefore, is_filled, PlainPhrase, Tree, phrase, chain, both, either, without, terms_in, accepts, taken, taken_in, occurrences, places_of, listed_places, is_accepted, marks_of, marks_from, starts_of, PlainTerm, PlainLink, IsChoice, choices, heads, taken_links, head_of, linked, link_marks, common_steps}
 use Rattle.ft_query.proofs.PhrasePasses.{Before, Rising, filter_same, all_weaker, starts_are, occurrences_rising, marks_are, occurrences_take, all_filter, rising_filter, any_same, filter_alike, Alike, Takes}
@@ -377,15 +377,9 @@ lists_for postings tree = map (listed_places postings) (terms_in tree)
 pub accepted_is : (postings : List Posting) (tree : Tree) → AllPairs IsBefore postings → is_accepted tree (lists_for postings tree) ≡ accepts postings tree
 accepted_is postings (phrase p) ordered = ap (λ (s : List Place). is_filled s) (starts_are postings p.filter p.terms ordered)
 accepted_is postings (chain p links) ordered = chain_accepts postings p links ordered
-accepted_is postings (both p q) ordered =
-    let L = listed_places postings in let ts = terms_in p in let us = terms_in q in
-    simp (front_part L ts us, back_part L ts us, accepted_is postings p ordered, accepted_is postings q ordered)
-accepted_is postings (either p q) ordered =
-    let L = listed_places postings in let ts = terms_in p in let us = terms_in q in
-    simp (front_part L ts us, back_part L ts us, accepted_is postings p ordered, accepted_is postings q ordered)
-accepted_is postings (without p q) ordered =
-    let L = listed_places postings in let ts = terms_in p in let us = terms_in q in
-    simp (front_part L ts us, back_part L ts us, accepted_is postings p ordered, accepted_is postings q ordered)
+accepted_is postings (both p q) ordered = grind (arith, nat_tests, accepted_is postings p ordered, accepted_is postings q ordered, front_part, back_part)
+accepted_is postings (either p q) ordered = grind (arith, nat_tests, accepted_is postings p ordered, accepted_is postings q ordered, front_part, back_part)
+accepted_is postings (without p q) ordered = grind (arith, nat_tests, accepted_is postings p ordered, accepted_is postings q ordered, front_part, back_part)
 
 phrase_marks : (postings : List Posting) (p : PlainPhrase) → AllPairs IsBefore postings
     → marks_from 0 (map (listed_places postings) p.terms) (starts_of p (map (listed_places postings) p.terms))
@@ -398,8 +392,7 @@ phrase_marks postings p ordered =
 two_marks : (postings : List Posting) (p q : Tree) → marks_of p (lists_for postings p) ≡ taken postings p → marks_of q (lists_for postings q) ≡ taken postings q
     → marks_of p (take (length (terms_in p)) (map (listed_places postings) (terms_in p ++ terms_in q))) ++ marks_of q
     (drop (length (terms_in p)) (map (listed_places postings) (terms_in p ++ terms_in q))) ≡ taken postings p ++ taken postings q
-two_marks postings p q left right =
-    let L = listed_places postings in simp (front_part L (terms_in p) (terms_in q), back_part L (terms_in p) (terms_in q), left, right)
+two_marks postings p q left right = grind (arith, nat_tests, front_part, back_part)
 
 pub marked_is : (postings : List Posting) (tree : Tree) → AllPairs IsBefore postings → marks_of tree (lists_for postings tree) ≡ taken postings tree
 marked_is postings (phrase p) ordered = phrase_marks postings p ordered

@@ -1,5 +1,5 @@
 -- The evaluation of a query from its first operand on, one joint after the other.
-use Rattle.std.proofs.Common.{◌≡◌, ℕ, ◌+◌, ◌-◌, ◌≤◌, ◌<◌, ◌^◌, Bool, List, [], ◌∷◌, ◌++◌, length, take, drop, refl, sym, ap, ◌∙◌, subst, append-nil, append_assoc, add_assoc, arith, Ok, length-append, length-take-le, take-append-drop}
+use Rattle.std.proofs.Common.{◌≡◌, ℕ, ◌+◌, ◌-◌, ◌≤◌, ◌<◌, ◌^◌, Bool, List, [], ◌∷◌, ◌++◌, length, take, drop, refl, sym, ap, ◌∙◌, subst, append-nil, append_assoc, add_assoc, arith, Ok, length-append, length-take-le, take-append-drop, rules}
 use Rattle.ft_query.proofs.Common.{nil_from_length, take-append-le, drop-append-le, Place, Offset, Steps, LentPlaces, By, Joint, Found, Wanted, Docids, Offsets, Tree, phrase, chain, both, either, without, tree_of, terms_in, node_count, width, more_steps, TakesAtMost, joined_sides, joined_answer, joined_marks, whole, is_accepted, marks_of, numbered_offsets, if_wanted, plain_lists, visit_cost, own_lists, lists_after, HaveLists, Evaluates, Joins, nat_tests, common_steps}
 use Rattle.ft_query.proofs.Passes.{numbered_more, lists_front, lists_back}
 use Rattle.ft_query.proofs.Spines.{joined_terms, part_terms, right_width, whole_last}
@@ -39,34 +39,13 @@ told_count Offsets ms more = sym (length-append ms more)
 joined_evaluates : (b : By) (p q : Tree) (front own : List LentPlaces) (left all : Bool) (old mid new : Found) → length front ≡ length (terms_in p)
     → Evaluates (Ok left) old mid p front → Joins b left (Ok all) mid new q own → Evaluates (Ok all) old new (joined_sides p b q) (front ++ own)
 joined_evaluates b p q front own left all old mid new same one two =
-    let n = length (terms_in p) in
-    let ls = plain_lists (front ++ own) in
-    let is_front = lists_front front own n same in
-    let is_back = lists_back front own n same in
-    let ms = marks_of p (plain_lists front) in
-    let more = joined_marks b (marks_of q (plain_lists own)) in
-    let are : ms ++ more ≡ marks_of (joined_sides p b q) ls =
-    simp (← joined_marked p b q ls, is_front, is_back) in
-    record {
-      accepted = simp (two.both, one.accepted, joined_accepts p b q ls, is_front, is_back);
-      wanted = two.wanted ∙ one.wanted;
-      offsets =
-          simp (two.offsets, one.offsets, one.wanted, one.next)
-          (told old.wanted old.offsets.items old.next ms more
-          ∙ ap (λ m. old.offsets.items ++ numbered_offsets old.next (if_wanted old.wanted m)) are);
-      next =
-          simp (two.next, one.wanted, one.next)
-          (add_assoc old.next (length (if_wanted old.wanted ms)) (length (if_wanted old.wanted more))
-          ∙ ap (λ k. old.next + k) (told_count old.wanted ms more ∙ ap (λ m. length (if_wanted old.wanted m)) are));
-      room = omega (arith, one.room, two.room, length-append front own);
-    }
+    search (rules, length-append, joined_marked, lists_front, lists_back, joined_accepts, told, told_count)
 
 -- ---- the steps
 
 cost_front : (p : Tree) (front own : List LentPlaces) → length front ≡ length (terms_in p) → (b : By) (q : Tree)
     → visit_cost (joined_sides p b q) (plain_lists (front ++ own)) ≡ 1 + (visit_cost p (plain_lists front) + visit_cost q (plain_lists own))
-cost_front p front own same b q =
-    grind (arith, nat_tests, joined_cost p b q (plain_lists (front ++ own)), lists_front front own (length (terms_in p)) same, lists_back front own (length (terms_in p)) same)
+cost_front p front own same b q = grind (arith, nat_tests, joined_cost, lists_front, lists_back, nat_tests)
 
 -- each node is a step
 pub nodes_cost : (t : Tree) (ls : List (List Place)) → node_count t ≤ visit_cost t ls
@@ -90,8 +69,7 @@ takes_then m n a b c one two = record { at_least = omega arith; at_most = omega 
 part_cost : (js : List Joint) (p : Tree) (front rest : List LentPlaces) → length front ≡ length (terms_in p)
     → length (front ++ rest) ≡ length (terms_in (whole js p))
     → visit_cost p (plain_lists front) ≤ visit_cost (whole js p) (plain_lists (front ++ rest))
-part_cost [] p front rest same all =
-    grind (arith, nat_tests, length-append front rest, same, all, nil_from_length rest (omega (arith, length-append front rest, same, all)), append-nil front)
+part_cost [] p front rest same all = grind (arith, nat_tests, length-append, nil_from_length, append-nil, nat_tests)
 part_cost (j ∷ js) p front rest same all =
     let q = tree_of j.right.now in
     let w = whole js p in
@@ -138,17 +116,7 @@ climbs_fit : {query : Tree} {lists rest : List LentPlaces} (js : List Joint) (j 
     → Climbs query lists rest (js ++ j ∷ []) left old mid begun steps → length lists ≡ length (terms_in query) → old.next + length lists < 2 ^ 64
     → Fits query (tree_of j.right.now) rest mid
 climbs_fit {query} {lists} {rest} js j {left} {old} {mid} {begun} {steps} at same fits =
-    let p = at.part in
-    let q = tree_of j.right.now in
-    let all_terms = ap (λ t. length (terms_in t)) (sym (whole_last js j p) ∙ at.all) in
-    let sum = ap length (joined_terms p j.by q) ∙ length-append (terms_in p) (terms_in q) in
-    let two = ap length at.split in
-    let parts = length-append at.front rest in
-    record {
-      lists = omega (arith, part_terms js (joined_sides p j.by q), all_terms, sum, two, parts, at.each, same);
-      numbers = omega (arith, two, parts, at.evaluates.room, fits);
-      less = right_width js j p query at.all;
-    }
+    search (rules, tree_of j.right.now, part_terms, whole_last, joined_terms, length-append, right_width)
 
 -- a right side more
 climbs_on : {query : Tree} {lists rest own behind : List LentPlaces} {js : List Joint}
@@ -227,8 +195,7 @@ front_is joints leaf query lists all enough =
 
 pub leaf_fits : {query : Tree} {lists : List LentPlaces} {found : Found} (joints : List Joint) (leaf : Tree) → whole joints leaf ≡ query
     → HaveLists found (terms_in query) lists → HaveLists found (terms_in leaf) lists
-leaf_fits {query} {lists} {found} joints leaf all have =
-    record { each = omega (arith, part_terms joints leaf, ap (λ t. length (terms_in t)) all, have.each); fits = have.fits }
+leaf_fits {query} {lists} {found} joints leaf all have = search (rules, part_terms joints leaf, ap, have.each)
 
 -- the first operand
 pub climb_begun : {query : Tree} {lists left : List LentPlaces} {accepted : Bool} {old now : Found} {begun steps : Steps} (joints : List Joint) (leaf : Tree)

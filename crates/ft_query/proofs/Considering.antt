@@ -1,5 +1,5 @@
 -- What considering one document does to a walk.
-use Rattle.std.proofs.Common.{◌≡◌, ◌≢◌, ℕ, ◌+◌, ◌-◌, ◌*◌, ◌^◌, ◌<◌, ◌≤◌, ◌⊎◌, inl, inr, ℤ, ◌<ℤ◌, min, Bool, true, false, cond, List, [], ◌∷◌, ◌++◌, length, map, refl, sym, ap, subst, ◌∙◌, arith, Option, Some, None, ⊎_elim, AllPairs, sum_by, int_lt, if◌then◌else◌, option_map, IfSome, int_eq, mul-suc}
+use Rattle.std.proofs.Common.{◌≡◌, ◌≢◌, ℕ, ◌+◌, ◌-◌, ◌*◌, ◌^◌, ◌<◌, ◌≤◌, ◌⊎◌, inl, inr, ℤ, ◌<ℤ◌, min, Bool, true, false, cond, List, [], ◌∷◌, ◌++◌, length, map, refl, sym, ap, subst, ◌∙◌, arith, Option, Some, None, ⊎_elim, AllPairs, sum_by, int_lt, if◌then◌else◌, option_map, IfSome, int_eq, mul-suc, rules}
 use Rattle.std.proofs.lemmas.Simd.{map-map}
 use Rattle.ft_query.proofs.Common.{recursion_from_All, All-nil, All-head, Decides-int_eq, sum_by-cons, Query, Place, Offset, Cursor, Wanted, Posting, Document, AreDocuments, IsBefore, PlaceList, place_count, Tree, tree_of, PlainHit, accepts, offsets_of, hits_of, terms_in, lists_of, node_count, width, entry_count, candidate_count, lists_left, places_at, passed, least_of, least_from, listed_for, listed_places, if_wanted, Walk, StandsBefore, steps_to_come, Went, hit_at, walk_at, Finds, Steps, more_steps, TakesSteps, TakesAtMost, nat_tests, common_steps}
 use Rattle.ft_query.proofs.Spines.{some_nodes}
@@ -138,15 +138,13 @@ fewer docid (x ∷ l) = elim (int_eq x.docid docid) as (λ v. length (cond v l (
 
 none_more : (docid : ℤ) (ls : List (List PlaceList)) → sum_by length (map (passed docid) ls) ≤ sum_by length ls
 none_more docid [] = omega arith
-none_more docid (l ∷ ls) =
-    omega (arith, fewer docid l, none_more docid ls, sum_by-cons length (passed docid l) (map (passed docid) ls), sum_by-cons length l ls)
+none_more docid (l ∷ ls) = search (rules, none_more docid ls, fewer, sum_by-cons)
 
 -- the least is the docid so far, or one list gets shorter
 less_left : (docid : ℤ) (so_far : Option ℤ) (ls : List (List PlaceList)) → least_from so_far ls ≡ Some docid
     → (so_far ≡ Some docid) ⊎ (sum_by length (map (passed docid) ls) < sum_by length ls)
 less_left docid so_far [] least = inl least
-less_left docid so_far (l ∷ ls) least =
-    grind (arith, common_steps, less_left docid (least_of so_far l) ls least, none_more docid ls, sum_by-cons, Decides-int_eq)
+less_left docid so_far (l ∷ ls) least = search (rules, less_left docid (least_of so_far l) ls least, none_more, sum_by-cons, Decides-int_eq, common_steps)
 
 passes_one : (docid : ℤ) (ls : List (List PlaceList)) → least_from None ls ≡ Some docid → sum_by length (map (passed docid) ls) < sum_by length ls
 passes_one docid ls least = grind (arith, nat_tests, less_left docid None ls least)

@@ -1,5 +1,5 @@
 -- The steps for one document are few for each place of its lists and each term of the query.
-use Rattle.std.proofs.Common.{◌≡◌, ℕ, ◌+◌, ◌*◌, ◌≤◌, Bool, true, false, cond, List, [], ◌∷◌, ◌++◌, length, take, drop, zero, suc, refl, sym, ap, ◌∙◌, subst, arith, max, ℤ, filter, flat_map, sum_by, Option, mul-le-mul_left, length-append, length-take-le, length-drop, take_all}
+use Rattle.std.proofs.Common.{◌≡◌, ℕ, ◌+◌, ◌*◌, ◌≤◌, Bool, true, false, cond, List, [], ◌∷◌, ◌++◌, length, take, drop, zero, suc, refl, sym, ap, ◌∙◌, subst, arith, max, ℤ, filter, flat_map, sum_by, Option, mul-le-mul_left, length-append, length-take-le, length-drop, take_all, rules}
 use Rattle.ft_query.proofs.Common.{length-map, sum_by-cons, Place, Cursor, Steps, TakesAtMost, LentPlaces, own_lists, PlainTerm, PlainPhrase, PlainLink, Tree, phrase, chain, both, either, without, terms_in, width, lists_left, places_at, among, may_begin, followed, starts_from, starts_of, near_those, head_of, linked, total, linked_cost, link_cost, visit_cost, plain_lists, places_in, nat_tests, common_steps}
 use Rattle.ft_query.proofs.Passes.{among_short, followed_few, near_short, filter_short}
 
@@ -24,8 +24,7 @@ followed_times : (i : ℕ) (ts : List PlainTerm) (ls : List (List Place)) (start
 followed_times i [] ls starts same = omega arith
 followed_times i (t ∷ ts) [] starts same = absurd (omega arith)
 followed_times i (t ∷ ts) (l ∷ ls) starts same =
-    let next = cond t.first [] (among i 0 starts l) in
-    omega (arith, followed_times (i + 1) ts ls next (omega arith), followed_le (i + 1) ts ls next, followed_few t.first i starts l)
+    grind (arith, nat_tests, followed_times (i + 1) ts ls (cond t.first [] (among i 0 starts l)) (omega arith), followed_le, followed_few)
 
 from_le : (only : Option ℕ) (ts : List PlainTerm) (ls : List (List Place)) → length (starts_from only ts ls) ≤ total ls
 from_le only [] ls = omega arith
@@ -46,19 +45,12 @@ link_terms links = flat_map (λ link. link.to.terms) links
 
 linked_le : (p : PlainPhrase) (links : List PlainLink) (ls : List (List Place)) → length ls ≡ length (p.terms ++ link_terms links)
     → length (head_of (linked p links ls)) ≤ total (take (length p.terms) ls)
-linked_le p [] ls same =
-    grind (arith, nat_tests, length-append p.terms [], same, take_all (length p.terms) ls (omega (arith, length-append p.terms [], same)), from_le p.filter p.terms ls)
-linked_le p (link ∷ links) ls same =
-    let n = length p.terms in
-    let one = from_le p.filter p.terms (take n ls) in
-    omega (arith, near_short link.most (length link.to.terms) (head_of (linked link.to links (drop n ls))) n (starts_of p (take n ls)), one)
+linked_le p [] ls same = grind (arith, nat_tests, length-append, take_all, from_le, nat_tests)
+linked_le p (link ∷ links) ls same = grind (arith, nat_tests, near_short, from_le)
 
 linked_times : (p : PlainPhrase) (links : List PlainLink) (ls : List (List Place)) → length ls ≡ length (p.terms ++ link_terms links)
     → length p.terms * length (head_of (linked p links ls)) ≤ total (take (length p.terms) ls)
-linked_times p [] ls same =
-    let sum = length-append p.terms [] in
-    let all = take_all (length p.terms) ls (omega (arith, sum, same)) in
-    subst (λ l. length p.terms * length (starts_of p ls) ≤ total l) (sym all) (from_times p.filter p.terms ls (omega (arith, sum, same)))
+linked_times p [] ls same = search (rules, take_all, from_times)
 linked_times p (link ∷ links) ls same =
     let n = length p.terms in
     let front = length-take-le n ls (omega (arith, length-append p.terms (link_terms (link ∷ links)), same)) in
@@ -68,10 +60,7 @@ linked_times p (link ∷ links) ls same =
 linked_bound : (p : PlainPhrase) (links : List PlainLink) (ls : List (List Place))
     → linked_cost p links ls + length (head_of (linked p links ls)) ≤ 6 * total ls
 linked_bound p [] ls = omega (arith, from_le p.filter p.terms ls)
-linked_bound p (link ∷ links) ls =
-    let n = length p.terms in
-    let short = near_short link.most (length link.to.terms) (head_of (linked link.to links (drop n ls))) n (starts_of p (take n ls)) in
-    omega (arith, total_split n ls, linked_bound link.to links (drop n ls), from_le p.filter p.terms (take n ls), short)
+linked_bound p (link ∷ links) ls = grind (arith, nat_tests, linked_bound link.to links (drop (length p.terms) ls), total_split, from_le, near_short)
 
 links_bound : (p : PlainPhrase) (links : List PlainLink) (ls : List (List Place)) (starts : List Place) → length ls ≡ length (p.terms ++ link_terms links)
     → link_cost (length p.terms) starts links (drop (length p.terms) ls) (drop 1 (linked p links ls)) ≤ length starts + 6 * total (drop (length p.terms) ls)
@@ -147,10 +136,7 @@ document_bound tree docid cursors lists same is =
 -- where the lists are just those of the query's terms, they are all its own
 pub own_are : (tree : Tree) (docid : ℤ) (cursors : List Cursor) (lists : List LentPlaces) → length cursors ≡ length (terms_in tree)
     → plain_lists lists ≡ places_in docid cursors → plain_lists (own_lists tree lists) ≡ places_in docid cursors
-own_are tree docid cursors lists same is =
-    let many : length lists ≡ length (terms_in tree) =
-    sym (length-map lists (λ l. l.now)) ∙ ap length is ∙ length-map cursors (λ c. places_at docid (lists_left c)) ∙ same in
-    ap plain_lists (take_all (length (terms_in tree)) lists (omega (arith, many))) ∙ is
+own_are tree docid cursors lists same is = grind (arith, nat_tests, length-map, take_all)
 
 -- what the evaluation of a document takes, after the looks for its lists
 pub document_takes : (tree : Tree) (docid : ℤ) (cursors : List Cursor) (lists : List LentPlaces) {begun mid new : Steps}

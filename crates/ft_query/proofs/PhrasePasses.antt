@@ -1,6 +1,6 @@
 -- The passes over the lists of a phrase's terms give its occurrences, and the places of its terms
 -- in them.
-use Rattle.std.proofs.Common.{◌≡◌, ℕ, ◌+◌, ◌<◌, ◌==◌, ◌&&◌, ◌||◌, Bool, true, false, cond, List, [], ◌∷◌, ◌⊎◌, inl, inr, refl, sym, ap, ◌∙◌, arith, filter, nat_lt, nat_cmp, Ordering, Less, Equal, Greater, not, map, ⊎_elim, AllPairs, Option, subst, add-zero}
+use Rattle.std.proofs.Common.{◌≡◌, ℕ, ◌+◌, ◌<◌, ◌==◌, ◌&&◌, ◌||◌, Bool, true, false, cond, List, [], ◌∷◌, ◌⊎◌, inl, inr, refl, sym, ap, ◌∙◌, arith, filter, nat_lt, nat_cmp, Ordering, Less, Equal, Greater, not, map, ⊎_elim, AllPairs, Option, subst, add-zero, rules}
 use Rattle.std.proofs.Math.Bool.{and-true, and-false, or-false}
 use Rattle.std.proofs.lemmas.Bool.{and_parts}
 use Rattle.ft_query.proofs.Common.{list_any, AllByRecursion, ordering_then, match_ordering, nat_tests, Place, place_order, seek, among, recursion_from_All, Posting, IsBefore, PlainTerm, listed_places, is_listed, fits, takes, take_row, is_within, places_of, occurs, occurrences, PlainPhrase, shifted, taken_in, marks_from, may_begin, followed, starts_from, common_steps}
@@ -211,22 +211,7 @@ joined_part : (postings : List Posting) (only : Option ℕ) (t : PlainTerm) (ts 
     filter (joins_at postings only ts) (map (λ q. q.place) (filter (λ q. fits t q.term q.place.pos) ps)) ≡ filter (occurs_at postings only t ts) (places_of ps)
 joined_part postings only t ts [] here = refl
 joined_part postings only t ts (p ∷ ps) here =
-    let within = is_within only p.place.column in
-    let row = take_row postings ts p.place.column (p.place.pos + 1) in
-    let rest = filter (λ q. fits t q.term q.place.pos) ps in
-    let left = filter (joins_at postings only ts) (map (λ q. q.place) rest) in
-    let right = filter (occurs_at postings only t ts) (places_of ps) in
-    let same : left ≡ right = joined_part postings only t ts ps here.1 in
-    let by_row : joins_at postings only ts p.place ≡ (within && row) = ap (λ b. within && b) (row_by_lists postings ts p.place.column (p.place.pos + 1)) in
-    let cases : filter (joins_at postings only ts) (map (λ q. q.place) (cond (fits t p.term p.place.pos) (p ∷ rest) rest))
-    ≡ cond ((within && true) && (fits t p.term p.place.pos && row)) (p.place ∷ right) right =
-    elim (fits t p.term p.place.pos) as (λ v. filter (joins_at postings only ts) (map (λ q. q.place) (cond v (p ∷ rest) rest)) ≡ cond
-    ((within && true) && (v && row)) (p.place ∷ right) right) [
-      | true ↦ ap (λ b. cond b (p.place ∷ left) left) by_row ∙ ap (λ ls. cond (within && row) (p.place ∷ ls) ls) same ∙ ap
-          (λ b. cond (b && row) (p.place ∷ right) right) (sym (and-true within))
-      | false ↦ same ∙ ap (λ b. cond b (p.place ∷ right) right) (sym (and-false (within && true)))
-    ] in
-    cases ∙ ap (λ b. cond ((within && true) && (b && row)) (p.place ∷ right) right) (sym here.0)
+    grind (arith, nat_tests, fits t p.term p.place.pos, joined_part postings only t ts ps here.1, row_by_lists, and-true, and-false)
 
 -- a phrase without terms occurs nowhere
 none_occurs : (postings ps : List Posting) (only : Option ℕ)
@@ -261,12 +246,7 @@ listed_later p t (q ∷ qs) all = grind (arith, listed_later p t qs all.1)
 pub listed_rising : (postings : List Posting) (t : PlainTerm) → AllPairs IsBefore postings → Rising (listed_places postings t)
 listed_rising [] t ordered = tt
 listed_rising (p ∷ ps) t ordered =
-    let rest = listed_rising ps t (pairs_tail IsBefore p ps ordered) in
-    elim (is_listed t p.term) as (λ b. Rising (map (λ (u : Posting). u.place)
-    (cond b (p ∷ filter (λ u. is_listed t u.term) ps) (filter (λ u. is_listed t u.term) ps)))) [
-      | true ↦ ((listed_later p t ps (recursion_from_All (IsBefore p) ps (pairs_head IsBefore p ps ordered))), rest)
-      | false ↦ rest
-    ]
+    search (rules, listed_later p t ps (recursion_from_All (IsBefore p) ps (pairs_head IsBefore p ps ordered)), listed_rising ps t (pairs_tail IsBefore p ps ordered))
 
 pub places_rising : (postings : List Posting) → AllPairs IsBefore postings → Rising (places_of postings)
 places_rising [] ordered = tt
@@ -391,15 +371,7 @@ at_place i at start e = (grind (arith, nat_tests), grind (arith, nat_tests))
 listed_here : (postings : List Posting) (i : ℕ) (t : PlainTerm) (ts : List PlainTerm) (starts : List Place) (q : Posting)
     → AllByRecursion (Takes postings i (t ∷ ts)) starts
     → takes postings t q.place.column q.place.pos ≡ fits t q.term q.place.pos → list_any (follows i q.place) starts ≡ true → is_listed t q.term ≡ true
-listed_here postings i t ts starts q all here some =
-    let one = witness (follows i q.place) (Takes postings i (t ∷ ts)) starts all some in
-    let start = one.0 in
-    let where_is = at_place i q.place start one.1 in
-    let taken : takes postings t start.column (start.pos + i) ≡ true =
-    (and_parts (takes postings t start.column (start.pos + i)) (take_row postings ts start.column (start.pos + i + 1)) one.2).0 in
-    let there : takes postings t q.place.column q.place.pos ≡ true =
-    subst (λ n. takes postings t q.place.column n ≡ true) where_is.1 (subst (λ n. takes postings t n (start.pos + i) ≡ true) where_is.0 taken) in
-    (and_parts (is_listed t q.term) (not t.first || q.place.pos == 0) (sym here ∙ there)).0
+listed_here postings i t ts starts q all here some = grind (arith, nat_tests, witness, at_place)
 
 -- a test that passes only where the term is listed keeps the same of its list as of all places
 kept_of_list : (t : PlainTerm) (p : Place → Bool) (ps : List Posting) → AllByRecursion (λ q. p q.place ≡ true → is_listed t q.term ≡ true) ps
