@@ -1,5 +1,5 @@
 -- Which document a walk comes to next.
-use Rattle.std.proofs.Common.{◌≡◌, ◌≢◌, ◌+◌, ◌||◌, ℤ, pos, negsuc, ◌<ℤ◌, Bool, true, false, cond, List, [], ◌∷◌, length, map, refl, sym, ap, ◌∙◌, arith, true≢false, Option, Some, None, filter, AllPairs, int_lt, sum_by, int_eq, is_eq, Less, Equal, Greater}
+use Rattle.std.proofs.Common.{◌≡◌, ◌≢◌, ◌+◌, ◌||◌, ℤ, pos, negsuc, ◌<ℤ◌, Bool, true, false, cond, List, [], ◌∷◌, length, map, refl, sym, ap, ◌∙◌, arith, true≢false, Option, Some, None, filter, AllPairs, int_lt, sum_by, int_eq, is_eq, Less, Equal, Greater, rules}
 use Rattle.std.proofs.lemmas.Cmp.{tied_itself, int_cmp_total}
 use Rattle.ft_query.proofs.Common.{or_parts, sum_by-cons, list_any, AllByRecursion, nat_tests, recursion_from_All, All-tail, Place, Posting, Document, AreDocuments, IsBefore, PlaceList, is_filled, has_places, places_with, place_count, PlainTerm, Tree, PlainHit, is_listed, accepts, offsets_of, hits_of, terms_in, lists_of, candidate_count, places_at, passed, least_of, least_from, listed_for, listed_places, common_steps}
 use Rattle.ft_query.proofs.TokenOnce.{pairs_head, pairs_tail}
@@ -83,8 +83,7 @@ module _ (d : Document) (ds : List Document) (later : AllByRecursion (λ e. d.do
   pub all_counted : (ts : List PlainTerm)
       → sum_by place_count (map (listed_for (d ∷ ds)) ts) ≡ sum_by length (map (listed_places d.postings) ts) + sum_by place_count (map (listed_for ds) ts)
   all_counted [] = refl
-  all_counted (t ∷ ts) =
-      grind (arith, common_steps, all_counted ts, one_count d ds later t, sum_by-cons place_count (listed_for (d ∷ ds) t) (map (listed_for (d ∷ ds)) ts))
+  all_counted (t ∷ ts) = grind (arith, nat_tests, all_counted ts, one_count, sum_by-cons, common_steps)
 
   -- the least docid so far is after the document, or there is none
   abbrev IsBehind : Option ℤ → Type 0

@@ -1,5 +1,5 @@
 -- How the parts of what is left of a text change by one byte.
-use Rattle.std.proofs.Common.{◌≡◌, ℕ, ◌+◌, ◌-◌, ◌<◌, ◌≤◌, Bool, true, false, List, [], ◌∷◌, ◌++◌, length, map, take, drop, get_or, refl, sym, ap, ◌∙◌, subst, arith, append_assoc, length-drop, get_or-drop, IsUtf8, IsCharBoundary, ⊎_elim, ◌==◌, ◌&&◌, not, slice_range, flat_map, ne_eqb}
+use Rattle.std.proofs.Common.{◌≡◌, ℕ, ◌+◌, ◌-◌, ◌<◌, ◌≤◌, Bool, true, false, List, [], ◌∷◌, ◌++◌, length, map, take, drop, get_or, refl, sym, ap, ◌∙◌, subst, arith, append_assoc, length-drop, get_or-drop, IsUtf8, IsCharBoundary, ⊎_elim, ◌==◌, ◌&&◌, not, slice_range, flat_map, ne_eqb, rules}
 use Rattle.std.specs.Int.{is_in_range}
 use Rattle.std.proofs.lemmas.List.Concat.{flat_map-append}
 use Rattle.ft_query.proofs.Common.{list_any, and_right, lt-leb, or_from, false≢true, map-append, take_more, list_any-append, IsCharBoundary-start, IsCharBoundary-after_ascii, order, Lexeme, Part, open_part, close_part, is_query_space, parts_of, lexemes_of_part, is_unclosed_part, capped, plain, byte_mark, chunk_parts, begun_after, parts_ended, parts_from, begun_part, ends_begun, nat_tests, common_steps}
@@ -78,10 +78,7 @@ parts_left text q start place = parts_from (begun_part q (slice_range text start
 
 left_inside : (text : List ℕ) (q : Bool) (start place : ℕ) → start ≤ place → place < length text → ends_begun q (byte_mark (get_or text place 0)) ≡ false
     → parts_left text q start place ≡ parts_left text q start (place + 1)
-left_inside text q start place before h e =
-    let b = get_or text place 0 in
-    let bytes = slice_range text start place in
-    simp (rest_at text place h, inside_ends q bytes (byte_mark b) e, inside_grows q bytes (byte_mark b) b e, range_more text start place before h)
+left_inside text q start place before h e = grind (arith, nat_tests, get_or text place 0, rest_at, inside_ends, inside_grows, range_more)
 
 left_ended : (text : List ℕ) (q : Bool) (start place : ℕ) → place < length text → ends_begun q (byte_mark (get_or text place 0)) ≡ true
     → parts_left text q start place

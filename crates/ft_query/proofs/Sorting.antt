@@ -1,5 +1,5 @@
 -- The marks of a query's terms, sorted, are the offsets of the document.
-use Rattle.std.proofs.Common.{◌≡◌, ℕ, ◌+◌, ◌<◌, ◌==◌, ◌&&◌, Bool, true, false, cond, List, [], ◌∷◌, ◌++◌, ◌⊎◌, inl, inr, length, map, drop, get_or, suc, refl, sym, ◌∙◌, subst, arith, ⊎_elim, AllPairs, Contains, Some, None, filter, filter_map, IsPermutation, IsSortedBy, nat_cmp, is_lt, Ordering, Less, Equal, Greater}
+use Rattle.std.proofs.Common.{◌≡◌, ℕ, ◌+◌, ◌<◌, ◌==◌, ◌&&◌, Bool, true, false, cond, List, [], ◌∷◌, ◌++◌, ◌⊎◌, inl, inr, length, map, drop, get_or, suc, refl, sym, ◌∙◌, subst, arith, ⊎_elim, AllPairs, Contains, Some, None, filter, filter_map, IsPermutation, IsSortedBy, nat_cmp, is_lt, Ordering, Less, Equal, Greater, rules}
 use Rattle.std.specs.List.{IsDistinct}
 use Rattle.std.proofs.lemmas.List.Sorted.{Contains-permutation, IsPermutation-sym}
 use Rattle.std.proofs.lemmas.Map.Keys.{IsDistinct-cons, IsDistinct-head, IsDistinct-tail, IsDistinct-IsPermutation}
@@ -163,8 +163,7 @@ not_before a b (inr h) columns places = omega (arith, h.1)
 -- one place at a column and position
 one_place : (places : List Place) → Rising places → (a b : Place) → Contains places a → Contains places b → a.column ≡ b.column → a.pos ≡ b.pos → a ≡ b
 one_place [] rising a b c d columns positions = absurd (contains_nothing a c)
-one_place (x ∷ xs) rising a b c d columns positions =
-    grind (arith, common_steps, not_before a b, contains_cases x b xs d, not_before b a, one_place xs rising.1 a b, contains_cases x a xs c)
+one_place (x ∷ xs) rising a b c d columns positions = grind (arith, nat_tests, one_place xs rising.1 a b, not_before, contains_cases, common_steps)
 
 at_place_marked : (places : List Place) → Rising places → (n : ℕ) (ms : List (List Place)) → AllByRecursion (Among places) ms → (at : Place)
     → Contains places at → (o : Offset) → Contains (from_term n ms at) o → Marked n ms o
