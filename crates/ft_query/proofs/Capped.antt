@@ -1,8 +1,7 @@
 -- The tests say of the lexemes as the parser holds them what they say of the text's, and where no
 -- number is too great they are the text's.
-use Rattle.std.proofs.Common.{◌≡◌, ℕ, ◌<◌, ◌≤◌, Bool, true, false, cond, List, [], ◌∷◌, length, map, refl, sym, ap, ◌∙◌, arith, ◌||◌, ◌==◌, nat_lt, min, sum_by, Option, Some, None, Err, lt-ltb, le-ltb, ltb-false}
-use Rattle.ft_query.proofs.Common.{list_any, or_parts, or_left, or_right, or_from, nat_tests, sum_by-cons, QueryFault, Malformed, TooLarge, Lexeme, near_word, parts_of, lexemes_of, is_unclosed_part, term_count, is_far, open_after, nests_deep, query_from, query_unless, capped, asks_much, query_within}
-use Rattle.ft_query.specs.Reads.{query_of}
+use Rattle.std.proofs.Common.{◌≡◌, ℕ, ◌<◌, ◌≤◌, Bool, true, false, cond, List, [], ◌∷◌, length, map, refl, sym, ap, ◌∙◌, arith, ◌||◌, ◌==◌, nat_lt, min, sum_by, Option, Some, None, Err, lt-ltb, le-ltb, ltb-false, rules}
+use Rattle.ft_query.proofs.Common.{list_any, or_parts, or_left, or_right, or_from, nat_tests, sum_by-cons, QueryFault, Malformed, TooLarge, Lexeme, near_word, parts_of, lexemes_of, is_unclosed_part, term_count, is_far, open_after, nests_deep, query_from, query_unless, capped, asks_much, query_within, query_of, common_steps}
 
 -- ---- one lexeme
 
@@ -44,9 +43,7 @@ depths_capped (l ∷ ls) n = simp (depth_capped, depths_capped ls)
 
 kept : (ls : List Lexeme) → list_any is_far ls ≡ false → map capped ls ≡ ls
 kept [] near = refl
-kept (l ∷ ls) near =
-    let both = or_parts (is_far l) (list_any is_far ls) near in
-    ap (λ m. m ∷ map capped ls) (near_kept l both.0) ∙ ap (λ rest. l ∷ rest) (kept ls both.1)
+kept (l ∷ ls) near = grind (arith, kept ls (or_parts (is_far l) (list_any is_far ls) near).1)
 
 -- ---- the tests of a text
 
@@ -69,48 +66,23 @@ unfolding query_of
 answer_by columns default text long broken much e f g = rw (e, f, g) refl
 
 pub long_is_large : (columns : List (List ℕ)) (default : Option ℕ) (text : List ℕ) → 10000 < length text → query_of columns default text ≡ Err TooLarge
-long_is_large columns default text long =
-    answer_by columns default text true (is_broken text) (asks_much (lexemes_of columns text)) (lt-ltb 10000 (length text) long) refl refl
+long_is_large columns default text long = grind (arith, nat_tests, answer_by)
 
 pub broken_is_malformed : (columns : List (List ℕ)) (default : Option ℕ) (text : List ℕ) → length text ≤ 10000 → is_broken text ≡ true
     → query_of columns default text ≡ Err Malformed
-broken_is_malformed columns default text short broken =
-    answer_by columns default text false true (asks_much (lexemes_of columns text)) (le-ltb 10000 (length text) short) broken refl
+broken_is_malformed columns default text short broken = grind (arith, nat_tests, answer_by)
 
 pub zero_is_malformed : (columns : List (List ℕ)) (default : Option ℕ) (text : List ℕ) → length text ≤ 10000 → list_any (λ b. b == 0) text ≡ true
     → query_of columns default text ≡ Err Malformed
-zero_is_malformed columns default text short zero =
-    broken_is_malformed columns default text short (or_right (list_any is_unclosed_part (parts_of text)) (list_any (λ b. b == 0) text) zero)
+zero_is_malformed columns default text short zero = grind (arith, nat_tests, broken_is_malformed columns default text short)
 
 pub open_is_malformed : (columns : List (List ℕ)) (default : Option ℕ) (text : List ℕ) → length text ≤ 10000 → list_any is_unclosed_part (parts_of text) ≡ true
     → query_of columns default text ≡ Err Malformed
-open_is_malformed columns default text short unclosed =
-    broken_is_malformed columns default text short (or_left (list_any is_unclosed_part (parts_of text)) (list_any (λ b. b == 0) text) unclosed)
+open_is_malformed columns default text short unclosed = grind (arith, nat_tests, broken_is_malformed columns default text short)
 
 -- the lexemes as the parser holds them read as the text does
 pub read_within : (columns : List (List ℕ)) (default : Option ℕ) (text : List ℕ) (found : List Lexeme) → length text ≤ 10000
     → list_any (λ b. b == 0) text ≡ false
     → (list_any is_unclosed_part (parts_of text) ≡ false) × (found ≡ map capped (lexemes_of columns text))
     → query_within default found ≡ query_of columns default text
-read_within columns default text found short no_zero lexed = by_much (asks_much ls) refl
-  where
-    ls : List Lexeme
-    ls = lexemes_of columns text
-
-    fine : is_broken text ≡ false
-    fine = or_from _ _ lexed.0 no_zero
-
-    same : asks_much found ≡ asks_much ls
-    same = ap asks_much lexed.1 ∙ much_capped ls
-
-    by_much : (much : Bool) → asks_much ls ≡ much → query_within default found ≡ query_of columns default text
-    by_much true e =
-        ap (λ b. query_unless (cond b (Some TooLarge) None) default found) (same ∙ e)
-        ∙ sym (answer_by columns default text false false true (le-ltb 10000 (length text) short) fine e)
-    by_much false e =
-        let near =
-        or_parts (nat_lt 64 (sum_by term_count ls)) (list_any is_far ls)
-        (or_parts (nat_lt 64 (sum_by term_count ls) || list_any is_far ls) (nests_deep (0, 0) ls) e).0 in
-        ap (λ b. query_unless (cond b (Some TooLarge) None) default found) (same ∙ e)
-        ∙ ap (query_from default) (lexed.1 ∙ kept ls near.1)
-        ∙ sym (answer_by columns default text false false false (le-ltb 10000 (length text) short) fine e)
+read_within columns default text found short no_zero lexed = grind (arith, nat_tests, or_from, much_capped, answer_by, or_parts, kept)

@@ -1,7 +1,7 @@
 -- The passes over the phrases of a chain, backwards and forwards, give the members of its choices.
-use Rattle.std.proofs.Common.{◌≡◌, ℕ, ◌+◌, ◌<◌, ◌≤◌, ◌==◌, ◌||◌, Bool, true, false, cond, List, [], ◌∷◌, ◌⊎◌, inl, inr, refl, sym, ap, ◌∙◌, arith, filter, ◌++◌, length, map, take, drop, AllPairs, ◌-◌, ◌&&◌, not, subst, ⊎_elim, flat_map, Contains, nat_le, max, append-nil}
+use Rattle.std.proofs.Common.{◌≡◌, ℕ, ◌+◌, ◌<◌, ◌≤◌, ◌==◌, ◌||◌, Bool, true, false, cond, List, [], ◌∷◌, ◌⊎◌, inl, inr, refl, sym, ap, ◌∙◌, arith, filter, ◌++◌, length, map, take, drop, AllPairs, ◌-◌, ◌&&◌, not, subst, ⊎_elim, flat_map, Contains, nat_le, max, append-nil, rules}
 use Rattle.std.proofs.Math.Bool.{or-false, or-true}
-use Rattle.ft_query.proofs.Common.{list_any, AllByRecursion, nat_tests, Place, are_near, is_behind, skip_behind, begin_near, near_those, Posting, IsBefore, is_filled, PlainPhrase, Tree, phrase, chain, both, either, without, terms_in, accepts, taken, taken_in, occurrences, places_of, listed_places, is_accepted, marks_of, marks_from, starts_of, PlainTerm, PlainLink, IsChoice, choices, heads, taken_links, head_of, linked, link_marks}
+use Rattle.ft_query.proofs.Common.{list_any, AllByRecursion, nat_tests, Place, are_near, is_behind, skip_behind, begin_near, near_those, Posting, IsBefore, is_filled, PlainPhrase, Tree, phrase, chain, both, either, without, terms_in, accepts, taken, taken_in, occurrences, places_of, listed_places, is_accepted, marks_of, marks_from, starts_of, PlainTerm, PlainLink, IsChoice, choices, heads, taken_links, head_of, linked, link_marks, common_steps}
 use Rattle.ft_query.proofs.PhrasePasses.{Before, Rising, filter_same, all_weaker, starts_are, occurrences_rising, marks_are, occurrences_take, all_filter, rising_filter, any_same, filter_alike, Alike, Takes}
 use Rattle.ft_query.proofs.OffsetOrder.{contains_cases, contains_head, contains_tail}
 use Rattle.ft_query.proofs.Choices.{contains_nothing, map_from, map_to, filter_from, filter_to, chosen}
@@ -47,9 +47,7 @@ bar_moves x y k e less same = grind (arith, nat_tests)
 second_by : (most k m : ℕ) (a c b : Place) → a.column ≡ b.column → c.column ≡ b.column → b.pos ≤ a.pos + k + most → a.pos < c.pos
     → are_near most k a m b ≡ false → are_near most k c m b ≡ false → (barred : Bool) → (c.pos + k == b.pos + m) ≡ barred → b.pos + m + most < c.pos
 second_by most k m a c b here there within later far far_too false is = far_beyond most k m c b far_too there (omega arith) is
-second_by most k m a c b here there within later far far_too true is =
-    let first = far_beyond most k m a b far here within (bar_moves a.pos c.pos k (b.pos + m) later is) in
-    omega arith
+second_by most k m a c b here there within later far far_too true is = grind arith
 
 -- of two neighbours that aren't near, the second begins too far after
 second_beyond : (most k m : ℕ) (a c b : Place) → Within most k a b → are_near most k a m b ≡ false → Before a c → are_near most k c m b ≡ false
@@ -57,13 +55,11 @@ second_beyond : (most k m : ℕ) (a c b : Place) → Within most k a b → are_n
 second_beyond most k m a c b (inl h) far (inl i) far_too = inl (omega arith)
 second_beyond most k m a c b (inl h) far (inr i) far_too = let x = i.0 in inl (omega arith)
 second_beyond most k m a c b (inr h) far (inl i) far_too = let x = h.0 in inl (omega arith)
-second_beyond most k m a c b (inr h) far (inr i) far_too =
-    inr (sym i.0 ∙ h.0, second_by most k m a c b h.0 (sym i.0 ∙ h.0) h.1 i.1 far far_too (c.pos + k == b.pos + m) refl)
+second_beyond most k m a c b (inr h) far (inr i) far_too = grind arith
 
 none_near : (most k m : ℕ) (b : Place) (near : List Place) → AllByRecursion (Beyond most m b) near → list_any (λ a. are_near most k a m b) near ≡ false
 none_near most k m b [] all = refl
-none_near most k m b (a ∷ more) all =
-    ap (λ t. t || list_any (λ u. are_near most k u m b) more) (beyond_not_near most k m a b all.0) ∙ none_near most k m b more all.1
+none_near most k m b (a ∷ more) all = grind (arith, none_near most k m b more all.1)
 
 all_beyond : (most m : ℕ) (b a : Place) (more : List Place) → Beyond most m b a → AllByRecursion (Before a) more → AllByRecursion (Beyond most m b) more
 all_beyond most m b a [] h all = tt
@@ -80,10 +76,9 @@ two_decide most k m b a (c ∷ more) within first rising = by (are_near most k a
     by true e q f = ap (λ x. x || are_near most k c m b) e ∙ sym (ap (λ x. x || (are_near most k c m b || list_any (λ u. are_near most k u m b) more)) e)
     by false e true f = ap (λ y. are_near most k a m b || y) f ∙ sym (ap (λ y. are_near most k a m b || (y || list_any (λ u. are_near most k u m b) more)) f)
     by false e false f =
-        let far = second_beyond most k m a c b within e first.0 f in
         ap (λ y. are_near most k a m b || y) f
         ∙ sym (ap (λ y. are_near most k a m b || (y || list_any (λ u. are_near most k u m b) more)) f ∙ ap (λ y. are_near most k a m b || y)
-        (none_near most k m b more (all_beyond most m b c more far rising.0)))
+        (none_near most k m b more (all_beyond most m b c more (second_beyond most k m a c b within e first.0 f) rising.0)))
 
 -- what a pass up to a place leaves
 record Kept (most k m : ℕ) (near : List Place) (b : Place) (left : List Place) : Type 0 where
@@ -140,19 +135,11 @@ back_part L (t ∷ ts) more = back_part L ts more
 
 pub any_to : {X : Type 0} (p : X → Bool) (xs : List X) (x : X) → Contains xs x → p x ≡ true → list_any p xs ≡ true
 any_to p [] x c e = absurd (contains_nothing x c)
-any_to p (y ∷ ys) x c e = ⊎_elim
-    (λ (here : y ≡ x). ap (λ b. b || list_any p ys) (ap p here ∙ e))
-    (λ (later : Contains ys x). ap (λ b. p y || b) (any_to p ys x later e) ∙ or-true (p y))
-    (contains_cases y x ys c)
+any_to p (y ∷ ys) x c e = grind (arith, any_to p ys x)
 
 pub any_from : {X : Type 0} (p : X → Bool) (xs : List X) → list_any p xs ≡ true → (x : X) × Contains xs x × (p x ≡ true)
 any_from p [] e = cc
-any_from p (y ∷ ys) e = by (p y) refl e (any_from p ys)
-  where
-    by : (b : Bool) → p y ≡ b → (b || list_any p ys) ≡ true → (list_any p ys ≡ true → (x : _) × Contains ys x × (p x ≡ true))
-        → (x : _) × Contains (y ∷ ys) x × (p x ≡ true)
-    by true is f rest = (y, contains_head y ys, is)
-    by false is f rest = let one = rest f in (one.0, contains_tail y one.0 ys one.1, one.2)
+any_from p (y ∷ ys) e = grind (arith, nat_tests, any_from p ys, contains_head y ys, contains_tail y)
 
 same_bool : (a b : Bool) → (a ≡ true → b ≡ true) → (b ≡ true → a ≡ true) → a ≡ b
 same_bool true b to from = sym (to refl)
@@ -175,17 +162,12 @@ filled_from (y ∷ ys) e = (y, contains_head y ys)
 heads_from : (cs : List (List Place)) (at : Place) → Contains (heads cs) at → (rest : List Place) × Contains cs (at ∷ rest)
 heads_from [] at c = absurd (contains_nothing at c)
 heads_from ([] ∷ cs) at c = let one = heads_from cs at c in (one.0, contains_tail [] (at ∷ one.0) cs one.1)
-heads_from ((x ∷ choice) ∷ cs) at c = ⊎_elim
-    (λ (here : x ≡ at). (choice, subst (λ u. Contains ((x ∷ choice) ∷ cs) (u ∷ choice)) here (contains_head (x ∷ choice) cs)))
-    (λ (later : Contains (heads cs) at). let one = heads_from cs at later in (one.0, contains_tail (x ∷ choice) (at ∷ one.0) cs one.1))
-    (contains_cases x at (heads cs) c)
+heads_from ((x ∷ choice) ∷ cs) at c =
+    grind (arith, nat_tests, contains_head (x ∷ choice) cs, heads_from cs at, contains_tail (x ∷ choice), contains_cases x at)
 
 heads_to : (cs : List (List Place)) (at : Place) (rest : List Place) → Contains cs (at ∷ rest) → Contains (heads cs) at
 heads_to [] at rest c = absurd (contains_nothing (at ∷ rest) c)
-heads_to ([] ∷ cs) at rest c = ⊎_elim
-    (λ (here : [] ≡ at ∷ rest). cc)
-    (λ (later : Contains cs (at ∷ rest)). heads_to cs at rest later)
-    (contains_cases [] (at ∷ rest) cs c)
+heads_to ([] ∷ cs) at rest c = grind (arith, heads_to cs at rest)
 heads_to ((x ∷ choice) ∷ cs) at rest c = ⊎_elim
     (λ (here : x ∷ choice ≡ at ∷ rest). let same : x ≡ at = cc in subst (Contains (x ∷ heads cs)) same (contains_head x (heads cs)))
     (λ (later : Contains cs (at ∷ rest)). contains_tail x at (heads cs) (heads_to cs at rest later))
@@ -197,11 +179,7 @@ same_number : (x y : ℕ) → (x == y) ≡ (y == x)
 same_number x y = grind (arith, nat_tests)
 
 near_turned : (most k : ℕ) (a : Place) (m : ℕ) (b : Place) → are_near most m b k a ≡ are_near most k a m b
-near_turned most k a m b =
-    let between : max (a.pos - (b.pos + m)) (b.pos - (a.pos + k)) ≡ max (b.pos - (a.pos + k)) (a.pos - (b.pos + m)) = omega arith in
-    ap (λ t. t && not (b.pos + m == a.pos + k) && nat_le (max (a.pos - (b.pos + m)) (b.pos - (a.pos + k))) most) (same_number b.column a.column)
-    ∙ ap (λ t. a.column == b.column && not t && nat_le (max (a.pos - (b.pos + m)) (b.pos - (a.pos + k))) most) (same_number (b.pos + m) (a.pos + k))
-    ∙ ap (λ n. a.column == b.column && not (a.pos + k == b.pos + m) && nat_le n most) between
+near_turned most k a m b = grind arith
 
 abbrev near_from : PlainPhrase → PlainLink → Place → Place → Bool
 near_from p link at b = are_near link.most (length p.terms) at (length link.to.terms) b
@@ -250,9 +228,8 @@ reach_of_choice : (postings : List Posting) (p : PlainPhrase) (links : List Plai
 reach_of_choice postings p [] at rest is = is.0
 reach_of_choice postings p (link ∷ links) at [] is = absurd is.2
 reach_of_choice postings p (link ∷ links) at (b ∷ rest) is =
-    let there = reach_of_choice postings link.to links b rest is.2 in
     filter_to (λ u. list_any (near_from p link u) (reach postings link.to links)) (occurrences postings p) at is.0
-    (any_to (near_from p link at) (reach postings link.to links) b there is.1)
+    (any_to (near_from p link at) (reach postings link.to links) b (reach_of_choice postings link.to links b rest is.2) is.1)
 
 choice_of_reach : (postings : List Posting) (p : PlainPhrase) (links : List PlainLink) (at : Place) → Contains (reach postings p links) at
     → (rest : List Place) × IsChoice postings p links (at ∷ rest)
@@ -338,17 +315,15 @@ link_marks_are postings p [] starts cs ordered rising within counted = refl
 link_marks_are postings p (link ∷ links) starts cs ordered rising within counted =
     let L = listed_places postings in
     let more = link_terms links in
-    let lists = map L (link.to.terms ++ more) in
     let k = length p.terms in
     let n = length link.to.terms in
-    let all = linked link.to links lists in
     let next = onward postings p link links starts in
     let goes_on = λ (b : Place). list_any (λ a. near_from p link a b) starts in
     let next_rising = rising_filter goes_on (reach postings link.to links) (reach_rising postings link.to links ordered) in
     let next_takes = all_filter (Takes postings 0 link.to.terms) goes_on (reach postings link.to links) (reach_takes postings link.to links) in
     let next_within = λ (b : Place) (c : Contains next b). (filter_from goes_on (reach postings link.to links) b c).0 in
     let next_counted = counted_next postings p link links starts cs counted within in
-    let is_next : near_those link.most k starts n (head_of all) ≡ next =
+    let is_next : near_those link.most k starts n (head_of (linked link.to links (map L (link.to.terms ++ more)))) ≡ next =
     ap (near_those link.most k starts n) (linked_are postings link.to links ordered)
     ∙ near_is link.most k starts n (reach postings link.to links) rising (reach_rising postings link.to links ordered) in
     simp (
@@ -402,15 +377,9 @@ lists_for postings tree = map (listed_places postings) (terms_in tree)
 pub accepted_is : (postings : List Posting) (tree : Tree) → AllPairs IsBefore postings → is_accepted tree (lists_for postings tree) ≡ accepts postings tree
 accepted_is postings (phrase p) ordered = ap (λ (s : List Place). is_filled s) (starts_are postings p.filter p.terms ordered)
 accepted_is postings (chain p links) ordered = chain_accepts postings p links ordered
-accepted_is postings (both p q) ordered =
-    let L = listed_places postings in let ts = terms_in p in let us = terms_in q in
-    simp (front_part L ts us, back_part L ts us, accepted_is postings p ordered, accepted_is postings q ordered)
-accepted_is postings (either p q) ordered =
-    let L = listed_places postings in let ts = terms_in p in let us = terms_in q in
-    simp (front_part L ts us, back_part L ts us, accepted_is postings p ordered, accepted_is postings q ordered)
-accepted_is postings (without p q) ordered =
-    let L = listed_places postings in let ts = terms_in p in let us = terms_in q in
-    simp (front_part L ts us, back_part L ts us, accepted_is postings p ordered, accepted_is postings q ordered)
+accepted_is postings (both p q) ordered = grind (arith, nat_tests, accepted_is postings p ordered, accepted_is postings q ordered, front_part, back_part)
+accepted_is postings (either p q) ordered = grind (arith, nat_tests, accepted_is postings p ordered, accepted_is postings q ordered, front_part, back_part)
+accepted_is postings (without p q) ordered = grind (arith, nat_tests, accepted_is postings p ordered, accepted_is postings q ordered, front_part, back_part)
 
 phrase_marks : (postings : List Posting) (p : PlainPhrase) → AllPairs IsBefore postings
     → marks_from 0 (map (listed_places postings) p.terms) (starts_of p (map (listed_places postings) p.terms))
@@ -423,8 +392,7 @@ phrase_marks postings p ordered =
 two_marks : (postings : List Posting) (p q : Tree) → marks_of p (lists_for postings p) ≡ taken postings p → marks_of q (lists_for postings q) ≡ taken postings q
     → marks_of p (take (length (terms_in p)) (map (listed_places postings) (terms_in p ++ terms_in q))) ++ marks_of q
     (drop (length (terms_in p)) (map (listed_places postings) (terms_in p ++ terms_in q))) ≡ taken postings p ++ taken postings q
-two_marks postings p q left right =
-    let L = listed_places postings in simp (front_part L (terms_in p) (terms_in q), back_part L (terms_in p) (terms_in q), left, right)
+two_marks postings p q left right = grind (arith, nat_tests, front_part, back_part)
 
 pub marked_is : (postings : List Posting) (tree : Tree) → AllPairs IsBefore postings → marks_of tree (lists_for postings tree) ≡ taken postings tree
 marked_is postings (phrase p) ordered = phrase_marks postings p ordered

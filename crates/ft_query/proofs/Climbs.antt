@@ -1,6 +1,6 @@
 -- The evaluation of a query from its first operand on, one joint after the other.
-use Rattle.std.proofs.Common.{◌≡◌, ℕ, ◌+◌, ◌-◌, ◌≤◌, ◌<◌, ◌^◌, Bool, List, [], ◌∷◌, ◌++◌, length, take, drop, refl, sym, ap, ◌∙◌, subst, append-nil, append_assoc, add_assoc, arith, Ok, length-append, length-take-le, take-append-drop}
-use Rattle.ft_query.proofs.Common.{nil_from_length, take-append-le, drop-append-le, Place, Offset, Steps, LentPlaces, By, Joint, Found, Wanted, Docids, Offsets, Tree, phrase, chain, both, either, without, tree_of, terms_in, node_count, width, more_steps, TakesAtMost, joined_sides, joined_answer, joined_marks, whole, is_accepted, marks_of, numbered_offsets, if_wanted, plain_lists, visit_cost, own_lists, lists_after, HaveLists, Evaluates, Joins}
+use Rattle.std.proofs.Common.{◌≡◌, ℕ, ◌+◌, ◌-◌, ◌≤◌, ◌<◌, ◌^◌, Bool, List, [], ◌∷◌, ◌++◌, length, take, drop, refl, sym, ap, ◌∙◌, subst, append-nil, append_assoc, add_assoc, arith, Ok, length-append, length-take-le, take-append-drop, rules}
+use Rattle.ft_query.proofs.Common.{nil_from_length, take-append-le, drop-append-le, Place, Offset, Steps, LentPlaces, By, Joint, Found, Wanted, Docids, Offsets, Tree, phrase, chain, both, either, without, tree_of, terms_in, node_count, width, more_steps, TakesAtMost, joined_sides, joined_answer, joined_marks, whole, is_accepted, marks_of, numbered_offsets, if_wanted, plain_lists, visit_cost, own_lists, lists_after, HaveLists, Evaluates, Joins, nat_tests, common_steps}
 use Rattle.ft_query.proofs.Passes.{numbered_more, lists_front, lists_back}
 use Rattle.ft_query.proofs.Spines.{joined_terms, part_terms, right_width, whole_last}
 use Rattle.ft_query.specs.declared.walk.joint.By.TheVariants as by
@@ -39,47 +39,21 @@ told_count Offsets ms more = sym (length-append ms more)
 joined_evaluates : (b : By) (p q : Tree) (front own : List LentPlaces) (left all : Bool) (old mid new : Found) → length front ≡ length (terms_in p)
     → Evaluates (Ok left) old mid p front → Joins b left (Ok all) mid new q own → Evaluates (Ok all) old new (joined_sides p b q) (front ++ own)
 joined_evaluates b p q front own left all old mid new same one two =
-    let n = length (terms_in p) in
-    let ls = plain_lists (front ++ own) in
-    let is_front = lists_front front own n same in
-    let is_back = lists_back front own n same in
-    let ms = marks_of p (plain_lists front) in
-    let more = joined_marks b (marks_of q (plain_lists own)) in
-    let are : ms ++ more ≡ marks_of (joined_sides p b q) ls =
-    simp (← joined_marked p b q ls, is_front, is_back) in
-    let sum = length-append front own in
-    record {
-      accepted = simp (two.both, one.accepted, joined_accepts p b q ls, is_front, is_back);
-      wanted = two.wanted ∙ one.wanted;
-      offsets =
-          simp (two.offsets, one.offsets, one.wanted, one.next)
-          (told old.wanted old.offsets.items old.next ms more
-          ∙ ap (λ m. old.offsets.items ++ numbered_offsets old.next (if_wanted old.wanted m)) are);
-      next =
-          simp (two.next, one.wanted, one.next)
-          (add_assoc old.next (length (if_wanted old.wanted ms)) (length (if_wanted old.wanted more))
-          ∙ ap (λ k. old.next + k) (told_count old.wanted ms more ∙ ap (λ m. length (if_wanted old.wanted m)) are));
-      room = omega (arith, one.room, two.room, sum);
-    }
+    search (rules, length-append, joined_marked, lists_front, lists_back, joined_accepts, told, told_count)
 
 -- ---- the steps
 
 cost_front : (p : Tree) (front own : List LentPlaces) → length front ≡ length (terms_in p) → (b : By) (q : Tree)
     → visit_cost (joined_sides p b q) (plain_lists (front ++ own)) ≡ 1 + (visit_cost p (plain_lists front) + visit_cost q (plain_lists own))
-cost_front p front own same b q =
-    let n = length (terms_in p) in
-    simp (joined_cost p b q (plain_lists (front ++ own)), lists_front front own n same, lists_back front own n same)
+cost_front p front own same b q = grind (arith, nat_tests, joined_cost, lists_front, lists_back, nat_tests)
 
 -- each node is a step
 pub nodes_cost : (t : Tree) (ls : List (List Place)) → node_count t ≤ visit_cost t ls
 nodes_cost (phrase p) ls = omega arith
 nodes_cost (chain p links) ls = omega arith
-nodes_cost (both p q) ls =
-    let one = nodes_cost p (take (length (terms_in p)) ls) in let other = nodes_cost q (drop (length (terms_in p)) ls) in omega (arith, one, other)
-nodes_cost (either p q) ls =
-    let one = nodes_cost p (take (length (terms_in p)) ls) in let other = nodes_cost q (drop (length (terms_in p)) ls) in omega (arith, one, other)
-nodes_cost (without p q) ls =
-    let one = nodes_cost p (take (length (terms_in p)) ls) in let other = nodes_cost q (drop (length (terms_in p)) ls) in omega (arith, one, other)
+nodes_cost (both p q) ls = grind (arith, nodes_cost p (take (length (terms_in p)) ls), nodes_cost q (drop (length (terms_in p)) ls))
+nodes_cost (either p q) ls = grind (arith, nodes_cost p (take (length (terms_in p)) ls), nodes_cost q (drop (length (terms_in p)) ls))
+nodes_cost (without p q) ls = grind (arith, nodes_cost p (take (length (terms_in p)) ls), nodes_cost q (drop (length (terms_in p)) ls))
 
 joined_nodes : (p : Tree) (b : By) (q : Tree) → node_count (joined_sides p b q) ≡ 1 + (node_count p + node_count q)
 joined_nodes p by.And q = refl
@@ -95,11 +69,7 @@ takes_then m n a b c one two = record { at_least = omega arith; at_most = omega 
 part_cost : (js : List Joint) (p : Tree) (front rest : List LentPlaces) → length front ≡ length (terms_in p)
     → length (front ++ rest) ≡ length (terms_in (whole js p))
     → visit_cost p (plain_lists front) ≤ visit_cost (whole js p) (plain_lists (front ++ rest))
-part_cost [] p front rest same all =
-    let sum = length-append front rest in
-    let none = nil_from_length rest (omega (arith, sum, same, all)) in
-    let is : front ++ rest ≡ front = ap (λ l. front ++ l) none ∙ append-nil front in
-    subst (λ l. visit_cost p (plain_lists front) ≤ visit_cost p (plain_lists l)) (sym is) (omega arith)
+part_cost [] p front rest same all = grind (arith, nat_tests, length-append, nil_from_length, append-nil, nat_tests)
 part_cost (j ∷ js) p front rest same all =
     let q = tree_of j.right.now in
     let w = whole js p in
@@ -108,8 +78,7 @@ part_cost (j ∷ js) p front rest same all =
     let far = drop k rest in
     let more = part_terms js p in
     let sum = ap length (joined_terms w j.by q) ∙ length-append (terms_in w) (terms_in q) in
-    let two = length-append front rest in
-    let short : length near ≡ k = length-take-le k rest (omega (arith, more, sum, two, same, all)) in
+    let short : length near ≡ k = length-take-le k rest (omega (arith, more, sum, length-append front rest, same, all)) in
     let first : length (front ++ near) ≡ length (terms_in w) = length-append front near ∙ omega (arith, short, more, same) in
     let inner = part_cost js p front near same first in
     let cost = cost_front w (front ++ near) far first j.by q in
@@ -147,19 +116,7 @@ climbs_fit : {query : Tree} {lists rest : List LentPlaces} (js : List Joint) (j 
     → Climbs query lists rest (js ++ j ∷ []) left old mid begun steps → length lists ≡ length (terms_in query) → old.next + length lists < 2 ^ 64
     → Fits query (tree_of j.right.now) rest mid
 climbs_fit {query} {lists} {rest} js j {left} {old} {mid} {begun} {steps} at same fits =
-    let p = at.part in
-    let q = tree_of j.right.now in
-    let is = sym (whole_last js j p) ∙ at.all in
-    let terms = part_terms js (joined_sides p j.by q) in
-    let all_terms = ap (λ t. length (terms_in t)) is in
-    let sum = ap length (joined_terms p j.by q) ∙ length-append (terms_in p) (terms_in q) in
-    let two = ap length at.split in
-    let parts = length-append at.front rest in
-    record {
-      lists = omega (arith, terms, all_terms, sum, two, parts, at.each, same);
-      numbers = omega (arith, two, parts, at.evaluates.room, fits);
-      less = right_width js j p query at.all;
-    }
+    search (rules, tree_of j.right.now, part_terms, whole_last, joined_terms, length-append, right_width)
 
 -- a right side more
 climbs_on : {query : Tree} {lists rest own behind : List LentPlaces} {js : List Joint}
@@ -170,16 +127,13 @@ climbs_on : {query : Tree} {lists rest own behind : List LentPlaces} {js : List 
 climbs_on {query} {lists} {rest} {own} {behind} {js} j {left} {all} {old} {mid} {new} {begun} {steps} {after} at parts count joins taken nodes =
     let p = at.part in
     let q = tree_of j.right.now in
-    let sum = ap length (joined_terms p j.by q) ∙ length-append (terms_in p) (terms_in q) in
-    let two = length-append at.front own in
-    let cost = cost_front p at.front own at.each j.by q in
     let same : visit_cost p (plain_lists at.front) + (1 + visit_cost q (plain_lists own))
-    ≡ visit_cost (joined_sides p j.by q) (plain_lists (at.front ++ own)) = omega (arith, cost) in
+    ≡ visit_cost (joined_sides p j.by q) (plain_lists (at.front ++ own)) = omega (arith, cost_front p at.front own at.each j.by q) in
     record {
       part = joined_sides p j.by q;
       front = at.front ++ own;
       all = sym (whole_last js j p) ∙ at.all;
-      each = omega (arith, sum, two, at.each, count);
+      each = omega (arith, ap length (joined_terms p j.by q) ∙ length-append (terms_in p) (terms_in q), length-append at.front own, at.each, count);
       split = append_assoc at.front own behind ∙ ap (λ l. at.front ++ l) parts ∙ at.split;
       evaluates = joined_evaluates j.by p q at.front own left all old mid new at.each at.evaluates joins;
       taken = subst (λ n. TakesAtMost n begun after) same (takes_then _ _ begun steps after at.taken taken);
@@ -197,15 +151,13 @@ climb_failed {query} {lists} {rest} own behind js j {left} {old} {mid} {begun} {
     let p = at.part in
     let q = tree_of j.right.now in
     let sum = ap length (joined_terms p j.by q) ∙ length-append (terms_in p) (terms_in q) in
-    let two = length-append at.front own in
-    let each : length (at.front ++ own) ≡ length (terms_in (joined_sides p j.by q)) = omega (arith, sum, two, at.each, count) in
+    let each : length (at.front ++ own) ≡ length (terms_in (joined_sides p j.by q)) = omega (arith, sum, length-append at.front own, at.each, count) in
     let split = append_assoc at.front own behind ∙ ap (λ l. at.front ++ l) parts ∙ at.split in
     let is = sym (whole_last js j p) ∙ at.all in
-    let cost = cost_front p at.front own at.each j.by q in
     let more = part_cost js (joined_sides p j.by q) (at.front ++ own) behind each (ap length split ∙ same ∙ ap (λ t. length (terms_in t)) (sym is)) in
     let all_cost = ap (λ t. visit_cost t (plain_lists (at.front ++ own ++ behind))) is ∙ ap (λ l. visit_cost query (plain_lists l)) split in
     let both_taken = takes_then _ _ begun steps after at.taken taken in
-    record { at_least = both_taken.at_least; at_most = omega (arith, both_taken.at_most, cost, more, all_cost) }
+    record { at_least = both_taken.at_least; at_most = omega (arith, both_taken.at_most, cost_front p at.front own at.each j.by q, more, all_cost) }
 
 -- ---- the same, where the lists of other parts come after the query's
 
@@ -217,8 +169,7 @@ pub record Climbing (query : Tree) (lists left : List LentPlaces) (joints : List
 
 pub with_joints : {query : Tree} {lists left : List LentPlaces} {js ks : List Joint} {accepted : Bool} {old now : Found} {begun steps : Steps}
     → js ≡ ks → Climbing query lists left js accepted old now begun steps → Climbing query lists left ks accepted old now begun steps
-with_joints {query} {lists} {left} {js} {ks} {accepted} {old} {now} {begun} {steps} is at =
-    subst (λ joints. Climbing query lists left joints accepted old now begun steps) is at
+with_joints {query} {lists} {left} {js} {ks} {accepted} {old} {now} {begun} {steps} is at = grind arith
 
 -- the lists of a part are the first of those that are the query's
 record IsFront (leaf query : Tree) (lists : List LentPlaces) : Type 0 where
@@ -231,12 +182,10 @@ front_is : (joints : List Joint) (leaf query : Tree) (lists : List LentPlaces) �
     → IsFront leaf query lists
 front_is joints leaf query lists all enough =
     let k = length (terms_in leaf) in
-    let few = part_terms joints leaf in
-    let same = ap (λ t. length (terms_in t)) all in
     let own = own_lists query lists in
     let long = length-take-le (length (terms_in query)) lists enough in
     let parts = take-append-drop (length (terms_in query)) lists in
-    let short : k ≤ length own = omega (arith, few, same, long) in
+    let short : k ≤ length own = omega (arith, part_terms joints leaf, ap (λ t. length (terms_in t)) all, long) in
     record {
       own = ap (take k) (sym parts) ∙ take-append-le k own (lists_after query lists) short;
       after = ap (drop k) (sym parts) ∙ drop-append-le k own (lists_after query lists) short;
@@ -246,10 +195,7 @@ front_is joints leaf query lists all enough =
 
 pub leaf_fits : {query : Tree} {lists : List LentPlaces} {found : Found} (joints : List Joint) (leaf : Tree) → whole joints leaf ≡ query
     → HaveLists found (terms_in query) lists → HaveLists found (terms_in leaf) lists
-leaf_fits {query} {lists} {found} joints leaf all have =
-    let few = part_terms joints leaf in
-    let same = ap (λ t. length (terms_in t)) all in
-    record { each = omega (arith, few, same, have.each); fits = have.fits }
+leaf_fits {query} {lists} {found} joints leaf all have = search (rules, part_terms joints leaf, ap, have.each)
 
 -- the first operand
 pub climb_begun : {query : Tree} {lists left : List LentPlaces} {accepted : Bool} {old now : Found} {begun steps : Steps} (joints : List Joint) (leaf : Tree)
@@ -296,17 +242,15 @@ pub climbing_fits : {query : Tree} {lists left : List LentPlaces} (js : List Joi
     → Climbing query lists left (js ++ j ∷ []) accepted old mid begun steps → HaveLists old (terms_in query) lists
     → FitsNext query (tree_of j.right.now) left mid
 climbing_fits {query} {lists} {left} js j {accepted} {old} {mid} {begun} {steps} at have =
-    let own = own_lists query lists in
     let after = lists_after query lists in
     let long = length-take-le (length (terms_in query)) lists have.each in
-    let parts = ap length (sym (take-append-drop (length (terms_in query)) lists)) ∙ length-append own after in
+    let parts = ap length (sym (take-append-drop (length (terms_in query)) lists)) ∙ length-append (own_lists query lists) after in
     let fit = climbs_fit js j at.climbs long (omega (arith, have.fits, long, have.each)) in
     let is = ap length at.stands ∙ length-append at.rest after in
-    let split = sym (ap length at.climbs.split) ∙ length-append at.climbs.front at.rest in
     record {
       have = record {
         each = omega (arith, fit.lists, is);
-        fits = omega (arith, have.fits, parts, is, split, at.climbs.evaluates.room);
+        fits = omega (arith, have.fits, parts, is, sym (ap length at.climbs.split) ∙ length-append at.climbs.front at.rest, at.climbs.evaluates.room);
       };
       less = fit.less;
     }
@@ -372,10 +316,9 @@ pub climbed : {query : Tree} {lists left : List LentPlaces} {accepted : Bool} {o
     → Climbing query lists left [] accepted old now begun steps → length (terms_in query) ≤ length lists
     → IsClimbed query lists left accepted old now begun steps
 climbed {query} {lists} {left} {accepted} {old} {now} {begun} {steps} at enough =
-    let long = length-take-le (length (terms_in query)) lists enough in
     let split = sym (ap length at.climbs.split) ∙ length-append at.climbs.front at.rest in
     let terms = ap (λ t. length (terms_in t)) at.climbs.all in
-    let none = nil_from_length at.rest (omega (arith, split, long, terms, at.climbs.each)) in
+    let none = nil_from_length at.rest (omega (arith, split, length-take-le (length (terms_in query)) lists enough, terms, at.climbs.each)) in
     let front : at.climbs.front ≡ own_lists query lists =
     sym (append-nil at.climbs.front) ∙ ap (λ l. at.climbs.front ++ l) (sym none) ∙ at.climbs.split in
     let is = at.climbs.all in
@@ -423,14 +366,12 @@ pub next_joint : {query : Tree} {lists left : List LentPlaces} {around all joint
     → ClimbingOver query lists left around all accepted old now begun steps → all ≡ joints ++ j ∷ [] → length around < length all
     → ClimbingNext query lists left around joints j accepted old now begun steps
 next_joint {query} {lists} {left} {around} {all} {joints} {j} {accepted} {old} {now} {begun} {steps} at last more =
-    let long = ap length last in
-    let is = own_last around at.own joints j (sym at.behind ∙ last) (omega (arith, more, long)) in
+    let is = own_last around at.own joints j (sym at.behind ∙ last) (omega (arith, more, ap length last)) in
     record { rest = is.rest; behind = is.behind; climbs = with_joints is.own_is at.climbs }
 
 pub no_joint : {query : Tree} {lists left : List LentPlaces} {around all : List Joint} {accepted : Bool} {old now : Found} {begun steps : Steps}
     → ClimbingOver query lists left around all accepted old now begun steps → length all ≤ length around
     → (all ≡ around) × Climbing query lists left [] accepted old now begun steps
 no_joint {query} {lists} {left} {around} {all} {accepted} {old} {now} {begun} {steps} at few =
-    let sum = ap length at.behind ∙ length-append around at.own in
-    let none = nil_from_length at.own (omega (arith, sum, few)) in
+    let none = nil_from_length at.own (omega (arith, ap length at.behind ∙ length-append around at.own, few)) in
     (at.behind ∙ ap (λ l. around ++ l) none ∙ append-nil around, with_joints none at.climbs)

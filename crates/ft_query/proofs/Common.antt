@@ -39,7 +39,8 @@ pub use Rattle.ft_query.specs.Machine.{capped, asks_much, query_within, plain_le
 pub use Rattle.ft_query.specs.Marked.{own_lists, lists_after, HaveLists, Evaluates, Joins, AreLinked, chain_tree}
 pub use Rattle.ft_query.specs.Occurs.{accepts, fits, takes, token_fits, is_listed, take_row, is_within, places_of, occurs, occurrences, are_near, IsChoice, choices, heads, taken_in, taken_links, begins_near, PlainHit, offsets_of, hits_of, is_at, offsets_at, taken, found_of, offset_numbers, offsets_text, shifted}
 pub use Rattle.ft_query.specs.Pass.{tree_from, Waiting, nothing_waits, Last, operator, filtered, chained, near_to, near_filtered, State, join, not_whole, and_whole, or_whole, not_state, and_state, or_state, begin, close, after_operand, pass_step, operand, finish, run, pass_start, last_state}
-pub use Rattle.ft_query.specs.Reads.{is_unclosed_part, term_count, is_far, open_after, nests_deep, query_from, query_unless, query_of, Reads, first_fault, IsMalformed, some_or_malformed}
+pub use Rattle.ft_query.specs.Reads.{is_unclosed_part, term_count, is_far, open_after, nests_deep, query_from, query_unless, Reads, first_fault, IsMalformed, some_or_malformed}
+unfoldable pub use Rattle.ft_query.specs.Reads.{query_of}
 pub use Rattle.ft_query.specs.Search.{walk_at, stands_at, Finds, FindsNext}
 pub use Rattle.ft_query.specs.Spines.{joined_sides, joined_answer, joined_marks, whole, AddsSpine, leaf_tree}
 pub use Rattle.ft_query.specs.Taken.{more_steps, TakesAtMost, TakesSteps, TakesOf, LooksAtAll}

@@ -1,7 +1,7 @@
 -- What considering one document does to a walk.
-use Rattle.std.proofs.Common.{◌≡◌, ◌≢◌, ℕ, ◌+◌, ◌-◌, ◌*◌, ◌^◌, ◌<◌, ◌≤◌, ◌⊎◌, inl, inr, ℤ, ◌<ℤ◌, min, Bool, true, false, cond, List, [], ◌∷◌, ◌++◌, length, map, refl, sym, ap, subst, ◌∙◌, arith, Option, Some, None, ⊎_elim, AllPairs, sum_by, int_lt, if◌then◌else◌, option_map, IfSome, int_eq, mul-suc}
+use Rattle.std.proofs.Common.{◌≡◌, ◌≢◌, ℕ, ◌+◌, ◌-◌, ◌*◌, ◌^◌, ◌<◌, ◌≤◌, ◌⊎◌, inl, inr, ℤ, ◌<ℤ◌, min, Bool, true, false, cond, List, [], ◌∷◌, ◌++◌, length, map, refl, sym, ap, subst, ◌∙◌, arith, Option, Some, None, ⊎_elim, AllPairs, sum_by, int_lt, if◌then◌else◌, option_map, IfSome, int_eq, mul-suc, rules}
 use Rattle.std.proofs.lemmas.Simd.{map-map}
-use Rattle.ft_query.proofs.Common.{recursion_from_All, All-nil, All-head, Decides-int_eq, sum_by-cons, Query, Place, Offset, Cursor, Wanted, Posting, Document, AreDocuments, IsBefore, PlaceList, place_count, Tree, tree_of, PlainHit, accepts, offsets_of, hits_of, terms_in, lists_of, node_count, width, entry_count, candidate_count, lists_left, places_at, passed, least_of, least_from, listed_for, listed_places, if_wanted, Walk, StandsBefore, steps_to_come, Went, hit_at, walk_at, Finds, Steps, more_steps, TakesSteps, TakesAtMost}
+use Rattle.ft_query.proofs.Common.{recursion_from_All, All-nil, All-head, Decides-int_eq, sum_by-cons, Query, Place, Offset, Cursor, Wanted, Posting, Document, AreDocuments, IsBefore, PlaceList, place_count, Tree, tree_of, PlainHit, accepts, offsets_of, hits_of, terms_in, lists_of, node_count, width, entry_count, candidate_count, lists_left, places_at, passed, least_of, least_from, listed_for, listed_places, if_wanted, Walk, StandsBefore, steps_to_come, Went, hit_at, walk_at, Finds, Steps, more_steps, TakesSteps, TakesAtMost, nat_tests, common_steps}
 use Rattle.ft_query.proofs.Spines.{some_nodes}
 use Rattle.ft_query.proofs.Costs.{terms_width}
 use Rattle.ft_query.proofs.TokenOnce.{pairs_head}
@@ -55,19 +55,7 @@ answer_here wanted tree d v = if v then Some (if_wanted wanted (offsets_of d.pos
 hits_here : (wanted : Wanted) (docid : ℤ) (answer : Option (List Offset)) (tree : Tree) (d : Document) (ds : List Document) → d.docid ≡ docid
     → answer ≡ answer_here wanted tree d (accepts d.postings tree) →
     hits_of tree (d ∷ ds) ≡ hit_at (option_map (λ (o : List Offset). docid) answer) (offsets_of d.postings tree) ++ hits_of tree ds
-hits_here wanted docid answer tree d ds one here = cases (accepts d.postings tree) refl
-  where
-    cases : (v : Bool) → accepts d.postings tree ≡ v
-        → hits_of tree (d ∷ ds) ≡ hit_at (option_map (λ (o : List Offset). docid) answer) (offsets_of d.postings tree) ++ hits_of tree ds
-    cases true is =
-        with_it tree d ds is
-        ∙ ap (λ z. record { docid = z; offsets = offsets_of d.postings tree } ∷ hits_of tree ds) one
-        ∙ ap (λ o. hit_at (option_map (λ (os : List Offset). docid) o) (offsets_of d.postings tree) ++ hits_of tree ds)
-        (sym (here ∙ ap (answer_here wanted tree d) is))
-    cases false is =
-        without_it tree d ds is
-        ∙ ap (λ o. hit_at (option_map (λ (os : List Offset). docid) o) (offsets_of d.postings tree) ++ hits_of tree ds)
-        (sym (here ∙ ap (answer_here wanted tree d) is))
+hits_here wanted docid answer tree d ds one here = grind arith
 
 told_here : (wanted : Wanted) (answer : Option (List Offset)) (tree : Tree) (d : Document) (v : Bool) → answer ≡ answer_here wanted tree d v
     → IfSome answer (λ o. o ≡ if_wanted wanted (offsets_of d.postings tree))
@@ -140,10 +128,7 @@ went_on wanted q cursors passed_by s a b t docid offsets documents stands least 
     sum_mapped : {X : Type 0} (f : X → List Place) (xs : List X) → sum_by length (map f xs) ≡ sum_by (λ x. length (f x)) xs
     sum_mapped f [] = refl
     sum_mapped f (x ∷ xs) =
-        let more = sum_mapped f xs in
-        let l = sum_by-cons length (f x) (map f xs) in
-        let r = sum_by-cons (λ y. length (f y)) x xs in
-        omega arith
+        omega (arith, sum_mapped f xs, sum_by-cons length (f x) (map f xs), sum_by-cons (λ y. length (f y)) x xs)
 
 -- ---- what a pass leaves
 
@@ -153,62 +138,21 @@ fewer docid (x ∷ l) = elim (int_eq x.docid docid) as (λ v. length (cond v l (
 
 none_more : (docid : ℤ) (ls : List (List PlaceList)) → sum_by length (map (passed docid) ls) ≤ sum_by length ls
 none_more docid [] = omega arith
-none_more docid (l ∷ ls) =
-    let here = fewer docid l in
-    let rest = none_more docid ls in
-    let a = sum_by-cons length (passed docid l) (map (passed docid) ls) in
-    let b = sum_by-cons length l ls in
-    omega arith
+none_more docid (l ∷ ls) = search (rules, none_more docid ls, fewer, sum_by-cons)
 
 -- the least is the docid so far, or one list gets shorter
 less_left : (docid : ℤ) (so_far : Option ℤ) (ls : List (List PlaceList)) → least_from so_far ls ≡ Some docid
     → (so_far ≡ Some docid) ⊎ (sum_by length (map (passed docid) ls) < sum_by length ls)
 less_left docid so_far [] least = inl least
-less_left docid so_far (l ∷ ls) least = ⊎_elim
-    (λ (here : least_of so_far l ≡ Some docid). first l here)
-    (λ (shorter : sum_by length (map (passed docid) ls) < sum_by length ls).
-    let one = fewer docid l in
-    let a = sum_by-cons length (passed docid l) (map (passed docid) ls) in
-    let b = sum_by-cons length l ls in
-    inr (omega arith))
-    (less_left docid (least_of so_far l) ls least)
-  where
-    same_docid : (x : PlaceList) (xs : List PlaceList) → (Some x.docid ≡ Some docid)
-        → sum_by length (map (passed docid) ((x ∷ xs) ∷ ls)) < sum_by length ((x ∷ xs) ∷ ls)
-    same_docid x xs same =
-        let is : int_eq x.docid docid ≡ true = (Decides-int_eq x.docid docid).1 (cc same) in
-        let passes : length (passed docid (x ∷ xs)) ≡ length xs = ap (λ v. length (cond v xs (x ∷ xs))) is in
-        let rest = none_more docid ls in
-        let a = sum_by-cons length (passed docid (x ∷ xs)) (map (passed docid) ls) in
-        let b = sum_by-cons length (x ∷ xs) ls in
-        omega arith
-
-    first : (l : List PlaceList) → least_of so_far l ≡ Some docid
-        → (so_far ≡ Some docid) ⊎ (sum_by length (map (passed docid) (l ∷ ls)) < sum_by length (l ∷ ls))
-    first [] here = inl here
-    first (x ∷ xs) here = by so_far here
-      where
-        by : (o : Option ℤ) → least_of o (x ∷ xs) ≡ Some docid
-            → (o ≡ Some docid) ⊎ (sum_by length (map (passed docid) ((x ∷ xs) ∷ ls)) < sum_by length ((x ∷ xs) ∷ ls))
-        by None here = inr (same_docid x xs here)
-        by (Some z) here = less (int_lt x.docid z) refl
-          where
-            less : (v : Bool) → int_lt x.docid z ≡ v
-                → (Some z ≡ Some docid) ⊎ (sum_by length (map (passed docid) ((x ∷ xs) ∷ ls)) < sum_by length ((x ∷ xs) ∷ ls))
-            less true is = inr (same_docid x xs (sym (ap (λ v. if v then Some x.docid else Some z) is) ∙ here))
-            less false is = inl (sym (ap (λ v. if v then Some x.docid else Some z) is) ∙ here)
+less_left docid so_far (l ∷ ls) least = search (rules, less_left docid (least_of so_far l) ls least, none_more, sum_by-cons, Decides-int_eq, common_steps)
 
 passes_one : (docid : ℤ) (ls : List (List PlaceList)) → least_from None ls ≡ Some docid → sum_by length (map (passed docid) ls) < sum_by length ls
-passes_one docid ls least = ⊎_elim
-    (λ (never : None ≡ Some docid). cc)
-    (λ (less : sum_by length (map (passed docid) ls) < sum_by length ls). less)
-    (less_left docid None ls least)
+passes_one docid ls least = grind (arith, nat_tests, less_left docid None ls least)
 
 pub fewer_left : (docid : ℤ) (cursors passed_by : List Cursor) → least_from None (map lists_left cursors) ≡ Some docid
     → map lists_left passed_by ≡ map (passed docid) (map lists_left cursors) →
     sum_by length (map lists_left passed_by) < sum_by length (map lists_left cursors)
-fewer_left docid cursors passed_by least left =
-    subst (λ ls. sum_by length ls < sum_by length (map lists_left cursors)) (sym left) (passes_one docid (map lists_left cursors) least)
+fewer_left docid cursors passed_by least left = grind (arith, nat_tests, passes_one docid (map lists_left cursors) least)
 
 -- ---- one walk after the other
 
@@ -220,6 +164,6 @@ went_then q a b c s t u hits documents first then_on = record {
   rest = then_on.rest;
   stands = then_on.stands;
   hits_are = first.hits_are ∙ then_on.hits_are;
-  at_most = let x = first.at_most in let y = then_on.at_most in omega arith;
-  at_least = let x = first.at_least in let y = then_on.at_least in omega arith;
+  at_most = omega (arith, first.at_most, then_on.at_most);
+  at_least = omega (arith, first.at_least, then_on.at_least);
 }

@@ -1,12 +1,12 @@
 -- The steps for one document are few for each place of its lists and each term of the query.
-use Rattle.std.proofs.Common.{◌≡◌, ℕ, ◌+◌, ◌*◌, ◌≤◌, Bool, true, false, cond, List, [], ◌∷◌, ◌++◌, length, take, drop, zero, suc, refl, sym, ap, ◌∙◌, subst, arith, max, ℤ, filter, flat_map, sum_by, Option, mul-le-mul_left, length-append, length-take-le, length-drop, take_all}
-use Rattle.ft_query.proofs.Common.{length-map, sum_by-cons, Place, Cursor, Steps, TakesAtMost, LentPlaces, own_lists, PlainTerm, PlainPhrase, PlainLink, Tree, phrase, chain, both, either, without, terms_in, width, lists_left, places_at, among, may_begin, followed, starts_from, starts_of, near_those, head_of, linked, total, linked_cost, link_cost, visit_cost, plain_lists, places_in}
+use Rattle.std.proofs.Common.{◌≡◌, ℕ, ◌+◌, ◌*◌, ◌≤◌, Bool, true, false, cond, List, [], ◌∷◌, ◌++◌, length, take, drop, zero, suc, refl, sym, ap, ◌∙◌, subst, arith, max, ℤ, filter, flat_map, sum_by, Option, mul-le-mul_left, length-append, length-take-le, length-drop, take_all, rules}
+use Rattle.ft_query.proofs.Common.{length-map, sum_by-cons, Place, Cursor, Steps, TakesAtMost, LentPlaces, own_lists, PlainTerm, PlainPhrase, PlainLink, Tree, phrase, chain, both, either, without, terms_in, width, lists_left, places_at, among, may_begin, followed, starts_from, starts_of, near_those, head_of, linked, total, linked_cost, link_cost, visit_cost, plain_lists, places_in, nat_tests, common_steps}
 use Rattle.ft_query.proofs.Passes.{among_short, followed_few, near_short, filter_short}
 
 total_split : (n : ℕ) (ls : List (List Place)) → total (take n ls) + total (drop n ls) ≡ total ls
 total_split zero ls = omega arith
 total_split (suc n) [] = refl
-total_split (suc n) (l ∷ ls) = let rest = total_split n ls in omega (arith, rest)
+total_split (suc n) (l ∷ ls) = omega (arith, total_split n ls)
 
 -- ---- phrases
 
@@ -17,38 +17,26 @@ one_le false i starts list = among_short i 0 starts list
 followed_le : (i : ℕ) (ts : List PlainTerm) (ls : List (List Place)) (starts : List Place) → length (followed i ts ls starts) ≤ length starts
 followed_le i [] ls starts = omega arith
 followed_le i (t ∷ ts) [] starts = omega arith
-followed_le i (t ∷ ts) (l ∷ ls) starts =
-    let rest = followed_le (i + 1) ts ls (cond t.first [] (among i 0 starts l)) in
-    let one = one_le t.first i starts l in
-    omega (arith, rest, one)
+followed_le i (t ∷ ts) (l ∷ ls) starts = grind (arith, nat_tests, followed_le (i + 1) ts ls (cond t.first [] (among i 0 starts l)), one_le t.first i starts l)
 
 followed_times : (i : ℕ) (ts : List PlainTerm) (ls : List (List Place)) (starts : List Place) → length ts ≡ length ls
     → length ts * length (followed i ts ls starts) ≤ total ls
 followed_times i [] ls starts same = omega arith
 followed_times i (t ∷ ts) [] starts same = absurd (omega arith)
 followed_times i (t ∷ ts) (l ∷ ls) starts same =
-    let next = cond t.first [] (among i 0 starts l) in
-    let rest = followed_times (i + 1) ts ls next (omega arith) in
-    let short = followed_le (i + 1) ts ls next in
-    let few = followed_few t.first i starts l in
-    omega (arith, rest, short, few)
+    grind (arith, nat_tests, followed_times (i + 1) ts ls (cond t.first [] (among i 0 starts l)) (omega arith), followed_le, followed_few)
 
 from_le : (only : Option ℕ) (ts : List PlainTerm) (ls : List (List Place)) → length (starts_from only ts ls) ≤ total ls
 from_le only [] ls = omega arith
 from_le only (t ∷ ts) [] = omega arith
-from_le only (t ∷ ts) (l ∷ ls) =
-    let rest = followed_le 1 ts ls (filter (may_begin only t.first) l) in
-    let one = filter_short (may_begin only t.first) l in
-    omega (arith, rest, one)
+from_le only (t ∷ ts) (l ∷ ls) = grind (arith, nat_tests, followed_le 1 ts ls (filter (may_begin only t.first) l), filter_short (may_begin only t.first) l)
 
 from_times : (only : Option ℕ) (ts : List PlainTerm) (ls : List (List Place)) → length ts ≡ length ls → length ts * length (starts_from only ts ls) ≤ total ls
 from_times only [] ls same = omega arith
 from_times only (t ∷ ts) [] same = omega arith
 from_times only (t ∷ ts) (l ∷ ls) same =
-    let rest = followed_le 1 ts ls (filter (may_begin only t.first) l) in
-    let times = followed_times 1 ts ls (filter (may_begin only t.first) l) (omega arith) in
     let one = filter_short (may_begin only t.first) l in
-    omega (arith, rest, times, one)
+    omega (arith, followed_le 1 ts ls (filter (may_begin only t.first) l), followed_times 1 ts ls (filter (may_begin only t.first) l) (omega arith), one)
 
 -- ---- chains
 
@@ -57,40 +45,22 @@ link_terms links = flat_map (λ link. link.to.terms) links
 
 linked_le : (p : PlainPhrase) (links : List PlainLink) (ls : List (List Place)) → length ls ≡ length (p.terms ++ link_terms links)
     → length (head_of (linked p links ls)) ≤ total (take (length p.terms) ls)
-linked_le p [] ls same =
-    let all = take_all (length p.terms) ls (let sum = length-append p.terms [] in omega (arith, sum, same)) in
-    subst (λ l. length (starts_of p ls) ≤ total l) (sym all) (from_le p.filter p.terms ls)
-linked_le p (link ∷ links) ls same =
-    let n = length p.terms in
-    let short = near_short link.most (length link.to.terms) (head_of (linked link.to links (drop n ls))) n (starts_of p (take n ls)) in
-    let one = from_le p.filter p.terms (take n ls) in
-    omega (arith, short, one)
+linked_le p [] ls same = grind (arith, nat_tests, length-append, take_all, from_le, nat_tests)
+linked_le p (link ∷ links) ls same = grind (arith, nat_tests, near_short, from_le)
 
 linked_times : (p : PlainPhrase) (links : List PlainLink) (ls : List (List Place)) → length ls ≡ length (p.terms ++ link_terms links)
     → length p.terms * length (head_of (linked p links ls)) ≤ total (take (length p.terms) ls)
-linked_times p [] ls same =
-    let sum = length-append p.terms [] in
-    let all = take_all (length p.terms) ls (omega (arith, sum, same)) in
-    subst (λ l. length p.terms * length (starts_of p ls) ≤ total l) (sym all) (from_times p.filter p.terms ls (omega (arith, sum, same)))
+linked_times p [] ls same = search (rules, take_all, from_times)
 linked_times p (link ∷ links) ls same =
     let n = length p.terms in
-    let sum = length-append p.terms (link_terms (link ∷ links)) in
-    let front = length-take-le n ls (omega (arith, sum, same)) in
-    let short = near_short link.most (length link.to.terms) (head_of (linked link.to links (drop n ls))) n (starts_of p (take n ls)) in
-    let one = from_times p.filter p.terms (take n ls) (sym front) in
-    let more = mul-le-mul_left n short in
-    omega (arith, more, one)
+    let front = length-take-le n ls (omega (arith, length-append p.terms (link_terms (link ∷ links)), same)) in
+    let more = mul-le-mul_left n (near_short link.most (length link.to.terms) (head_of (linked link.to links (drop n ls))) n (starts_of p (take n ls))) in
+    omega (arith, more, from_times p.filter p.terms (take n ls) (sym front))
 
 linked_bound : (p : PlainPhrase) (links : List PlainLink) (ls : List (List Place))
     → linked_cost p links ls + length (head_of (linked p links ls)) ≤ 6 * total ls
-linked_bound p [] ls = let one = from_le p.filter p.terms ls in omega (arith, one)
-linked_bound p (link ∷ links) ls =
-    let n = length p.terms in
-    let parts = total_split n ls in
-    let rest = linked_bound link.to links (drop n ls) in
-    let one = from_le p.filter p.terms (take n ls) in
-    let short = near_short link.most (length link.to.terms) (head_of (linked link.to links (drop n ls))) n (starts_of p (take n ls)) in
-    omega (arith, parts, rest, one, short)
+linked_bound p [] ls = omega (arith, from_le p.filter p.terms ls)
+linked_bound p (link ∷ links) ls = grind (arith, nat_tests, linked_bound link.to links (drop (length p.terms) ls), total_split, from_le, near_short)
 
 links_bound : (p : PlainPhrase) (links : List PlainLink) (ls : List (List Place)) (starts : List Place) → length ls ≡ length (p.terms ++ link_terms links)
     → link_cost (length p.terms) starts links (drop (length p.terms) ls) (drop 1 (linked p links ls)) ≤ length starts + 6 * total (drop (length p.terms) ls)
@@ -99,17 +69,14 @@ links_bound p (link ∷ links) ls starts same =
     let behind = drop (length p.terms) ls in
     let n = length link.to.terms in
     let all = linked link.to links behind in
-    let next = near_those link.most (length p.terms) starts n (head_of all) in
-    let sum = length-append p.terms (link_terms (link ∷ links)) in
     let left = length-drop (length p.terms) ls in
-    let many : length behind ≡ length (link.to.terms ++ link_terms links) = omega (arith, sum, left, same) in
-    let rest = links_bound link.to links behind next many in
+    let many : length behind ≡ length (link.to.terms ++ link_terms links) = omega (arith, length-append p.terms (link_terms (link ∷ links)), left, same) in
     let parts = total_split n behind in
     let short = near_short link.most (length p.terms) starts n (head_of all) in
     let few = linked_le link.to links behind many in
     let times = linked_times link.to links behind many in
     let more = mul-le-mul_left n short in
-    omega (arith, rest, parts, short, few, times, more)
+    omega (arith, links_bound link.to links behind (near_those link.most (length p.terms) starts n (head_of all)) many, parts, short, few, times, more)
 
 -- ---- queries
 
@@ -118,21 +85,13 @@ some_width p = omega arith
 
 links_few : (links : List PlainLink) → length links ≤ sum_by (λ link. max 1 (length link.to.terms)) links
 links_few [] = omega arith
-links_few (link ∷ links) =
-    let rest = links_few links in
-    let all = sum_by-cons (λ (l : PlainLink). max 1 (length l.to.terms)) link links in
-    omega (arith, rest, all)
+links_few (link ∷ links) = grind (arith, common_steps, links_few links, sum_by-cons)
 
 chain_bound : (p : PlainPhrase) (links : List PlainLink) (ls : List (List Place)) → length ls ≡ length (p.terms ++ link_terms links)
     → visit_cost (chain p links) ls ≤ 1 + length links + 12 * total ls
 chain_bound p links ls same =
-    let n = length p.terms in
-    let back = linked_bound p links ls in
-    let parts = total_split n ls in
-    let few = linked_le p links ls same in
-    let times = linked_times p links ls same in
     let rest = links_bound p links ls (head_of (linked p links ls)) same in
-    omega (arith, back, parts, few, times, rest)
+    omega (arith, linked_bound p links ls, total_split (length p.terms) ls, linked_le p links ls same, linked_times p links ls same, rest)
 
 two_bound : (p q : Tree) (ls : List (List Place)) → length ls ≡ length (terms_in p ++ terms_in q)
     → ((l : List (List Place)) → length l ≡ length (terms_in p) → visit_cost p l + 1 ≤ 12 * total l + 2 * width p)
@@ -141,51 +100,30 @@ two_bound : (p q : Tree) (ls : List (List Place)) → length ls ≡ length (term
 two_bound p q ls same left right =
     let n = length (terms_in p) in
     let sum = length-append (terms_in p) (terms_in q) in
-    let front = length-take-le n ls (omega (arith, sum, same)) in
-    let back = length-drop n ls in
-    let one = left (take n ls) front in
-    let other = right (drop n ls) (omega (arith, sum, back, same)) in
     let parts = total_split n ls in
-    omega (arith, one, other, parts)
+    omega (arith, left (take n ls) (length-take-le n ls (omega (arith, sum, same))), right (drop n ls) (omega (arith, sum, length-drop n ls, same)), parts)
 
 visit_bound : (tree : Tree) (ls : List (List Place)) → length ls ≡ length (terms_in tree) → visit_cost tree ls + 1 ≤ 12 * total ls + 2 * width tree
-visit_bound (phrase p) ls same =
-    let times = from_times p.filter p.terms ls (sym same) in
-    let many = ap (λ n. n * length (starts_of p ls)) same in
-    let some = some_width p in
-    omega (arith, times, many, some)
-visit_bound (chain p links) ls same =
-    let cost = chain_bound p links ls same in
-    let some = some_width p in
-    let few = links_few links in
-    omega (arith, cost, some, few)
+visit_bound (phrase p) ls same = grind (arith, nat_tests, from_times p.filter p.terms ls (sym same), ap, some_width p)
+visit_bound (chain p links) ls same = grind (arith, nat_tests, chain_bound p links ls same, some_width p, links_few links)
 visit_bound (both p q) ls same = two_bound p q ls same (visit_bound p) (visit_bound q)
 visit_bound (either p q) ls same = two_bound p q ls same (visit_bound p) (visit_bound q)
 visit_bound (without p q) ls same = two_bound p q ls same (visit_bound p) (visit_bound q)
 
 links_width : (links : List PlainLink) → length (link_terms links) ≤ sum_by (λ link. max 1 (length link.to.terms)) links
 links_width [] = omega arith
-links_width (link ∷ links) =
-    let rest = links_width links in
-    let sum = length-append link.to.terms (link_terms links) in
-    let all = sum_by-cons (λ (l : PlainLink). max 1 (length l.to.terms)) link links in
-    omega (arith, rest, sum, all)
+links_width (link ∷ links) = grind (arith, common_steps, links_width links, length-append link.to.terms (link_terms links), sum_by-cons)
 
 pub terms_width : (tree : Tree) → length (terms_in tree) ≤ width tree
 terms_width (phrase p) = omega arith
-terms_width (chain p links) = let sum = length-append p.terms (link_terms links) in let rest = links_width links in omega (arith, sum, rest)
-terms_width (both p q) =
-    let sum = length-append (terms_in p) (terms_in q) in let one = terms_width p in let other = terms_width q in omega (arith, sum, one, other)
-terms_width (either p q) =
-    let sum = length-append (terms_in p) (terms_in q) in let one = terms_width p in let other = terms_width q in omega (arith, sum, one, other)
-terms_width (without p q) =
-    let sum = length-append (terms_in p) (terms_in q) in let one = terms_width p in let other = terms_width q in omega (arith, sum, one, other)
+terms_width (chain p links) = omega (arith, length-append p.terms (link_terms links), links_width links)
+terms_width (both p q) = grind (arith, nat_tests, length-append (terms_in p) (terms_in q), terms_width p, terms_width q)
+terms_width (either p q) = grind (arith, nat_tests, length-append (terms_in p) (terms_in q), terms_width p, terms_width q)
+terms_width (without p q) = grind (arith, nat_tests, length-append (terms_in p) (terms_in q), terms_width p, terms_width q)
 
 total_is : (docid : ℤ) (cursors : List Cursor) → total (places_in docid cursors) ≡ sum_by (λ c. length (places_at docid (lists_left c))) cursors
 total_is docid [] = refl
-total_is docid (c ∷ cs) =
-    let rest = total_is docid cs in
-    ap (λ n. length (places_at docid (lists_left c)) + n) rest ∙ sym (sum_by-cons (λ (u : Cursor). length (places_at docid (lists_left u))) c cs)
+total_is docid (c ∷ cs) = grind (arith, common_steps, total_is docid cs, sum_by-cons)
 
 -- what a document costs, with one step for each of its lists
 pub document_bound : (tree : Tree) (docid : ℤ) (cursors : List Cursor) (lists : List (List Place)) → length cursors ≡ length (terms_in tree)
@@ -193,18 +131,12 @@ pub document_bound : (tree : Tree) (docid : ℤ) (cursors : List Cursor) (lists 
     → length cursors + visit_cost tree lists ≤ 12 * sum_by (λ c. length (places_at docid (lists_left c))) cursors + 3 * width tree
 document_bound tree docid cursors lists same is =
     let many : length lists ≡ length (terms_in tree) = ap length is ∙ length-map cursors (λ c. places_at docid (lists_left c)) ∙ same in
-    let cost = visit_bound tree lists many in
-    let all = ap total is ∙ total_is docid cursors in
-    let terms = terms_width tree in
-    omega (arith, cost, all, terms, same)
+    omega (arith, visit_bound tree lists many, ap total is ∙ total_is docid cursors, terms_width tree, same)
 
 -- where the lists are just those of the query's terms, they are all its own
 pub own_are : (tree : Tree) (docid : ℤ) (cursors : List Cursor) (lists : List LentPlaces) → length cursors ≡ length (terms_in tree)
     → plain_lists lists ≡ places_in docid cursors → plain_lists (own_lists tree lists) ≡ places_in docid cursors
-own_are tree docid cursors lists same is =
-    let many : length lists ≡ length (terms_in tree) =
-    sym (length-map lists (λ l. l.now)) ∙ ap length is ∙ length-map cursors (λ c. places_at docid (lists_left c)) ∙ same in
-    ap plain_lists (take_all (length (terms_in tree)) lists (omega (arith, many))) ∙ is
+own_are tree docid cursors lists same is = grind (arith, nat_tests, length-map, take_all)
 
 -- what the evaluation of a document takes, after the looks for its lists
 pub document_takes : (tree : Tree) (docid : ℤ) (cursors : List Cursor) (lists : List LentPlaces) {begun mid new : Steps}

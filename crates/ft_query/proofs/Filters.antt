@@ -1,7 +1,7 @@
 -- Where a chunk's first colon stands, and which column its filter names.
 use Rattle.std.proofs.Common.{◌≡◌, ℕ, ◌+◌, ◌<◌, Bool, true, false, cond, List, [], ◌∷◌, length, map, refl, sym, ap, ◌∙◌, arith, suc, String, Global, not, nat_lt, Option, Some, None, position, MatchOption, string_bytes, lt-ltb, le-ltb, Bor}
 use Rattle.std.specs.Str.{str_eq_ignore_ascii_case}
-use Rattle.ft_query.proofs.Common.{list_any, position_or_len, before_first, after_first, nat_tests, length-map, is_colon, column_filter_of}
+use Rattle.ft_query.proofs.Common.{list_any, position_or_len, before_first, after_first, nat_tests, length-map, is_colon, column_filter_of, common_steps}
 
 lt-suc : (a b : ℕ) → nat_lt a b ≡ nat_lt (1 + a) (suc b)
 lt-suc a b = grind (arith, nat_tests)
@@ -9,21 +9,14 @@ lt-suc a b = grind (arith, nat_tests)
 -- something passes exactly where its first place is in the list
 pub any_place : {X : Type 0} (p : X → Bool) (xs : List X) → list_any p xs ≡ nat_lt (position_or_len p xs) (length xs)
 any_place p [] = refl
-any_place p (x ∷ xs) = by_head (p x) refl (any_place p xs)
-  where
-    by_head : (b : Bool) → p x ≡ b → list_any p xs ≡ nat_lt (position_or_len p xs) (length xs)
-        → list_any p (x ∷ xs) ≡ nat_lt (position_or_len p (x ∷ xs)) (length (x ∷ xs))
-    by_head true e rest = rw e (sym (lt-ltb 0 (suc (length xs)) (omega arith)))
-    by_head false e rest = rw e (rest ∙ lt-suc (position_or_len p xs) (length xs))
+any_place p (x ∷ xs) = grind (arith, any_place p xs)
 
 pub place-map : {X Y : Type 0} (p : Y → Bool) (f : X → Y) (xs : List X) → position_or_len p (map f xs) ≡ position_or_len (λ x. p (f x)) xs
 place-map p f [] = refl
 place-map p f (x ∷ xs) = ap (λ n. cond (not (p (f x))) (1 + n) 0) (place-map p f xs)
 
 pub position-map : {X Y : Type 0} (p : Y → Bool) (f : X → Y) (xs : List X) → position p (map f xs) ≡ position (λ x. p (f x)) xs
-position-map p f xs =
-    ap (λ n. cond (nat_lt (position_or_len p (map f xs)) n) (Some (position_or_len p (map f xs))) None) (length-map xs f)
-    ∙ ap (λ n. cond (nat_lt n (length xs)) (Some n) None) (place-map p f xs)
+position-map p f xs = grind (arith, nat_tests, length-map xs f, place-map p f xs)
 
 -- what `split_once` says of the first colon, as a test
 pub colon_parts : (chunk : List ℕ) (r : Option (Bor (List ℕ) × Bor (List ℕ)))
@@ -37,6 +30,4 @@ colon_parts chunk (Some x) parts = (any_place is_colon chunk ∙ lt-ltb (positio
 -- the filter of a chunk with a colon is the column of the name before it
 pub filter_named : (columns : List (String Global)) (chunk name : List ℕ) → list_any is_colon chunk ≡ true → name ≡ before_first is_colon chunk
     → column_filter_of (map string_bytes columns) chunk ≡ position (λ c. str_eq_ignore_ascii_case (string_bytes c) name) columns
-filter_named columns chunk name has same =
-    rw has (ap (λ b. position (λ n. str_eq_ignore_ascii_case n b) (map string_bytes columns)) (sym same) ∙ position-map
-    (λ n. str_eq_ignore_ascii_case n name) string_bytes columns)
+filter_named columns chunk name has same = grind (arith, nat_tests, position-map)

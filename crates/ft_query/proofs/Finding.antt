@@ -1,7 +1,7 @@
 -- What a search answers, as callers of a walk are told it.
-use Rattle.std.proofs.Common.{◌≡◌, ℕ, ◌<◌, map, [], ◌∷◌, refl, sym, subst, Option, Some, None, Result, Ok, Err, IfOk, List, option_map, IfSome}
+use Rattle.std.proofs.Common.{◌≡◌, ℕ, ◌<◌, map, [], ◌∷◌, refl, sym, subst, Option, Some, None, Result, Ok, Err, IfOk, List, option_map, IfSome, arith}
 use Rattle.std.specs.declared.alloc.AllocError.{AllocError}
-use Rattle.ft_query.proofs.Common.{Query, Hit, Cursor, Wanted, Docids, Offsets, Document, Walk, StandsBefore, Went, Walked, WalkedTo, lists_to_come, lists_left, lists_kept, walk_at, stands_at, Finds, FindsNext}
+use Rattle.ft_query.proofs.Common.{Query, Hit, Cursor, Wanted, Docids, Offsets, Document, Walk, StandsBefore, Went, Walked, WalkedTo, lists_to_come, lists_left, lists_kept, walk_at, stands_at, Finds, FindsNext, nat_tests, common_steps}
 
 -- with offsets
 pub found_hit : (old new : Walk) (hit : Option Hit) (documents : List Document) → Finds Offsets old new hit documents → Walked old new hit documents
@@ -31,6 +31,4 @@ found_docid old new (Some hit) documents found = record { offsets = found.offset
 pub kept_on : {wanted : Wanted} {q : Query} (old begun found kept : List Cursor) {from to : ℕ} {hit : Option Hit}
     → FindsNext wanted (walk_at q begun from) (walk_at q found to) hit → map lists_left begun ≡ map lists_kept old
     → map lists_kept kept ≡ map lists_left found → FindsNext wanted (stands_at q old from) (stands_at q kept to) hit
-kept_on {wanted} {q} old begun found kept {from} {to} {hit} finds begins keeps =
-    let one = subst (λ ls. FindsNext wanted (record { query = q; lists = ls; steps = from }) (walk_at q found to) hit) begins finds in
-    subst (λ ls. FindsNext wanted (stands_at q old from) (record { query = q; lists = ls; steps = to }) hit) (sym keeps) one
+kept_on {wanted} {q} old begun found kept {from} {to} {hit} finds begins keeps = grind arith

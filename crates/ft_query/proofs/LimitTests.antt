@@ -1,13 +1,12 @@
 -- The tests on lexemes, over lexemes as the parser holds them.
 use Rattle.std.proofs.Common.{◌≡◌, ℕ, ◌+◌, ◌-◌, ◌<◌, true, List, [], ◌∷◌, map, refl, ap, arith, ◌||◌, nat_lt, sum_by, lt-ltb}
-use Rattle.ft_query.proofs.Common.{list_any, or_left, fold-map, Lexeme, term_count, is_far, nests_deep, open_after, plain_lexeme}
+use Rattle.ft_query.proofs.Common.{list_any, or_left, fold-map, Lexeme, term_count, is_far, nests_deep, open_after, plain_lexeme, nat_tests, common_steps}
 use Rattle.ft_query.specs.declared.lexeme.Lexeme.{Lexeme as CodeLexeme}
 
 -- where the parentheses nest too deep already, what is left changes nothing
 pub deep_already : (opens closes : ℕ) (ls : List Lexeme) → 32 < opens - closes → nests_deep (opens, closes) ls ≡ true
 deep_already opens closes [] deep = lt-ltb (closes + 32) opens (omega arith)
-deep_already opens closes (l ∷ ls) deep =
-    or_left (nat_lt (closes + 32) opens) (nests_deep (open_after l (opens, closes)) ls) (lt-ltb (closes + 32) opens (omega arith))
+deep_already opens closes (l ∷ ls) deep = grind arith
 
 pub terms_counted : (ls : List CodeLexeme) → sum_by term_count (map plain_lexeme ls) ≡ sum_by (λ l. term_count (plain_lexeme l)) ls
 terms_counted ls = fold-map (λ n l. n + term_count l) plain_lexeme 0 ls

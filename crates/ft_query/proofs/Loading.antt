@@ -1,7 +1,7 @@
 -- The terms of a query, and the cursors of their lists.
 use Rattle.std.proofs.Common.{◌≡◌, ◌++◌, ◌∷◌, [], ◌<◌, ◌+◌, ℕ, zero, suc, List, map, take, length, subst, ap, ap₂, sym, ◌∙◌, append_assoc, arith, slice_index_or, Bor, length-append, take_all}
 use Rattle.std.proofs.lemmas.Simd.{map-map}
-use Rattle.ft_query.proofs.Common.{map-append, map_more, sum_by-append, QueryTerm, Cursor, Joint, Document, place_count, PlainTerm, Tree, plain_term, tree_of, terms_in, joined_sides, whole, lists_kept, places_left, listed_for, plain_terms, AreCursorsOf}
+use Rattle.ft_query.proofs.Common.{map-append, map_more, sum_by-append, QueryTerm, Cursor, Joint, Document, place_count, PlainTerm, Tree, plain_term, tree_of, terms_in, joined_sides, whole, lists_kept, places_left, listed_for, plain_terms, AreCursorsOf, nat_tests, common_steps}
 use Rattle.ft_query.proofs.Spines.{joined_terms, whole_last}
 
 -- A part of the query with its joints is the query, and its terms are added.
@@ -31,8 +31,7 @@ pub same_at : {A B X : Type 0} (f : A → X) (g : B → X) (xs : List A) (ys : L
 same_at f g [] ys i d e same within = absurd (omega arith)
 same_at f g (x ∷ xs) [] i d e same within = let n = ap length same in absurd (omega arith)
 same_at {A} {B} {X} f g (x ∷ xs) (y ∷ ys) zero d e same within = cc same
-same_at {A} {B} {X} f g (x ∷ xs) (y ∷ ys) (suc i) d e same within =
-    same_at f g xs ys i d e (cc same) (omega arith)
+same_at {A} {B} {X} f g (x ∷ xs) (y ∷ ys) (suc i) d e same within = grind (arith, same_at f g xs ys i d e (cc same) (omega arith))
 
 -- the cursor of the next term
 pub cursors_on : (documents : List Document) (terms : List (Bor QueryTerm)) (cursors : List Cursor) (i : ℕ) (c : Cursor) (d : Bor QueryTerm)
@@ -46,7 +45,7 @@ cursors_on documents terms cursors i c d at many within one =
     ∙ ap (λ n. map list (take n terms)) (sym (length-append cursors (c ∷ []) ∙ ap (λ n. n + 1) many))
 
 pub places_on : (cursors : List Cursor) (c : Cursor) → places_left (cursors ++ c ∷ []) ≡ places_left cursors + place_count (lists_kept c)
-places_on cursors c = let sum = sum_by-append (λ (u : Cursor). place_count (lists_kept u)) cursors (c ∷ []) in omega (arith, sum)
+places_on cursors c = omega (arith, sum_by-append (λ (u : Cursor). place_count (lists_kept u)) cursors (c ∷ []))
 
 -- those of all terms
 pub cursors_all : (documents : List Document) (terms : List (Bor QueryTerm)) (cursors : List Cursor) → AreCursorsOf documents terms cursors

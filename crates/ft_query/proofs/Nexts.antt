@@ -1,7 +1,7 @@
 -- Which document a walk comes to next.
-use Rattle.std.proofs.Common.{◌≡◌, ◌≢◌, ◌+◌, ◌||◌, ℤ, pos, negsuc, ◌<ℤ◌, Bool, true, false, cond, List, [], ◌∷◌, length, map, refl, sym, ap, ◌∙◌, arith, true≢false, Option, Some, None, filter, AllPairs, int_lt, sum_by, int_eq, is_eq, Less, Equal, Greater}
+use Rattle.std.proofs.Common.{◌≡◌, ◌≢◌, ◌+◌, ◌||◌, ℤ, pos, negsuc, ◌<ℤ◌, Bool, true, false, cond, List, [], ◌∷◌, length, map, refl, sym, ap, ◌∙◌, arith, true≢false, Option, Some, None, filter, AllPairs, int_lt, sum_by, int_eq, is_eq, Less, Equal, Greater, rules}
 use Rattle.std.proofs.lemmas.Cmp.{tied_itself, int_cmp_total}
-use Rattle.ft_query.proofs.Common.{or_parts, sum_by-cons, list_any, AllByRecursion, nat_tests, recursion_from_All, All-tail, Place, Posting, Document, AreDocuments, IsBefore, PlaceList, is_filled, has_places, places_with, place_count, PlainTerm, Tree, PlainHit, is_listed, accepts, offsets_of, hits_of, terms_in, lists_of, candidate_count, places_at, passed, least_of, least_from, listed_for, listed_places}
+use Rattle.ft_query.proofs.Common.{or_parts, sum_by-cons, list_any, AllByRecursion, nat_tests, recursion_from_All, All-tail, Place, Posting, Document, AreDocuments, IsBefore, PlaceList, is_filled, has_places, places_with, place_count, PlainTerm, Tree, PlainHit, is_listed, accepts, offsets_of, hits_of, terms_in, lists_of, candidate_count, places_at, passed, least_of, least_from, listed_for, listed_places, common_steps}
 use Rattle.ft_query.proofs.TokenOnce.{pairs_head, pairs_tail}
 use Rattle.ft_query.proofs.NotListed.{has_term, accepts_none}
 
@@ -14,9 +14,7 @@ earlier (negsuc a) (pos b) h = (refl, refl)
 earlier (negsuc a) (negsuc b) h = (grind (arith, nat_tests), grind (arith, nat_tests))
 
 not_later : (a b : ℤ) → a <ℤ b → int_eq b a ≡ false
-not_later a b h =
-    let t = earlier a b h in
-    ap (λ v. is_eq (cond v Less (cond (int_lt a b) Greater Equal))) t.1 ∙ ap (λ v. is_eq (cond v Greater Equal)) t.0
+not_later a b h = grind arith
 
 not_less : (a : ℤ) → int_lt a a ≡ false
 not_less (pos a) = grind (arith, nat_tests)
@@ -35,11 +33,7 @@ IsLater docid (l ∷ ls) = docid <ℤ l.docid
 later_lists : (docid : ℤ) (ds : List Document) (t : PlainTerm) → AllByRecursion (λ d. docid <ℤ d.docid) ds → IsLater docid (listed_for ds t)
 unfolding IsLater
 later_lists docid [] t later = tt
-later_lists docid (d ∷ ds) t later =
-    elim (has_places (places_with (is_listed t) d)) as (λ v. IsLater docid (cond v (places_with (is_listed t) d ∷ listed_for ds t) (listed_for ds t))) [
-      | true ↦ later.0
-      | false ↦ later_lists docid ds t later.1
-    ]
+later_lists docid (d ∷ ds) t later = grind (arith, later_lists docid ds t later.1)
 
 none_at : (docid : ℤ) (ls : List PlaceList) → IsLater docid ls → places_at docid ls ≡ []
 unfolding IsLater
@@ -53,12 +47,7 @@ none_passed docid (l ∷ ls) later = ap (λ b. cond b ls (l ∷ ls)) (not_later 
 
 filled : (t : PlainTerm) (ps : List Posting) → is_filled (listed_places ps t) ≡ has_term ps t
 filled t [] = refl
-filled t (p ∷ ps) =
-    elim (is_listed t p.term) as (λ v. is_filled (map (λ (q : Posting). q.place)
-    (cond v (p ∷ filter (λ q. is_listed t q.term) ps) (filter (λ q. is_listed t q.term) ps))) ≡ (v || has_term ps t)) [
-      | true ↦ refl
-      | false ↦ filled t ps
-    ]
+filled t (p ∷ ps) = grind (arith, filled t ps)
 
 empty_one : (places : List Place) → is_filled places ≡ false → places ≡ []
 empty_one [] none = refl
@@ -70,27 +59,15 @@ module _ (d : Document) (ds : List Document) (later : AllByRecursion (λ e. d.do
 
   one_places : places_at d.docid (listed_for (d ∷ ds) t) ≡ listed_places d.postings t
   unfolding here
-  one_places = by (has_places here) refl
-    where
-      by : (v : Bool) → has_places here ≡ v → places_at d.docid (cond v (here ∷ listed_for ds t) (listed_for ds t)) ≡ listed_places d.postings t
-      by true is = ap (λ b. cond b (listed_places d.postings t) []) (itself d.docid)
-      by false is = none_at d.docid (listed_for ds t) (later_lists d.docid ds t later) ∙ sym (empty_one (listed_places d.postings t) is)
+  one_places = grind (arith, nat_tests, here, itself d.docid, none_at d.docid (listed_for ds t) (later_lists d.docid ds t later))
 
   one_passed : passed d.docid (listed_for (d ∷ ds) t) ≡ listed_for ds t
   unfolding here
-  one_passed = elim (has_places here) as (λ v. passed d.docid (cond v (here ∷ listed_for ds t) (listed_for ds t)) ≡ listed_for ds t) [
-    | true ↦ ap (λ b. cond b (listed_for ds t) (here ∷ listed_for ds t)) (itself d.docid)
-    | false ↦ none_passed d.docid (listed_for ds t) (later_lists d.docid ds t later)
-  ]
+  one_passed = grind (arith, nat_tests, here, itself d.docid, none_passed d.docid (listed_for ds t) (later_lists d.docid ds t later))
 
   one_count : place_count (listed_for (d ∷ ds) t) ≡ length (listed_places d.postings t) + place_count (listed_for ds t)
   unfolding here
-  one_count = by (has_places here) refl
-    where
-      by : (v : Bool) → has_places here ≡ v
-          → place_count (cond v (here ∷ listed_for ds t) (listed_for ds t)) ≡ length (listed_places d.postings t) + place_count (listed_for ds t)
-      by true is = sum_by-cons (λ (l : PlaceList). length l.places) here (listed_for ds t)
-      by false is = let none = ap length (empty_one (listed_places d.postings t) is) in omega arith
+  one_count = grind (arith, common_steps, here)
 
 -- ---- the lists of all terms
 
@@ -106,13 +83,7 @@ module _ (d : Document) (ds : List Document) (later : AllByRecursion (λ e. d.do
   pub all_counted : (ts : List PlainTerm)
       → sum_by place_count (map (listed_for (d ∷ ds)) ts) ≡ sum_by length (map (listed_places d.postings) ts) + sum_by place_count (map (listed_for ds) ts)
   all_counted [] = refl
-  all_counted (t ∷ ts) =
-      let more = all_counted ts in
-      let one = one_count d ds later t in
-      let left = sum_by-cons place_count (listed_for (d ∷ ds) t) (map (listed_for (d ∷ ds)) ts) in
-      let here = sum_by-cons length (listed_places d.postings t) (map (listed_places d.postings) ts) in
-      let right = sum_by-cons place_count (listed_for ds t) (map (listed_for ds) ts) in
-      omega arith
+  all_counted (t ∷ ts) = grind (arith, nat_tests, all_counted ts, one_count, sum_by-cons, common_steps)
 
   -- the least docid so far is after the document, or there is none
   abbrev IsBehind : Option ℤ → Type 0
@@ -124,8 +95,7 @@ module _ (d : Document) (ds : List Document) (later : AllByRecursion (λ e. d.do
   unfolding IsLater
   still_behind so_far [] behind later = behind
   still_behind None (l ∷ ls) behind later = later
-  still_behind (Some docid) (l ∷ ls) behind later =
-      elim (int_lt l.docid docid) as (λ v. IsBehind (cond v (Some l.docid) (Some docid))) [ true ↦ later | false ↦ behind ]
+  still_behind (Some docid) (l ∷ ls) behind later = grind arith
 
   found : (so_far : Option ℤ) (places : List Place) (ls : List PlaceList) → IsBehind so_far
       → least_of so_far (record { docid = d.docid; places = places } ∷ ls) ≡ Some d.docid
@@ -138,12 +108,7 @@ module _ (d : Document) (ds : List Document) (later : AllByRecursion (λ e. d.do
   stays_one (l ∷ ls) later = ap (λ v. cond v (Some l.docid) (Some d.docid)) (earlier d.docid l.docid later).1
 
   stays : (t : PlainTerm) → least_of (Some d.docid) (listed_for (d ∷ ds) t) ≡ Some d.docid
-  stays t =
-      elim (has_places (places_with (is_listed t) d)) as (λ v. least_of (Some d.docid)
-      (cond v (places_with (is_listed t) d ∷ listed_for ds t) (listed_for ds t)) ≡ Some d.docid) [
-        | true ↦ ap (λ v. cond v (Some d.docid) (Some d.docid)) (not_less d.docid)
-        | false ↦ stays_one (listed_for ds t) (later_lists d.docid ds t later)
-      ]
+  stays t = grind (arith, nat_tests, not_less d.docid, stays_one (listed_for ds t) (later_lists d.docid ds t later))
 
   stays_all : (ts : List PlainTerm) → least_from (Some d.docid) (map (listed_for (d ∷ ds)) ts) ≡ Some d.docid
   stays_all [] = refl
@@ -219,9 +184,8 @@ next_of tree (d ∷ ds) are = by (list_any (has_term d.postings) (terms_in tree)
         First d ds are (least_is d ds later None (terms_in tree) tt is) refl refl (counted tree d ds ∙ ap (λ v. cond v 1 0 + candidate_count tree ds) is)
     by false is (Nothing least same hits count) =
         let lists = unlisted d ds (terms_in tree) is in
-        let here = without_it tree d ds (accepts_none d.postings tree is) in
         let more = counted tree d ds ∙ ap (λ v. cond v 1 0 + candidate_count tree ds) is in
-        Nothing (ap (least_from None) lists ∙ least) (lists ∙ same) (here ∙ hits) (omega arith)
+        Nothing (ap (least_from None) lists ∙ least) (lists ∙ same) ((without_it tree d ds (accepts_none d.postings tree is)) ∙ hits) (omega arith)
     by false is (First e es are_next least same hits count) =
         let lists = unlisted d ds (terms_in tree) is in
         let here = without_it tree d ds (accepts_none d.postings tree is) in

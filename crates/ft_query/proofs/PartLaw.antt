@@ -1,5 +1,5 @@
 -- The computed parts of a text are its one reading by forms, and those that are found byte by byte.
-use Rattle.std.proofs.Common.{◌≡◌, ℕ, zero, suc, ◌+◌, ◌<◌, ◌≤◌, Bool, true, false, cond, List, [], ◌∷◌, ◌++◌, length, drop, get_or, refl, sym, ap, ◌∙◌, subst, arith, append_assoc, append-nil, length-drop, take-append-drop, ◌==◌, ◌||◌, not, All, eqb-true, ne_eqb, ltb-true}
+use Rattle.std.proofs.Common.{◌≡◌, ℕ, zero, suc, ◌+◌, ◌<◌, ◌≤◌, Bool, true, false, cond, List, [], ◌∷◌, ◌++◌, length, drop, get_or, refl, sym, ap, ◌∙◌, subst, arith, append_assoc, append-nil, length-drop, take-append-drop, ◌==◌, ◌||◌, not, All, eqb-true, ne_eqb, ltb-true, rules}
 use Rattle.ft_query.proofs.Common.{list_any, AllByRecursion, position_or_len, before_first, after_first, or_parts, nat_tests, common_steps, All-nil, All-cons, recursion_from_All, split_at_first, fails_before_first, passes_at_first, Part, open_part, close_part, quoted_part, chunk_part, unclosed_part, is_query_space, is_quote, stops_chunk, ends_chunk, IsPart, opens, closes, in_quotes, not_closed, longest_run, AreParts, no_part, white_space, next_part, parts_within, parts_of, ByteMark, quote, paren, space, plain, byte_mark, in_chunk, in_quote, begun_after, parts_ended, parts_from, begun_part, ends_begun}
 use Rattle.ft_query.proofs.Filters.{any_place}
 
@@ -25,13 +25,7 @@ inside_grows false bytes _ b e = cc
 inside_on : (q : Bool) (bytes more rest : List ℕ) → AllByRecursion (λ b. ends_begun q (byte_mark b) ≡ false) more
     → parts_from (begun_part q bytes) (more ++ rest) ≡ parts_from (begun_part q (bytes ++ more)) rest
 inside_on q bytes [] rest none = ap (λ bs. parts_from (begun_part q bs) rest) (sym (append-nil bytes))
-inside_on q bytes (b ∷ more) rest none =
-    simp (
-      append_assoc,
-      inside_ends q bytes (byte_mark b) none.0,
-      inside_grows q bytes (byte_mark b) b none.0,
-      inside_on q (bytes ++ b ∷ []) more rest none.1,
-    )
+inside_on q bytes (b ∷ more) rest none = search (rules, byte_mark b, inside_on q (bytes ++ b ∷ []) more rest none.1, append_assoc, inside_ends, inside_grows)
 
 -- ---- which bytes end a chunk or a quoted part
 
@@ -69,12 +63,7 @@ abbrev by_bytes : List ℕ → List Part
 by_bytes text = parts_from (in_chunk []) text
 
 mark_of_space : (b : ℕ) → is_query_space b ≡ true → byte_mark b ≡ space
-mark_of_space b is =
-    let low : b < 33 = grind (arith, nat_tests) in
-    let no_quote : (b == 34) ≡ false = ne_eqb b 34 (λ e. omega arith) in
-    let no_open : (b == 40) ≡ false = ne_eqb b 40 (λ e. omega arith) in
-    let no_close : (b == 41) ≡ false = ne_eqb b 41 (λ e. omega arith) in
-    rw (no_quote, no_open, no_close, is) refl
+mark_of_space b is = grind arith
 
 space_read : (b : ℕ) (text : List ℕ) → is_query_space b ≡ true → by_bytes (b ∷ text) ≡ by_bytes text
 space_read b text is = ap (λ m. parts_ended (in_chunk []) m ++ parts_from (begun_after (in_chunk []) m b) text) (mark_of_space b is)
@@ -110,16 +99,14 @@ are_read (next_part {part} {bytes} {behind} {parts} is later) = part_read is ∙
 -- ---- up to the first byte of a kind
 
 before_fails : (p : ℕ → Bool) (bytes : List ℕ) → All (λ b. p b ≡ false) (before_first p bytes)
-before_fails p bytes = λ k d inside. let fails = fails_before_first p bytes k d (grind (arith, common_steps)) in grind (arith, common_steps)
+before_fails p bytes = λ k d inside. grind (arith, common_steps, fails_before_first p bytes k d (grind (arith, common_steps)))
 
 whole : (p : ℕ → Bool) (bytes : List ℕ) → bytes ≡ before_first p bytes ++ drop (position_or_len p bytes) bytes
 whole p bytes = sym (take-append-drop (position_or_len p bytes) bytes)
 
 none_passes : (p : ℕ → Bool) (bytes : List ℕ) → list_any p bytes ≡ false → All (λ b. p b ≡ false) bytes
 none_passes p [] none = All-nil (λ b. p b ≡ false)
-none_passes p (b ∷ bytes) none =
-    let parts = or_parts (p b) (list_any p bytes) none in
-    All-cons (λ c. p c ≡ false) b bytes parts.0 (none_passes p bytes parts.1)
+none_passes p (b ∷ bytes) none = grind (arith, common_steps, All-cons)
 
 run_stops : (bytes : List ℕ) → ends_chunk (drop (position_or_len stops_chunk bytes) bytes) ≡ true
 run_stops [] = refl
@@ -185,8 +172,7 @@ are_within zero [] low = no_part
 are_within zero (b ∷ bytes) low = absurd (omega arith)
 are_within (suc n) [] low = no_part
 are_within (suc n) (b ∷ bytes) low =
-    by_first_byte n b bytes (is_query_space b) (b == 40) (b == 41) (is_quote b) (list_any is_quote bytes) (omega arith) (are_within n)
-    refl refl refl refl refl
+    search (rules, by_first_byte n b bytes (is_query_space b) (b == 40) (b == 41) (is_quote b) (list_any is_quote bytes) (omega arith) (are_within n) refl refl refl refl refl)
 
 -- ---- the law
 

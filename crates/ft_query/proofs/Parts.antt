@@ -1,8 +1,8 @@
 -- How the parts of what is left of a text change by one byte.
-use Rattle.std.proofs.Common.{◌≡◌, ℕ, ◌+◌, ◌-◌, ◌<◌, ◌≤◌, Bool, true, false, List, [], ◌∷◌, ◌++◌, length, map, take, drop, get_or, refl, sym, ap, ◌∙◌, subst, arith, append_assoc, length-drop, get_or-drop, IsUtf8, IsCharBoundary, ⊎_elim, ◌==◌, ◌&&◌, not, slice_range, flat_map, ne_eqb}
+use Rattle.std.proofs.Common.{◌≡◌, ℕ, ◌+◌, ◌-◌, ◌<◌, ◌≤◌, Bool, true, false, List, [], ◌∷◌, ◌++◌, length, map, take, drop, get_or, refl, sym, ap, ◌∙◌, subst, arith, append_assoc, length-drop, get_or-drop, IsUtf8, IsCharBoundary, ⊎_elim, ◌==◌, ◌&&◌, not, slice_range, flat_map, ne_eqb, rules}
 use Rattle.std.specs.Int.{is_in_range}
 use Rattle.std.proofs.lemmas.List.Concat.{flat_map-append}
-use Rattle.ft_query.proofs.Common.{list_any, and_right, lt-leb, or_from, false≢true, map-append, take_more, list_any-append, IsCharBoundary-start, IsCharBoundary-after_ascii, order, Lexeme, Part, open_part, close_part, is_query_space, parts_of, lexemes_of_part, is_unclosed_part, capped, plain, byte_mark, chunk_parts, begun_after, parts_ended, parts_from, begun_part, ends_begun}
+use Rattle.ft_query.proofs.Common.{list_any, and_right, lt-leb, or_from, false≢true, map-append, take_more, list_any-append, IsCharBoundary-start, IsCharBoundary-after_ascii, order, Lexeme, Part, open_part, close_part, is_query_space, parts_of, lexemes_of_part, is_unclosed_part, capped, plain, byte_mark, chunk_parts, begun_after, parts_ended, parts_from, begun_part, ends_begun, nat_tests, common_steps}
 use Rattle.ft_query.proofs.TokenSteps.{rest_at}
 use Rattle.ft_query.proofs.PartLaw.{mark_by, inside_ends, inside_grows, parts_by_bytes}
 
@@ -10,15 +10,10 @@ use Rattle.ft_query.proofs.PartLaw.{mark_by, inside_ends, inside_grows, parts_by
 pub range_more : (text : List ℕ) (start place : ℕ) → start ≤ place → place < length text
     → slice_range text start (place + 1) ≡ slice_range text start place ++ get_or text place 0 ∷ []
 range_more text start place before h =
-    let more : place + 1 - start ≡ place - start + 1 = omega arith in
-    let inside : place - start < length (drop start text) = omega (arith, length-drop start text) in
-    let there : start + (place - start) ≡ place = omega arith in
-    simp (more, take_more (drop start text) (place - start) 0 inside, get_or-drop, there)
+    grind (arith, nat_tests, length-drop start text, take_more (drop start text) (place - start) 0 (omega (arith, length-drop start text)), get_or-drop)
 
 pub range_empty : (text : List ℕ) (place : ℕ) → slice_range text place place ≡ []
-range_empty text place =
-    let none : place - place ≡ 0 = omega arith in
-    ap (λ n. take n (drop place text)) none
+range_empty text place = grind arith
 
 -- ---- one byte that ends what is begun
 
@@ -69,23 +64,10 @@ ended_closed q bytes b = closed_by q bytes (b == 34) (b == 40) (b == 41) (is_que
 
 -- a byte that ends something is ASCII
 late_plain : (b : ℕ) → 128 ≤ b → byte_mark b ≡ plain
-late_plain b late =
-    let no_quote : (b == 34) ≡ false = ne_eqb b 34 (λ e. omega arith) in
-    let no_open : (b == 40) ≡ false = ne_eqb b 40 (λ e. omega arith) in
-    let no_close : (b == 41) ≡ false = ne_eqb b 41 (λ e. omega arith) in
-    let no_space : is_query_space b ≡ false =
-    or_from (is_in_range 9 13 b) (b == 32) (and_right _ _ (lt-leb b 13 (omega arith))) (ne_eqb b 32 (λ e. omega arith)) in
-    rw (no_quote, no_open, no_close, no_space) refl
+late_plain b late = grind arith
 
 pub ends_ascii : (q : Bool) (b : ℕ) → ends_begun q (byte_mark b) ≡ true → b < 128
-ends_ascii q b ends = ⊎_elim
-    (λ (early : b < 128). early)
-    (λ (late : 128 ≤ b). absurd (plain_ends q (subst (λ m. ends_begun q m ≡ true) (late_plain b late) ends)))
-    (order b 128)
-  where
-    plain_ends : (q : Bool) → ends_begun q plain ≡ true → ⊥
-    plain_ends true e = false≢true e
-    plain_ends false e = false≢true e
+ends_ascii q b ends = grind arith
 
 -- ---- what is left of a text
 
@@ -96,19 +78,13 @@ parts_left text q start place = parts_from (begun_part q (slice_range text start
 
 left_inside : (text : List ℕ) (q : Bool) (start place : ℕ) → start ≤ place → place < length text → ends_begun q (byte_mark (get_or text place 0)) ≡ false
     → parts_left text q start place ≡ parts_left text q start (place + 1)
-left_inside text q start place before h e =
-    let b = get_or text place 0 in
-    let bytes = slice_range text start place in
-    simp (rest_at text place h, inside_ends q bytes (byte_mark b) e, inside_grows q bytes (byte_mark b) b e, range_more text start place before h)
+left_inside text q start place before h e = grind (arith, nat_tests, get_or text place 0, rest_at, inside_ends, inside_grows, range_more)
 
 left_ended : (text : List ℕ) (q : Bool) (start place : ℕ) → place < length text → ends_begun q (byte_mark (get_or text place 0)) ≡ true
     → parts_left text q start place
     ≡ parts_ended (begun_part q (slice_range text start place)) (byte_mark (get_or text place 0)) ++ parts_left text (not q && get_or text place 0 == 34) (place + 1)
     (place + 1)
-left_ended text q start place h e =
-    let b = get_or text place 0 in
-    let bytes = slice_range text start place in
-    simp (rest_at text place h, ends_after q bytes b e, range_empty)
+left_ended text q start place h e = simp (rest_at text place h, ends_after q (slice_range text start place) (get_or text place 0) e, range_empty)
 
 -- the lexemes of some parts, as the parser holds them
 abbrev pub held : List (List ℕ) → List Part → List Lexeme

@@ -1,6 +1,6 @@
 -- How many places the passes keep.
-use Rattle.std.proofs.Common.{◌≡◌, ℕ, ◌+◌, ◌<◌, List, [], ◌∷◌, ◌++◌, length, map, take, drop, get_or, ap, sym, ◌∙◌, arith, flat_map, append_assoc, length-append, length-drop, length-take-le, ◌*◌, ◌≤◌, Bool, true, false, cond, reverse, suc, add-zero, refl, take_at, drop_at, filter, None, Ordering, Less, Equal, Greater}
-use Rattle.ft_query.proofs.Common.{length-map, drop_more, LentPlaces, Place, Offset, Link, PlainPhrase, PlainLink, chain, plain_link, plain_term, terms_in, marks_from, head_of, linked, link_marks, near_those, marks_of, numbered_offsets, plain_lists, match_ordering, map-append, take-map, drop-map, Chain, chain_tree, AreLinked, last_phrase, reverse-append, reverse-reverse, QueryTerm, Phrase, plain_phrase, place_order, seek, among, skip_behind, begin_near, may_begin, followed, offset_at, plain_starts, total, linked_cost, link_cost, visit_cost, Occurrences}
+use Rattle.std.proofs.Common.{◌≡◌, ℕ, ◌+◌, ◌<◌, List, [], ◌∷◌, ◌++◌, length, map, take, drop, get_or, ap, sym, ◌∙◌, arith, flat_map, append_assoc, length-append, length-drop, length-take-le, ◌*◌, ◌≤◌, Bool, true, false, cond, reverse, suc, add-zero, refl, take_at, drop_at, filter, None, Ordering, Less, Equal, Greater, rules}
+use Rattle.ft_query.proofs.Common.{length-map, drop_more, LentPlaces, Place, Offset, Link, PlainPhrase, PlainLink, chain, plain_link, plain_term, terms_in, marks_from, head_of, linked, link_marks, near_those, marks_of, numbered_offsets, plain_lists, match_ordering, map-append, take-map, drop-map, Chain, chain_tree, AreLinked, last_phrase, reverse-append, reverse-reverse, QueryTerm, Phrase, plain_phrase, place_order, seek, among, skip_behind, begin_near, may_begin, followed, offset_at, plain_starts, total, linked_cost, link_cost, visit_cost, Occurrences, nat_tests, common_steps}
 
 -- what is left of a list, with the one that was found
 abbrev left_over : Bool × List Place → ℕ
@@ -28,18 +28,11 @@ kept_le false x kept n h = omega arith
 pub among_short : (i j : ℕ) (xs ys : List Place) → length (among i j xs ys) ≤ length xs
 among_short i j [] ys = omega arith
 among_short i j (x ∷ xs) ys =
-    let r = seek i x j ys in
-    let rest = among_short i j xs r.1 in
-    kept_le r.0 x (among i j xs r.1) (length xs) rest
+    grind (arith, nat_tests, kept_le (seek i x j ys).0 x (among i j xs (seek i x j ys).1) (length xs) (among_short i j xs (seek i x j ys).1))
 
 among_few : (i j : ℕ) (xs ys : List Place) → length (among i j xs ys) ≤ length ys
 among_few i j [] ys = omega arith
-among_few i j (x ∷ xs) ys =
-    let r = seek i x j ys in
-    let rest = among_few i j xs r.1 in
-    let left = seek_short i x j ys in
-    let one = among_one r.0 x (among i j xs r.1) in
-    omega (arith, rest, left, one)
+among_few i j (x ∷ xs) ys = grind (arith, nat_tests, among_few i j xs (seek i x j ys).1, seek_short, among_one, nat_tests)
 
 pub near_short : (most k : ℕ) (near : List Place) (m : ℕ) (bs : List Place) → length (near_those most k near m bs) ≤ length bs
 near_short most k near m [] = omega arith
@@ -68,12 +61,7 @@ pub follow_more : (i : ℕ) (terms : List QueryTerm) (lists : List LentPlaces) (
     → followed (i + 1) (map plain_term (drop i terms)) (plain_lists (drop i lists)) starts
     ≡ followed (i + 1 + 1) (map plain_term (drop (i + 1) terms)) (plain_lists (drop (i + 1) lists))
     (cond t.first [] (among (i + 1) 0 starts (get_or lists i l).now))
-follow_more i terms lists starts t l h same is =
-    let inside : i < length lists = omega arith in
-    ap (λ ts. followed (i + 1) (map plain_term ts) (plain_lists (drop i lists)) starts) (drop_more terms i t h)
-    ∙ ap (λ ls. followed (i + 1) (map plain_term (get_or terms i t ∷ drop (i + 1) terms)) (plain_lists ls) starts) (drop_more lists i l inside)
-    ∙ ap (λ (u : QueryTerm). followed (i + 1 + 1) (map plain_term (drop (i + 1) terms)) (plain_lists (drop (i + 1) lists))
-    (cond u.first [] (among (i + 1) 0 starts (get_or lists i l).now))) (sym is)
+follow_more i terms lists starts t l h same is = grind (arith, nat_tests, drop_more terms i t h, drop_more lists i l (omega arith))
 
 pub followed_few : (first : Bool) (i : ℕ) (starts list : List Place) → length (cond first [] (among i 0 starts list)) ≤ length list
 followed_few true i starts list = omega arith
@@ -91,8 +79,7 @@ pub linked_push : (p : PlainPhrase) (links : List PlainLink) (lists : List (List
     → next.items ≡ head_of (linked p links lists) → plain_starts rest ≡ reverse (drop 1 (linked p links lists))
     → plain_starts (rest ++ next ∷ []) ≡ reverse (linked p links lists)
 linked_push p links lists rest next first later =
-    simp (map-append, later, first)
-    (sym (ap reverse (linked_first p links lists) ∙ reverse-append (head_of (linked p links lists) ∷ []) (drop 1 (linked p links lists))))
+    grind (arith, nat_tests, map-append, linked_first p links lists, reverse-append (head_of (linked p links lists) ∷ []) (drop 1 (linked p links lists)))
 
 -- the last phrase of a chain with one link more
 pub last_push : (first : Phrase) (links : List Link) (link : Link) → last_phrase first (links ++ link ∷ []) ≡ link.to
@@ -101,11 +88,7 @@ last_push first (l ∷ links) link = last_push l.to links link
 
 pub numbered-append : (n : ℕ) (ms more : List (List Place)) → numbered_offsets n (ms ++ more) ≡ numbered_offsets n ms ++ numbered_offsets (n + length ms) more
 numbered-append n [] more = ap (λ m. numbered_offsets m more) (sym (add-zero n))
-numbered-append n (m ∷ ms) more =
-    let next : n + 1 + length ms ≡ n + length (m ∷ ms) = omega arith in
-    ap (λ os. map (offset_at n) m ++ os) (numbered-append (n + 1) ms more)
-    ∙ ap (λ k. map (offset_at n) m ++ (numbered_offsets (n + 1) ms ++ numbered_offsets k more)) next
-    ∙ sym (append_assoc (map (offset_at n) m) (numbered_offsets (n + 1) ms) (numbered_offsets (n + length (m ∷ ms)) more))
+numbered-append n (m ∷ ms) more = grind (arith, nat_tests, numbered-append (n + 1) ms more, append_assoc, nat_tests)
 
 pub marks_length : (i : ℕ) (lists : List (List Place)) (starts : List Place) → length (marks_from i lists starts) ≡ length lists
 marks_length i [] starts = refl
@@ -114,12 +97,10 @@ marks_length i (l ∷ ls) starts = ap (λ n. suc n) (marks_length (i + 1) ls sta
 -- ---- the lists of a phrase's terms, and those after them
 
 pub lists_front : (front own : List LentPlaces) (n : ℕ) → length front ≡ n → take n (plain_lists (front ++ own)) ≡ plain_lists front
-lists_front front own n same = ap (take n) (map-append (λ (l : LentPlaces). l.now) front own)
-    ∙ take_at (plain_lists front) (plain_lists own) n (length-map front (λ l. l.now) ∙ same)
+lists_front front own n same = grind (arith, common_steps, map-append)
 
 pub lists_back : (front own : List LentPlaces) (n : ℕ) → length front ≡ n → drop n (plain_lists (front ++ own)) ≡ plain_lists own
-lists_back front own n same = ap (drop n) (map-append (λ (l : LentPlaces). l.now) front own)
-    ∙ drop_at (plain_lists front) (plain_lists own) n (length-map front (λ l. l.now) ∙ same)
+lists_back front own n same = grind (arith, common_steps, map-append)
 
 -- the marks of one link, and those of the links after it
 pub link_marks_one : (k : ℕ) (starts : List Place) (link : Link) (links : List Link) (lists own behind : List LentPlaces) (others : Occurrences) (all : List Occurrences)
@@ -127,20 +108,16 @@ pub link_marks_one : (k : ℕ) (starts : List Place) (link : Link) (links : List
     → size ≡ length link.to.terms.items → own ≡ take size lists → behind ≡ drop size lists → next ≡ near_those link.most k starts size others.items
     → marks_from 0 (plain_lists own) next ++ link_marks size next (map plain_link links) (plain_lists behind) (plain_starts all)
     ≡ link_marks k starts (map plain_link (link ∷ links)) (plain_lists lists) (plain_starts (others ∷ all))
-link_marks_one k starts link links lists own behind others all size next is_size is_own is_behind is_next =
-    simp (is_next, is_own, is_behind, is_size, take-map, drop-map, length-map)
+link_marks_one k starts link links lists own behind others all size next is_size is_own is_behind is_next = search (rules, take-map, drop-map, length-map)
 
 pub linked_length : (p : PlainPhrase) (links : List PlainLink) (lists : List (List Place)) → length (drop 1 (linked p links lists)) ≡ length links
 linked_length p [] lists = refl
-linked_length p (link ∷ links) lists =
-    let behind = drop (length p.terms) lists in
-    ap length (linked_first link.to links behind) ∙ ap (λ n. suc n) (linked_length link.to links behind)
+linked_length p (link ∷ links) lists = grind (arith, nat_tests, linked_length link.to links (drop (length p.terms) lists), linked_first, nat_tests)
 
 starts-reverse : (all : List Occurrences) → plain_starts (reverse all) ≡ reverse (plain_starts all)
 starts-reverse [] = refl
 starts-reverse (x ∷ all) =
-    ap plain_starts (reverse-append (x ∷ []) all)
-    ∙ simp (map-append, starts-reverse all) (sym (reverse-append (x.items ∷ []) (plain_starts all)))
+    grind (arith, nat_tests, reverse-append (x ∷ []) all, map-append, starts-reverse all, reverse-append (x.items ∷ []) (plain_starts all))
 
 pub starts_forward : (all : List Occurrences) (lists : List (List Place)) → plain_starts all ≡ reverse lists → plain_starts (reverse all) ≡ lists
 starts_forward all lists is = starts-reverse all ∙ ap reverse is ∙ reverse-reverse lists
@@ -205,11 +182,10 @@ chain_marks_length p links lists same =
     let all = linked p links lists in
     let sum = length-append p.terms (flat_map (λ l. l.to.terms) links) in
     let back = length-drop n lists in
-    let rest = link_marks_length n (head_of all) links (drop n lists) (drop 1 all) (omega (arith, sum, back, same)) in
     let front = marks_length 0 (take n lists) (head_of all) in
     let short = length-take-le n lists (omega (arith, sum, same)) in
     length-append (marks_from 0 (take n lists) (head_of all)) (link_marks n (head_of all) links (drop n lists) (drop 1 all))
-    ∙ omega (arith, sum, back, rest, front, short, same)
+    ∙ omega (arith, sum, back, link_marks_length n (head_of all) links (drop n lists) (drop 1 all) (omega (arith, sum, back, same)), front, short, same)
 
 -- what a query's left side adds before its right one
 pub numbered_more : (old : List Offset) (n : ℕ) (ms more : List (List Place))
@@ -223,18 +199,13 @@ phrase_marks_count lists starts = marks_length 0 (plain_lists lists) starts ∙ 
 pub numbered_marks : (old : List Offset) (n : ℕ) (lists : List LentPlaces) (starts : List Place) (more : List (List Place))
     → old ++ numbered_offsets n (marks_from 0 (plain_lists lists) starts) ++ numbered_offsets (n + length lists) more
     ≡ old ++ numbered_offsets n (marks_from 0 (plain_lists lists) starts ++ more)
-numbered_marks old n lists starts more =
-    rw (← phrase_marks_count lists starts) (numbered_more old n (marks_from 0 (plain_lists lists) starts) more)
+numbered_marks old n lists starts more = search (rules, phrase_marks_count lists starts, numbered_more old n (marks_from 0 (plain_lists lists) starts) more)
 
 -- the terms of the first link of those that are left
 pub count_more : (links : List Link) (i : ℕ) (d : Link) → i < length links
     → length (flat_map (λ l. l.to.terms) (map plain_link (drop i links)))
     ≡ length (get_or links i d).to.terms.items + length (flat_map (λ l. l.to.terms) (map plain_link (drop (i + 1) links)))
-count_more links i d h =
-    let link = get_or links i d in
-    ap (λ ls. length (flat_map (λ l. l.to.terms) (map plain_link ls))) (drop_more links i d h)
-    ∙ length-append (map plain_term link.to.terms.items) (flat_map (λ l. l.to.terms) (map plain_link (drop (i + 1) links)))
-    ∙ ap (λ n. n + length (flat_map (λ l. l.to.terms) (map plain_link (drop (i + 1) links)))) (length-map link.to.terms.items plain_term)
+count_more links i d h = grind (arith, nat_tests, drop_more, length-append, length-map, nat_tests)
 
 pub chain_marks_count : (p : PlainPhrase) (links : List PlainLink) (lists : List LentPlaces) → length lists ≡ length (terms_in (chain p links))
     → length (marks_of (chain p links) (plain_lists lists)) ≡ length lists

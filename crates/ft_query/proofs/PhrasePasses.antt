@@ -1,9 +1,9 @@
 -- The passes over the lists of a phrase's terms give its occurrences, and the places of its terms
 -- in them.
-use Rattle.std.proofs.Common.{◌≡◌, ℕ, ◌+◌, ◌<◌, ◌==◌, ◌&&◌, ◌||◌, Bool, true, false, cond, List, [], ◌∷◌, ◌⊎◌, inl, inr, refl, sym, ap, ◌∙◌, arith, filter, nat_lt, nat_cmp, Ordering, Less, Equal, Greater, not, map, ⊎_elim, AllPairs, Option, subst, add-zero}
+use Rattle.std.proofs.Common.{◌≡◌, ℕ, ◌+◌, ◌<◌, ◌==◌, ◌&&◌, ◌||◌, Bool, true, false, cond, List, [], ◌∷◌, ◌⊎◌, inl, inr, refl, sym, ap, ◌∙◌, arith, filter, nat_lt, nat_cmp, Ordering, Less, Equal, Greater, not, map, ⊎_elim, AllPairs, Option, subst, add-zero, rules}
 use Rattle.std.proofs.Math.Bool.{and-true, and-false, or-false}
 use Rattle.std.proofs.lemmas.Bool.{and_parts}
-use Rattle.ft_query.proofs.Common.{list_any, AllByRecursion, ordering_then, match_ordering, nat_tests, Place, place_order, seek, among, recursion_from_All, Posting, IsBefore, PlainTerm, listed_places, is_listed, fits, takes, take_row, is_within, places_of, occurs, occurrences, PlainPhrase, shifted, taken_in, marks_from, may_begin, followed, starts_from}
+use Rattle.ft_query.proofs.Common.{list_any, AllByRecursion, ordering_then, match_ordering, nat_tests, Place, place_order, seek, among, recursion_from_All, Posting, IsBefore, PlainTerm, listed_places, is_listed, fits, takes, take_row, is_within, places_of, occurs, occurrences, PlainPhrase, shifted, taken_in, marks_from, may_begin, followed, starts_from, common_steps}
 use Rattle.ft_query.proofs.TokenOnce.{pairs_head, pairs_tail}
 
 -- ---- what the passes over rising places keep
@@ -52,8 +52,7 @@ ordered_by j y i x Equal Equal c p = grind (arith, nat_tests)
 ordered_by j y i x Equal Greater c p = inr (sym c, p)
 
 ordered : (j : ℕ) (y : Place) (i : ℕ) (x : Place) → Ordered j y i x (place_order j y i x)
-ordered j y i x =
-    ordered_by j y i x (nat_cmp y.column x.column) (nat_cmp (y.pos + j) (x.pos + i)) (compared y.column x.column) (compared (y.pos + j) (x.pos + i))
+ordered j y i x = grind arith
 
 earlier_apart : (j : ℕ) (y : Place) (i : ℕ) (x : Place) → Earlier j y i x → meets i j x y ≡ false
 earlier_apart j y i x earlier = grind (arith, nat_tests)
@@ -139,19 +138,7 @@ may_take t at = not t.first || at.pos == 0
 -- what a term takes is what its list answers, of which a first term keeps position 0
 pub places_by_list : (postings : List Posting) (t : PlainTerm) → filter (may_take t) (listed_places postings t) ≡ term_places postings t
 places_by_list [] t = refl
-places_by_list (p ∷ ps) t =
-    let more = places_by_list ps t in
-    let listed = filter (λ q. is_listed t q.term) ps in
-    let rest = filter (λ q. fits t q.term q.place.pos) ps in
-    elim (is_listed t p.term) as (λ v. filter (may_take t) (map (λ q. q.place) (cond v (p ∷ listed) listed)) ≡ map (λ q. q.place)
-    (cond (v && may_take t p.place) (p ∷ rest) rest)) [
-      | true ↦ elim (may_take t p.place) as (λ v. cond v (p.place ∷ filter (may_take t) (map (λ q. q.place) listed))
-          (filter (may_take t) (map (λ q. q.place) listed)) ≡ map (λ q. q.place) (cond v (p ∷ rest) rest)) [
-            | true ↦ ap (λ ls. p.place ∷ ls) more
-            | false ↦ more
-          ]
-      | false ↦ more
-    ]
+places_by_list (p ∷ ps) t = grind (arith, places_by_list ps t)
 
 abbrev pub stands : ℕ → ℕ → Place → Bool
 stands column pos at = at.column == column && at.pos == pos
@@ -170,51 +157,23 @@ joined only (l ∷ ls) = filter (λ at. is_within only at.column && follow ls at
 pub takes_by_list : (postings : List Posting) (t : PlainTerm) (column pos : ℕ)
     → list_any (stands column pos) (term_places postings t) ≡ takes postings t column pos
 takes_by_list [] t column pos = refl
-takes_by_list (p ∷ ps) t column pos =
-    let here = stands column pos p.place in
-    let rest = filter (λ q. fits t q.term q.place.pos) ps in
-    let more = takes_by_list ps t column pos in
-    elim (fits t p.term p.place.pos) as (λ v. list_any (stands column pos) (map (λ q. q.place) (cond v (p ∷ rest) rest))
-    ≡ (here && v) || takes ps t column pos) [
-      | true ↦ ap (λ b. here || b) more ∙ ap (λ b. b || takes ps t column pos) (sym (and-true here))
-      | false ↦ more ∙ ap (λ b. b || takes ps t column pos) (sym (and-false here))
-    ]
+takes_by_list (p ∷ ps) t column pos = grind (arith, takes_by_list ps t column pos)
 
 -- terms one after the other take tokens exactly where their lists follow one another
 pub row_by_lists : (postings : List Posting) (ts : List PlainTerm) (column pos : ℕ)
     → follow (map (term_places postings) ts) column pos ≡ take_row postings ts column pos
 row_by_lists postings [] column pos = refl
-row_by_lists postings (t ∷ ts) column pos =
-    simp (takes_by_list postings t column pos, row_by_lists postings ts column (pos + 1))
+row_by_lists postings (t ∷ ts) column pos = grind (arith, nat_tests, takes_by_list postings t column pos, row_by_lists postings ts column (pos + 1))
 
 -- ---- one posting at a place
 
 -- two postings of which one is before the other stand at two places
 apart : (p q : Posting) (f : Bool) → IsBefore p q ⊎ IsBefore q p → (p.place.column == q.place.column && p.place.pos == q.place.pos && f) ≡ false
-apart p q f order =
-    let columns : Type 0 = (p.place.column == q.place.column) ≡ false in
-    let positions : Type 0 = (p.place.pos == q.place.pos) ≡ false in
-    let by_column : columns → (p.place.column == q.place.column && p.place.pos == q.place.pos && f) ≡ false =
-    λ e. ap (λ b. b && p.place.pos == q.place.pos && f) e in
-    let by_position : positions → (p.place.column == q.place.column && p.place.pos == q.place.pos && f) ≡ false =
-    λ e. ap (λ b. p.place.column == q.place.column && b && f) e ∙ ap (λ b. b && f) (and-false (p.place.column == q.place.column)) in
-    ⊎_elim
-    (λ (before : IsBefore p q). ⊎_elim
-    (λ (less : p.place.column < q.place.column). by_column (grind (arith, nat_tests)))
-    (λ (less : (p.place.column ≡ q.place.column) × (p.place.pos < q.place.pos) × (p.place.start < q.place.start)). let h = less.1 in by_position
-    (grind (arith, nat_tests)))
-    before)
-    (λ (after : IsBefore q p). ⊎_elim
-    (λ (less : q.place.column < p.place.column). by_column (grind (arith, nat_tests)))
-    (λ (less : (q.place.column ≡ p.place.column) × (q.place.pos < p.place.pos) × (q.place.start < p.place.start)). let h = less.1 in by_position
-    (grind (arith, nat_tests)))
-    after)
-    order
+apart p q f order = grind arith
 
 none_takes : (p : Posting) (ps : List Posting) (t : PlainTerm) → AllByRecursion (IsBefore p) ps → takes ps t p.place.column p.place.pos ≡ false
 none_takes p [] t later = refl
-none_takes p (q ∷ qs) t later =
-    ap (λ b. b || takes qs t p.place.column p.place.pos) (apart q p (fits t q.term q.place.pos) (inr later.0)) ∙ none_takes p qs t later.1
+none_takes p (q ∷ qs) t later = grind (arith, none_takes p qs t later.1)
 
 -- at the place of a posting a term takes that posting or none
 unfoldable pub TakesHere : List Posting → PlainTerm → Posting → Type 0
@@ -224,14 +183,10 @@ one_more : (p : Posting) (ps qs : List Posting) (t : PlainTerm) → AllByRecursi
     → AllByRecursion (TakesHere (p ∷ ps) t) qs
 unfolding TakesHere
 one_more p ps [] t later here = tt
-one_more p ps (q ∷ qs) t later here =
-    (ap (λ b. b || takes ps t q.place.column q.place.pos) (apart p q (fits t p.term p.place.pos) (inl later.0)) ∙ here.0, one_more p ps qs t later.1 here.1)
+one_more p ps (q ∷ qs) t later here = grind (arith, one_more p ps qs t later.1 here.1)
 
 same_place : (p : Posting) (f : Bool) → (p.place.column == p.place.column && p.place.pos == p.place.pos && f) ≡ f
-same_place p f =
-    let column : (p.place.column == p.place.column) ≡ true = grind (arith, nat_tests) in
-    let position : (p.place.pos == p.place.pos) ≡ true = grind (arith, nat_tests) in
-    simp (column, position)
+same_place p f = grind arith
 
 pub takes_here : (postings : List Posting) (t : PlainTerm) → AllPairs IsBefore postings → AllByRecursion (TakesHere postings t) postings
 unfolding TakesHere
@@ -256,31 +211,13 @@ joined_part : (postings : List Posting) (only : Option ℕ) (t : PlainTerm) (ts 
     filter (joins_at postings only ts) (map (λ q. q.place) (filter (λ q. fits t q.term q.place.pos) ps)) ≡ filter (occurs_at postings only t ts) (places_of ps)
 joined_part postings only t ts [] here = refl
 joined_part postings only t ts (p ∷ ps) here =
-    let within = is_within only p.place.column in
-    let row = take_row postings ts p.place.column (p.place.pos + 1) in
-    let rest = filter (λ q. fits t q.term q.place.pos) ps in
-    let left = filter (joins_at postings only ts) (map (λ q. q.place) rest) in
-    let right = filter (occurs_at postings only t ts) (places_of ps) in
-    let same : left ≡ right = joined_part postings only t ts ps here.1 in
-    let by_row : joins_at postings only ts p.place ≡ (within && row) = ap (λ b. within && b) (row_by_lists postings ts p.place.column (p.place.pos + 1)) in
-    let cases : filter (joins_at postings only ts) (map (λ q. q.place) (cond (fits t p.term p.place.pos) (p ∷ rest) rest))
-    ≡ cond ((within && true) && (fits t p.term p.place.pos && row)) (p.place ∷ right) right =
-    elim (fits t p.term p.place.pos) as (λ v. filter (joins_at postings only ts) (map (λ q. q.place) (cond v (p ∷ rest) rest)) ≡ cond
-    ((within && true) && (v && row)) (p.place ∷ right) right) [
-      | true ↦ ap (λ b. cond b (p.place ∷ left) left) by_row ∙ ap (λ ls. cond (within && row) (p.place ∷ ls) ls) same ∙ ap
-          (λ b. cond (b && row) (p.place ∷ right) right) (sym (and-true within))
-      | false ↦ same ∙ ap (λ b. cond b (p.place ∷ right) right) (sym (and-false (within && true)))
-    ] in
-    cases ∙ ap (λ b. cond ((within && true) && (b && row)) (p.place ∷ right) right) (sym here.0)
+    grind (arith, nat_tests, fits t p.term p.place.pos, joined_part postings only t ts ps here.1, row_by_lists, and-true, and-false)
 
 -- a phrase without terms occurs nowhere
 none_occurs : (postings ps : List Posting) (only : Option ℕ)
     → filter (λ at. occurs postings (record { filter = only; terms = [] }) at.column at.pos) (places_of ps) ≡ []
 none_occurs postings [] only = refl
-none_occurs postings (p ∷ ps) only =
-    let right = filter (λ at. occurs postings (record { filter = only; terms = [] }) at.column at.pos) (places_of ps) in
-    let within = is_within only p.place.column in
-    ap (λ b. cond (b && true) (p.place ∷ right) right) (and-false within) ∙ none_occurs postings ps only
+none_occurs postings (p ∷ ps) only = grind (arith, none_occurs postings ps only)
 
 -- a phrase's occurrences are its terms' lists joined
 pub occurrences_by_lists : (postings : List Posting) (only : Option ℕ) (terms : List PlainTerm) → AllPairs IsBefore postings
@@ -293,40 +230,23 @@ occurrences_by_lists postings only (t ∷ ts) ordered = joined_part postings onl
 
 pub all_filter : {X : Type 0} (P : X → Type 0) (p : X → Bool) (xs : List X) → AllByRecursion P xs → AllByRecursion P (filter p xs)
 all_filter P p [] all = tt
-all_filter P p (x ∷ xs) all = elim (p x) as (λ b. AllByRecursion P (cond b (x ∷ filter p xs) (filter p xs))) [
-  | true ↦ (all.0, all_filter P p xs all.1)
-  | false ↦ all_filter P p xs all.1
-]
+all_filter P p (x ∷ xs) all = grind (arith, all_filter P p xs all.1)
 
 pub rising_filter : (p : Place → Bool) (xs : List Place) → Rising xs → Rising (filter p xs)
 rising_filter p [] rising = tt
-rising_filter p (x ∷ xs) rising = elim (p x) as (λ b. Rising (cond b (x ∷ filter p xs) (filter p xs))) [
-  | true ↦ (all_filter (Before x) p xs rising.0, rising_filter p xs rising.1)
-  | false ↦ rising_filter p xs rising.1
-]
+rising_filter p (x ∷ xs) rising = grind (arith, nat_tests, all_filter (Before x) p xs rising.0, rising_filter p xs rising.1)
 
 before_place : (p q : Posting) → IsBefore p q → Before p.place q.place
 before_place p q before = grind arith
 
 listed_later : (p : Posting) (t : PlainTerm) (ps : List Posting) → AllByRecursion (IsBefore p) ps → AllByRecursion (Before p.place) (listed_places ps t)
 listed_later p t [] all = tt
-listed_later p t (q ∷ qs) all =
-    elim (is_listed t q.term) as (λ b. AllByRecursion (Before p.place)
-    (map (λ (u : Posting). u.place) (cond b (q ∷ filter (λ u. is_listed t u.term) qs) (filter (λ u. is_listed t u.term) qs)))) [
-      | true ↦ (before_place p q all.0, listed_later p t qs all.1)
-      | false ↦ listed_later p t qs all.1
-    ]
+listed_later p t (q ∷ qs) all = grind (arith, listed_later p t qs all.1)
 
 pub listed_rising : (postings : List Posting) (t : PlainTerm) → AllPairs IsBefore postings → Rising (listed_places postings t)
 listed_rising [] t ordered = tt
 listed_rising (p ∷ ps) t ordered =
-    let later = listed_later p t ps (recursion_from_All (IsBefore p) ps (pairs_head IsBefore p ps ordered)) in
-    let rest = listed_rising ps t (pairs_tail IsBefore p ps ordered) in
-    elim (is_listed t p.term) as (λ b. Rising (map (λ (u : Posting). u.place)
-    (cond b (p ∷ filter (λ u. is_listed t u.term) ps) (filter (λ u. is_listed t u.term) ps)))) [
-      | true ↦ (later, rest)
-      | false ↦ rest
-    ]
+    search (rules, listed_later p t ps (recursion_from_All (IsBefore p) ps (pairs_head IsBefore p ps ordered)), listed_rising ps t (pairs_tail IsBefore p ps ordered))
 
 pub places_rising : (postings : List Posting) → AllPairs IsBefore postings → Rising (places_of postings)
 places_rising [] ordered = tt
@@ -348,10 +268,7 @@ any_same p q (x ∷ xs) same = ap (λ b. b || list_any p xs) (same x) ∙ ap (λ
 
 any_filter : {X : Type 0} (p q : X → Bool) (xs : List X) → list_any p (filter q xs) ≡ list_any (λ x. q x && p x) xs
 any_filter p q [] = refl
-any_filter p q (x ∷ xs) = elim (q x) as (λ b. list_any p (cond b (x ∷ filter q xs) (filter q xs)) ≡ ((b && p x) || list_any (λ u. q u && p u) xs)) [
-  | true ↦ ap (λ b. p x || b) (any_filter p q xs)
-  | false ↦ any_filter p q xs
-]
+any_filter p q (x ∷ xs) = grind (arith, any_filter p q xs)
 
 none_any : {X : Type 0} (xs : List X) → list_any (λ (x : X). false) xs ≡ false
 none_any [] = refl
@@ -367,11 +284,7 @@ filter_none (x ∷ xs) = filter_none xs
 
 filter_filter : {X : Type 0} (p q : X → Bool) (xs : List X) → filter p (filter q xs) ≡ filter (λ x. q x && p x) xs
 filter_filter p q [] = refl
-filter_filter p q (x ∷ xs) =
-    elim (q x) as (λ b. filter p (cond b (x ∷ filter q xs) (filter q xs)) ≡ cond (b && p x) (x ∷ filter (λ u. q u && p u) xs) (filter (λ u. q u && p u) xs)) [
-      | true ↦ ap (λ ls. cond (p x) (x ∷ ls) ls) (filter_filter p q xs)
-      | false ↦ filter_filter p q xs
-    ]
+filter_filter p q (x ∷ xs) = grind (arith, filter_filter p q xs)
 
 pub filter_alike : {X : Type 0} (p q : X → Bool) (xs : List X) → ((x : X) → p x ≡ q x) → filter p xs ≡ filter q xs
 filter_alike p q [] same = refl
@@ -403,11 +316,10 @@ followed_is : (postings : List Posting) (i : ℕ) (ts : List PlainTerm) (starts 
 followed_is postings i [] starts ordered some rising = sym (filter_all starts)
 followed_is postings i (t ∷ ts) starts ordered some rising =
     let here = λ (at : Place). list_any (stands at.column (at.pos + i)) (filter (may_take t) (listed_places postings t)) in
-    let kept = filter here starts in
     let rest = map (term_places postings) ts in
     ap (followed (i + 1) ts (map (listed_places postings) ts))
     (one_test t.first i starts (listed_places postings t) some rising (listed_rising postings t ordered))
-    ∙ followed_is postings (i + 1) ts kept ordered (omega arith) (rising_filter here starts rising)
+    ∙ followed_is postings (i + 1) ts (filter here starts) ordered (omega arith) (rising_filter here starts rising)
     ∙ filter_filter (λ at. follow rest at.column (at.pos + (i + 1))) here starts
     ∙ filter_alike (λ at. here at && follow rest at.column (at.pos + (i + 1)))
     (λ at. list_any (stands at.column (at.pos + i)) (term_places postings t) && follow rest at.column (at.pos + i + 1)) starts
@@ -425,8 +337,7 @@ pub starts_are : (postings : List Posting) (only : Option ℕ) (ts : List PlainT
 starts_are postings only [] ordered = occurrences_by_lists postings only [] ordered
 starts_are postings only (t ∷ ts) ordered =
     let list = listed_places postings t in
-    let rest = map (term_places postings) ts in
-    let after = λ (at : Place). follow rest at.column (at.pos + 1) in
+    let after = λ (at : Place). follow (map (term_places postings) ts) at.column (at.pos + 1) in
     followed_is postings 1 ts (filter (may_begin only t.first) list) ordered (omega arith)
     (rising_filter (may_begin only t.first) list (listed_rising postings t ordered))
     ∙ filter_filter after (may_begin only t.first) list
@@ -444,11 +355,7 @@ Alike xs ys = (p : Place → Bool) → list_any p xs ≡ list_any p ys
 
 witness : {X : Type 0} (p : X → Bool) (Q : X → Type 0) (xs : List X) → AllByRecursion Q xs → list_any p xs ≡ true → (x : X) × (p x ≡ true) × Q x
 witness p Q [] all e = cc
-witness p Q (x ∷ xs) all e = by (p x) refl e (witness p Q xs all.1)
-  where
-    by : (b : Bool) → p x ≡ b → (b || list_any p xs) ≡ true → (list_any p xs ≡ true → (y : _) × (p y ≡ true) × Q y) → (y : _) × (p y ≡ true) × Q y
-    by true is f rest = (x, is, all.0)
-    by false is f rest = rest f
+witness p Q (x ∷ xs) all e = grind (arith, witness p Q xs all.1)
 
 abbrev follows : ℕ → Place → Place → Bool
 follows i at start = start.column == at.column && start.pos + i == at.pos
@@ -464,30 +371,13 @@ at_place i at start e = (grind (arith, nat_tests), grind (arith, nat_tests))
 listed_here : (postings : List Posting) (i : ℕ) (t : PlainTerm) (ts : List PlainTerm) (starts : List Place) (q : Posting)
     → AllByRecursion (Takes postings i (t ∷ ts)) starts
     → takes postings t q.place.column q.place.pos ≡ fits t q.term q.place.pos → list_any (follows i q.place) starts ≡ true → is_listed t q.term ≡ true
-listed_here postings i t ts starts q all here some =
-    let one = witness (follows i q.place) (Takes postings i (t ∷ ts)) starts all some in
-    let start = one.0 in
-    let where_is = at_place i q.place start one.1 in
-    let taken : takes postings t start.column (start.pos + i) ≡ true =
-    (and_parts (takes postings t start.column (start.pos + i)) (take_row postings ts start.column (start.pos + i + 1)) one.2).0 in
-    let there : takes postings t q.place.column q.place.pos ≡ true =
-    subst (λ n. takes postings t q.place.column n ≡ true) where_is.1 (subst (λ n. takes postings t n (start.pos + i) ≡ true) where_is.0 taken) in
-    (and_parts (is_listed t q.term) (not t.first || q.place.pos == 0) (sym here ∙ there)).0
+listed_here postings i t ts starts q all here some = grind (arith, nat_tests, witness, at_place)
 
 -- a test that passes only where the term is listed keeps the same of its list as of all places
 kept_of_list : (t : PlainTerm) (p : Place → Bool) (ps : List Posting) → AllByRecursion (λ q. p q.place ≡ true → is_listed t q.term ≡ true) ps
     → filter p (listed_places ps t) ≡ filter p (places_of ps)
 kept_of_list t p [] all = refl
-kept_of_list t p (q ∷ qs) all =
-    let rest = kept_of_list t p qs all.1 in
-    by (is_listed t q.term) refl (p q.place) refl rest
-  where
-    by : (listed : Bool) → is_listed t q.term ≡ listed → (passes : Bool) → p q.place ≡ passes → filter p (listed_places qs t) ≡ filter p (places_of qs)
-        → filter p (map (λ (u : Posting). u.place) (cond listed (q ∷ filter (λ u. is_listed t u.term) qs) (filter (λ u. is_listed t u.term) qs)))
-        ≡ cond (p q.place) (q.place ∷ filter p (places_of qs)) (filter p (places_of qs))
-    by true is passes here rest = ap (λ ls. cond (p q.place) (q.place ∷ ls) ls) rest
-    by false is true here rest = let no : false ≡ true = sym is ∙ all.0 here in cc
-    by false is false here rest = rest ∙ sym (ap (λ b. cond b (q.place ∷ filter p (places_of qs)) (filter p (places_of qs))) here)
+kept_of_list t p (q ∷ qs) all = grind (arith, kept_of_list t p qs all.1)
 
 all_listed : (postings : List Posting) (i : ℕ) (t : PlainTerm) (ts : List PlainTerm) (starts : List Place) (ps : List Posting)
     → AllByRecursion (Takes postings i (t ∷ ts)) starts
@@ -499,12 +389,7 @@ all_listed postings i t ts starts (q ∷ qs) all here = (listed_here postings i 
 next_takes : (postings : List Posting) (i : ℕ) (t : PlainTerm) (ts : List PlainTerm) (starts : List Place) → AllByRecursion (Takes postings i (t ∷ ts)) starts
     → AllByRecursion (Takes postings (i + 1) ts) starts
 next_takes postings i t ts [] all = tt
-next_takes postings i t ts (s ∷ ss) all =
-    let behind : s.pos + i + 1 ≡ s.pos + (i + 1) = omega arith in (
-      subst (λ n. take_row postings ts s.column n ≡ true) behind
-          (and_parts (takes postings t s.column (s.pos + i)) (take_row postings ts s.column (s.pos + i + 1)) all.0).1,
-      next_takes postings i t ts ss all.1,
-    )
+next_takes postings i t ts (s ∷ ss) all = grind (arith, next_takes postings i t ts ss all.1)
 
 -- the places of each term's list in the occurrences are those that the term takes
 pub marks_are : (postings : List Posting) (i : ℕ) (ts : List PlainTerm) (starts counted : List Place) → AllPairs IsBefore postings → Rising starts
@@ -526,14 +411,4 @@ marks_are postings i (t ∷ ts) starts counted ordered rising all alike =
 pub occurrences_take : (postings : List Posting) (p : PlainPhrase) (ps : List Place)
     → AllByRecursion (Takes postings 0 p.terms) (filter (λ at. occurs postings p at.column at.pos) ps)
 occurrences_take postings p [] = tt
-occurrences_take postings p (s ∷ ss) = by (occurs postings p s.column s.pos) refl (occurrences_take postings p ss)
-  where
-    by : (b : Bool) → occurs postings p s.column s.pos ≡ b → AllByRecursion (Takes postings 0 p.terms) (filter (λ at. occurs postings p at.column at.pos) ss)
-        → AllByRecursion (Takes postings 0 p.terms) (cond b (s ∷ filter (λ at. occurs postings p at.column at.pos) ss)
-        (filter (λ at. occurs postings p at.column at.pos) ss))
-    by true is rest = (
-      subst (λ n. take_row postings p.terms s.column n ≡ true) (sym (add-zero s.pos))
-          (and_parts _ (take_row postings p.terms s.column s.pos) is).1,
-      rest,
-    )
-    by false is rest = rest
+occurrences_take postings p (s ∷ ss) = grind (arith, occurrences_take postings p ss)

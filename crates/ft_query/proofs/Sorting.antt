@@ -1,9 +1,9 @@
 -- The marks of a query's terms, sorted, are the offsets of the document.
-use Rattle.std.proofs.Common.{◌≡◌, ℕ, ◌+◌, ◌<◌, ◌==◌, ◌&&◌, Bool, true, false, cond, List, [], ◌∷◌, ◌++◌, ◌⊎◌, inl, inr, length, map, drop, get_or, suc, refl, sym, ◌∙◌, subst, arith, ⊎_elim, AllPairs, Contains, Some, None, filter, filter_map, IsPermutation, IsSortedBy, nat_cmp, is_lt, Ordering, Less, Equal, Greater}
+use Rattle.std.proofs.Common.{◌≡◌, ℕ, ◌+◌, ◌<◌, ◌==◌, ◌&&◌, Bool, true, false, cond, List, [], ◌∷◌, ◌++◌, ◌⊎◌, inl, inr, length, map, drop, get_or, suc, refl, sym, ◌∙◌, subst, arith, ⊎_elim, AllPairs, Contains, Some, None, filter, filter_map, IsPermutation, IsSortedBy, nat_cmp, is_lt, Ordering, Less, Equal, Greater, rules}
 use Rattle.std.specs.List.{IsDistinct}
 use Rattle.std.proofs.lemmas.List.Sorted.{Contains-permutation, IsPermutation-sym}
 use Rattle.std.proofs.lemmas.Map.Keys.{IsDistinct-cons, IsDistinct-head, IsDistinct-tail, IsDistinct-IsPermutation}
-use Rattle.ft_query.proofs.Common.{AllByRecursion, list_any, enumerate_from, cons_option, ordering_then, nat_tests, All-nil, All-cons, All-weaker, All-contains, All-from_recursion, recursion_from_All, Contains-append_left, Contains-append_right, Contains-append_cases, AllPairs-cons, Place, Offset, Posting, IsBefore, PlainTerm, PlainLink, Tree, phrase, chain, both, either, without, is_at, offsets_at, offsets_of, taken, taken_in, taken_links, places_of, heads, choices, occurrences, offset_at, numbered_offsets, precedes}
+use Rattle.ft_query.proofs.Common.{AllByRecursion, list_any, enumerate_from, cons_option, ordering_then, nat_tests, All-nil, All-cons, All-weaker, All-contains, All-from_recursion, recursion_from_All, Contains-append_left, Contains-append_right, Contains-append_cases, AllPairs-cons, Place, Offset, Posting, IsBefore, PlainTerm, PlainLink, Tree, phrase, chain, both, either, without, is_at, offsets_at, offsets_of, taken, taken_in, taken_links, places_of, heads, choices, occurrences, offset_at, numbered_offsets, precedes, common_steps}
 use Rattle.ft_query.proofs.TokenOnce.{pairs_head, pairs_tail}
 use Rattle.ft_query.proofs.OffsetOrder.{Rises, contains_cases, contains_head, contains_tail, only_offsets}
 use Rattle.ft_query.proofs.Choices.{contains_nothing, map_from, map_to, filter_from, flat_from, flat_to}
@@ -16,10 +16,7 @@ abbrev same_key : Offset → Offset → Bool
 same_key a b = a.column == b.column && a.place == b.place && a.term == b.term
 
 key_flips : (a b : Offset) → same_key a b ≡ same_key b a
-key_flips a b = rw (flips a.column b.column, flips a.place b.place, flips a.term b.term) refl
-  where
-    flips : (x y : ℕ) → (x == y) ≡ (y == x)
-    flips x y = grind (arith, nat_tests)
+key_flips a b = grind arith
 
 rises_by : (a b : Offset) (columns places terms : Ordering) → Compared b.column a.column columns → Compared b.place a.place places
     → Compared b.term a.term terms
@@ -30,14 +27,11 @@ rises_by a b Equal Less terms c p t not_before differ = cc
 rises_by a b Equal Greater terms c p t not_before differ = inr (inl (sym c, p))
 rises_by a b Equal Equal Less c p t not_before differ = cc
 rises_by a b Equal Equal Greater c p t not_before differ = inr (inr (sym c, sym p, t))
-rises_by a b Equal Equal Equal c p t not_before differ =
-    let no : same_key a b ≡ true = grind (arith, nat_tests) in let bad : true ≡ false = sym no ∙ differ in cc
+rises_by a b Equal Equal Equal c p t not_before differ = grind arith
 
 -- one that doesn't precede another and has another key comes after it
 rises_after : (a b : Offset) → precedes b a ≡ false → same_key a b ≡ false → Rises a b
-rises_after a b not_before differ =
-    rises_by a b (nat_cmp b.column a.column) (nat_cmp b.place a.place) (nat_cmp b.term a.term) (compared b.column a.column) (compared b.place a.place)
-    (compared b.term a.term) not_before differ
+rises_after a b not_before differ = grind arith
 
 rises_on : (a b c : Offset) → Rises a b → Rises b c → Rises a c
 rises_on a b c before after = grind arith
@@ -79,10 +73,7 @@ StartsRise (x ∷ xs) = AllByRecursion (StartsBefore x) xs × StartsRise xs
 
 starts_filter : (p : Place → Bool) (xs : List Place) → StartsRise xs → StartsRise (filter p xs)
 starts_filter p [] rise = tt
-starts_filter p (x ∷ xs) rise = elim (p x) as (λ b. StartsRise (cond b (x ∷ filter p xs) (filter p xs))) [
-  | true ↦ (all_filter (StartsBefore x) p xs rise.0, starts_filter p xs rise.1)
-  | false ↦ starts_filter p xs rise.1
-]
+starts_filter p (x ∷ xs) rise = grind (arith, nat_tests, all_filter (StartsBefore x) p xs rise.0, starts_filter p xs rise.1)
 
 starts_before : (p q : Posting) → IsBefore p q → StartsBefore p.place q.place
 starts_before p q (inl h) = inl h
@@ -167,23 +158,12 @@ at_same a b e = (grind (arith, nat_tests), grind (arith, nat_tests))
 
 not_before : (a b : Place) → Before a b → a.column ≡ b.column → a.pos ≡ b.pos → ⊥
 not_before a b (inl h) columns places = omega arith
-not_before a b (inr h) columns places = let x = h.1 in omega arith
+not_before a b (inr h) columns places = omega (arith, h.1)
 
 -- one place at a column and position
 one_place : (places : List Place) → Rising places → (a b : Place) → Contains places a → Contains places b → a.column ≡ b.column → a.pos ≡ b.pos → a ≡ b
 one_place [] rising a b c d columns positions = absurd (contains_nothing a c)
-one_place (x ∷ xs) rising a b c d columns positions = ⊎_elim
-    (λ (first : x ≡ a). ⊎_elim
-    (λ (second : x ≡ b). sym first ∙ second)
-    (λ (second : Contains xs b). absurd (not_before a b (subst (λ u. Before u b) first
-    (All-contains (Before x) xs b (All-from_recursion (Before x) xs rising.0) second)) columns positions))
-    (contains_cases x b xs d))
-    (λ (first : Contains xs a). ⊎_elim
-    (λ (second : x ≡ b). absurd (not_before b a (subst (λ u. Before u a) second
-    (All-contains (Before x) xs a (All-from_recursion (Before x) xs rising.0) first)) (sym columns) (sym positions)))
-    (λ (second : Contains xs b). one_place xs rising.1 a b first second columns positions)
-    (contains_cases x b xs d))
-    (contains_cases x a xs c)
+one_place (x ∷ xs) rising a b c d columns positions = grind (arith, nat_tests, one_place xs rising.1 a b, not_before, contains_cases, common_steps)
 
 at_place_marked : (places : List Place) → Rising places → (n : ℕ) (ms : List (List Place)) → AllByRecursion (Among places) ms → (at : Place)
     → Contains places at → (o : Offset) → Contains (from_term n ms at) o → Marked n ms o
@@ -197,8 +177,7 @@ at_place_marked places rising n (m ∷ ms) all at here o c = by (list_any (is_at
         (λ (first : offset_at n at ≡ o).
         let one = any_from (is_at at) m is in
         let same = at_same at one.0 one.2 in
-        let whole = one_place places rising at one.0 here (all.0 one.0 one.1) same.0 same.1 in
-        inl (at, subst (Contains m) (sym whole) one.1, first))
+        inl (at, subst (Contains m) (sym (one_place places rising at one.0 here (all.0 one.0 one.1) same.0 same.1)) one.1, first))
         (λ (later : Contains (from_term (n + 1) ms at) o). inr (rest later))
         (contains_cases (offset_at n at) o (from_term (n + 1) ms at) d)
 
@@ -206,13 +185,7 @@ marked_at_place : (places : List Place) (n : ℕ) (ms : List (List Place)) → A
     → (at : Place) × Contains places at × Contains (from_term n ms at) o
 marked_at_place places n [] all o is = absurd is
 marked_at_place places n (m ∷ ms) all o (inl is) =
-    let at = is.0 in
-    let here = any_to (is_at at) m at is.1 (is_at_itself at) in (
-      at,
-      all.0 at is.1,
-      subst (λ b. Contains (cons_option (cond b (Some (offset_at n at)) None) (from_term (n + 1) ms at)) o) (sym here)
-          (subst (Contains (offset_at n at ∷ from_term (n + 1) ms at)) is.2 (contains_head (offset_at n at) (from_term (n + 1) ms at))),
-    )
+    grind (arith, nat_tests, any_to (is_at (is.0)) m (is.0) is.1 (is_at_itself (is.0)), contains_head (offset_at n (is.0)) (from_term (n + 1) ms (is.0)))
 marked_at_place places n (m ∷ ms) all o (inr is) =
     let one = marked_at_place places (n + 1) ms all.1 o is in
     let at = one.0 in (
@@ -236,8 +209,7 @@ all_append P (x ∷ xs) ys first second = (first.0, all_append P xs ys first.1 s
 
 phrase_drawn : (postings : List Posting) (i : ℕ) (ts : List PlainTerm) (starts : List Place) → AllByRecursion (Drawn postings) (taken_in postings i ts starts)
 phrase_drawn postings i [] starts = tt
-phrase_drawn postings i (t ∷ ts) starts =
-    ((λ at. list_any (λ start. start.column == at.column && start.pos + i == at.pos) starts, refl), phrase_drawn postings (i + 1) ts starts)
+phrase_drawn postings i (t ∷ ts) starts = grind (arith, phrase_drawn postings (i + 1) ts starts)
 
 links_drawn : (postings : List Posting) (cs : List (List Place)) (links : List PlainLink) → AllByRecursion (Drawn postings) (taken_links postings cs links)
 links_drawn postings cs [] = tt

@@ -1,6 +1,6 @@
 -- What is joined to the first operand of a query, one joint after the other.
 use Rattle.std.proofs.Common.{◌≡◌, ◌+◌, ◌≤◌, ◌<◌, List, [], ◌∷◌, ◌++◌, length, refl, sym, ap, subst, ◌∙◌, append_assoc, arith, length-append}
-use Rattle.ft_query.proofs.Common.{By, Joint, Tree, phrase, chain, both, either, without, tree_of, terms_in, node_count, width, joined_sides, whole, AddsSpine}
+use Rattle.ft_query.proofs.Common.{By, Joint, Tree, phrase, chain, both, either, without, tree_of, terms_in, node_count, width, joined_sides, whole, AddsSpine, nat_tests, common_steps}
 use Rattle.ft_query.specs.declared.walk.joint.By.TheVariants as by
 
 -- the last joint is joined first
@@ -21,9 +21,9 @@ joined_width p by.Not q = refl
 pub some_width : (t : Tree) → 1 ≤ width t
 some_width (phrase p) = omega arith
 some_width (chain p links) = omega arith
-some_width (both p q) = let one = some_width p in omega (arith, one)
-some_width (either p q) = let one = some_width p in omega (arith, one)
-some_width (without p q) = let one = some_width p in omega (arith, one)
+some_width (both p q) = omega (arith, some_width p)
+some_width (either p q) = omega (arith, some_width p)
+some_width (without p q) = omega (arith, some_width p)
 
 -- a left side's joint more
 pub spine_on : (old now new : List Joint) (j : Joint) (left : Tree) {query : Tree} → AddsSpine old now (joined_sides left j.by (tree_of j.right.now)) query
@@ -44,24 +44,15 @@ some_nodes _ = omega arith
 pub part_terms : (js : List Joint) (p : Tree) → length (terms_in p) ≤ length (terms_in (whole js p))
 part_terms [] p = omega arith
 part_terms (j ∷ js) p =
-    let rest = part_terms js p in
     let q = tree_of j.right.now in
-    let sum = ap length (joined_terms (whole js p) j.by q) ∙ length-append (terms_in (whole js p)) (terms_in q) in
-    omega (arith, rest, sum)
+    omega (arith, part_terms js p, ap length (joined_terms (whole js p) j.by q) ∙ length-append (terms_in (whole js p)) (terms_in q))
 
 part_width : (js : List Joint) (p : Tree) → width p ≤ width (whole js p)
 part_width [] p = omega arith
-part_width (j ∷ js) p =
-    let rest = part_width js p in
-    let sum = joined_width (whole js p) j.by (tree_of j.right.now) in
-    omega (arith, rest, sum)
+part_width (j ∷ js) p = grind (arith, part_width js p)
 
 -- a right side is less wide than the whole
 pub right_width : (js : List Joint) (j : Joint) (p query : Tree) → whole (js ++ j ∷ []) p ≡ query → width (tree_of j.right.now) < width query
 right_width js j p query all =
     let q = tree_of j.right.now in
-    let wide = part_width js (joined_sides p j.by q) in
-    let is = ap width (sym (whole_last js j p) ∙ all) in
-    let both_wide = joined_width p j.by q in
-    let some = some_width p in
-    omega (arith, wide, is, both_wide, some)
+    omega (arith, part_width js (joined_sides p j.by q), ap width (sym (whole_last js j p) ∙ all), joined_width p j.by q, some_width p)

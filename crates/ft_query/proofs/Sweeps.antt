@@ -1,7 +1,7 @@
 -- A loop that changes each element of a list, one after the other.
 use Rattle.std.proofs.Common.{◌≡◌, ℕ, ◌≤◌, List, [], ◌∷◌, refl, length, map, sym, ap, ◌∙◌, ◌+◌, ◌<◌, zero, suc, subst, arith, slice_set, slice_index_or}
 use Rattle.std.proofs.lemmas.Simd.{map-map}
-use Rattle.ft_query.proofs.Common.{Cursor, PlaceList, lists_left, lists_kept, length-map}
+use Rattle.ft_query.proofs.Common.{Cursor, PlaceList, lists_left, lists_kept, length-map, nat_tests, common_steps}
 
 -- the first i elements changed
 abbrev pub swept : {B : Type 0} → (B → B) → ℕ → List B → List B
@@ -28,23 +28,17 @@ module _ {A B : Type 0} (f : A → B) (g : B → B) where
   sweep_on [] bs i d y so_far within next = absurd (omega arith)
   sweep_on (x ∷ xs) [] zero d y so_far within next = let h = ap length so_far in absurd (omega arith)
   sweep_on (x ∷ xs) [] (suc i) d y so_far within next = let h = ap length so_far in absurd (omega arith)
-  sweep_on (x ∷ xs) (b ∷ bs) zero d y so_far within next =
-      ap (λ cs. cs ∷ map f xs) (next ∙ ap g (head_of (f x) (map f xs) b bs so_far)) ∙ ap (λ cs. g b ∷ cs) (tail_of (f x) (map f xs) b bs so_far)
+  sweep_on (x ∷ xs) (b ∷ bs) zero d y so_far within next = grind arith
   sweep_on (x ∷ xs) (b ∷ bs) (suc i) d y so_far within next =
-      ap (λ c. c ∷ map f (slice_set xs i y)) (head_of (f x) (map f xs) (g b) (swept g i bs) so_far)
-      ∙ ap (λ cs. g b ∷ cs) (sweep_on xs bs i d y (tail_of (f x) (map f xs) (g b) (swept g i bs) so_far) (omega arith) next)
+      grind (arith, sweep_on xs bs i d y (tail_of (f x) (map f xs) (g b) (swept g i bs) so_far) (omega arith) next)
 
   -- one more
   pub sweep_next : (xs : List A) (bs : List B) (i : ℕ) (d y : A) → map f xs ≡ swept g i bs → i < length xs → f y ≡ g (f (slice_index_or xs i d))
       → map f (slice_set xs i y) ≡ swept g (i + 1) bs
-  sweep_next xs bs i d y so_far within next =
-      let same : suc i ≡ i + 1 = omega arith in
-      subst (λ n. map f (slice_set xs i y) ≡ swept g n bs) same (sweep_on xs bs i d y so_far within next)
+  sweep_next xs bs i d y so_far within next = grind (arith, nat_tests, sweep_on xs bs i d y so_far within next)
 
   pub sweep_end : (xs ys : List A) (i : ℕ) → map f xs ≡ swept g i (map f ys) → length ys ≤ i → map f xs ≡ map g (map f ys)
-  sweep_end xs ys i so_far enough =
-      let many : length (map f ys) ≤ i = rw length-map enough in
-      so_far ∙ all_swept g (map f ys) i many
+  sweep_end xs ys i so_far enough = grind (arith, nat_tests, all_swept g (map f ys) i (rw length-map enough))
 
 -- ---- where a walk and its search stand in the lists
 

@@ -1,7 +1,7 @@
 -- What the evaluation of a document answers.
-use Rattle.std.proofs.Common.{◌≡◌, Bool, true, false, cond, List, length, map, sym, ap, ◌∙◌, AllPairs, Option, Some, None, IsPermutation, IsSortedBy}
+use Rattle.std.proofs.Common.{◌≡◌, Bool, true, false, cond, List, length, map, sym, ap, ◌∙◌, AllPairs, Option, Some, None, IsPermutation, IsSortedBy, arith}
 use Rattle.std.proofs.lemmas.List.Sorted.{length_permutation}
-use Rattle.ft_query.proofs.Common.{nil_from_length, Place, Offset, Wanted, Docids, Offsets, Posting, IsBefore, Tree, terms_in, accepts, offsets_of, listed_places, is_accepted, marks_of, numbered_offsets, precedes, if_wanted}
+use Rattle.ft_query.proofs.Common.{nil_from_length, Place, Offset, Wanted, Docids, Offsets, Posting, IsBefore, Tree, terms_in, accepts, offsets_of, listed_places, is_accepted, marks_of, numbered_offsets, precedes, if_wanted, nat_tests, common_steps}
 use Rattle.ft_query.proofs.ChainPasses.{accepted_is, marked_is}
 use Rattle.ft_query.proofs.Sorting.{sorted_are}
 
@@ -14,8 +14,7 @@ by_test postings tree lists b ordered is accepted = sym (accepted ∙ ap (is_acc
 
 pub rejected_is : (wanted : Wanted) (postings : List Posting) (tree : Tree) (lists : List (List Place)) (b : Bool) → AllPairs IsBefore postings
     → lists ≡ map (listed_places postings) (terms_in tree) → b ≡ is_accepted tree lists → b ≡ false → None ≡ answer_of wanted postings tree
-rejected_is wanted postings tree lists b ordered is accepted rejected =
-    sym (ap (λ t. cond t (Some (if_wanted wanted (offsets_of postings tree))) None) (by_test postings tree lists b ordered is accepted ∙ rejected))
+rejected_is wanted postings tree lists b ordered is accepted rejected = grind (arith, nat_tests, by_test postings tree lists b ordered is accepted)
 
 -- the offsets are in order, or there are none
 sorted_is : (wanted : Wanted) (postings : List Posting) (tree : Tree) (lists : List (List Place)) (marks out : List Offset) → AllPairs IsBefore postings
@@ -33,5 +32,4 @@ pub found_is : (wanted : Wanted) (postings : List Posting) (tree : Tree) (lists 
     → marks ≡ numbered_offsets 0 (if_wanted wanted (marks_of tree lists)) → IsPermutation marks out → IsSortedBy precedes out
     → Some out ≡ answer_of wanted postings tree
 found_is wanted postings tree lists b marks out ordered is accepted passed marked permutation sorted =
-    ap (λ os. Some os) (sorted_is wanted postings tree lists marks out ordered is marked permutation sorted)
-    ∙ sym (ap (λ t. cond t (Some (if_wanted wanted (offsets_of postings tree))) None) (by_test postings tree lists b ordered is accepted ∙ passed))
+    grind (arith, nat_tests, sorted_is wanted postings tree lists marks out ordered is marked permutation sorted, by_test postings tree lists b ordered is accepted)

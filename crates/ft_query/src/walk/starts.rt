@@ -122,22 +122,22 @@ pub(crate) fn begin(
 /// first term follows nothing.
 pub(crate) fn followed(
     alloc: Global,
-    starts: &Vec<Place>,
+    starts: &[Place],
     i: usize,
     term: &QueryTerm,
     places: &[Place],
     steps: &mut Steps,
 ) -> Result<Vec<Place>, AllocError>
     ensures starts { IfOk result (λ s. s.items
-        ≡ (if term.now.first then [] else among i 0 starts.now.items places.now)) }
-    ensures steps { TakesAtMost (length starts.now.items + length places.now)
+        ≡ (if term.now.first then [] else among i 0 starts.now places.now)) }
+    ensures steps { TakesAtMost (length starts.now + length places.now)
         steps.old steps.new }
 {
     if term.first {
         return Ok(Vec::new(alloc));
     }
     let mut kept = Vec::with_capacity(alloc, starts.len())?;
-    let mut ahead = starts.as_slice();
+    let mut ahead = starts;
     let mut left = places;
     while let Some((start, more)) = split_first(ahead) {
         let (is_there, behind) = seek(start, i, left, 0, steps);
@@ -154,18 +154,18 @@ pub(crate) fn followed(
 pub(crate) fn near_those(
     alloc: Global,
     gap: Gap,
-    starts: &Vec<Place>,
-    others: &Vec<Place>,
+    starts: &[Place],
+    others: &[Place],
     steps: &mut Steps,
 ) -> Result<Vec<Place>, AllocError>
     ensures starts { IfOk result (λ s. s.items
-        ≡ near_those gap.most gap.k starts.now.items gap.m others.now.items) }
-    ensures steps { TakesAtMost (length starts.now.items + 3 * length others.now.items)
+        ≡ near_those gap.most gap.k starts.now gap.m others.now) }
+    ensures steps { TakesAtMost (length starts.now + 3 * length others.now)
         steps.old steps.new }
 {
     let mut kept = Vec::with_capacity(alloc, others.len())?;
-    let mut left = starts.as_slice();
-    let mut ahead = others.as_slice();
+    let mut left = starts;
+    let mut ahead = others;
     while let Some((other, more)) = split_first(ahead) {
         left = skip_behind(left, gap, other, steps);
         if begin_near(left, gap, other, steps) {
@@ -181,18 +181,18 @@ pub(crate) fn near_those(
 pub(crate) fn mark(
     found: &mut Vec<Offset>,
     number: usize,
-    starts: &Vec<Place>,
+    starts: &[Place],
     i: usize,
     places: &[Place],
     steps: &mut Steps,
 ) -> Result<(), AllocError>
     ensures marked { OnOk result (found.new.items
-        ≡ found.old.items ++ map (offset_at number) (among 0 i places.now starts.now.items)) }
-    ensures steps { TakesAtMost (length places.now + length starts.now.items)
+        ≡ found.old.items ++ map (offset_at number) (among 0 i places.now starts.now)) }
+    ensures steps { TakesAtMost (length places.now + length starts.now)
         steps.old steps.new }
 {
     let mut ahead = places;
-    let mut left = starts.as_slice();
+    let mut left = starts;
     while let Some((spot, more)) = split_first(ahead) {
         let (is_there, behind) = seek(spot, 0, left, i, steps);
         if is_there {

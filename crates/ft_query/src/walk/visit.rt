@@ -121,15 +121,15 @@ fn no_offsets(alloc: Global, wanted: Wanted) -> Found
 // Adds the offsets of a phrase's terms, which have these lists, in its occurrences.
 fn mark_phrase(
     found: &mut Found,
-    starts: &Vec<Place>,
+    starts: &[Place],
     lists: &[&[Place]],
     steps: &mut Steps,
 ) -> Result<(), AllocError>
     requires { found.old.next + length lists.now < 2 ^ 64 }
     ensures marks { Marks result found.old found.new
-        (marks_from 0 (plain_lists lists.now) starts.now.items) (length lists.now) }
+        (marks_from 0 (plain_lists lists.now) starts.now) (length lists.now) }
     ensures steps { TakesAtMost
-        (total (plain_lists lists.now) + length lists.now * length starts.now.items)
+        (total (plain_lists lists.now) + length lists.now * length starts.now)
         steps.old steps.new }
 {
     for (i, list) in lists.iter().enumerate() {
@@ -192,7 +192,7 @@ fn linked(
 fn mark_links(
     found: &mut Found,
     near: &Chain,
-    starts: &Vec<Place>,
+    starts: &[Place],
     lists: &[&[Place]],
     all: &[Vec<Place>],
     steps: &mut Steps,
@@ -201,11 +201,11 @@ fn mark_links(
         (flat_map (λ l. l.to.terms) (map plain_link near.now.links.items)) lists.now }
     requires all { length all.now ≡ length near.now.links.items }
     ensures marks { Marks result found.old found.new
-        (link_marks (length near.now.first.terms.items) starts.now.items
+        (link_marks (length near.now.first.terms.items) starts.now
         (map plain_link near.now.links.items) (plain_lists lists.now) (plain_starts all.now))
         (length lists.now) }
     ensures steps { TakesAtMost
-        (link_cost (length near.now.first.terms.items) starts.now.items
+        (link_cost (length near.now.first.terms.items) starts.now
         (map plain_link near.now.links.items) (plain_lists lists.now) (plain_starts all.now))
         steps.old steps.new }
 {
@@ -215,7 +215,7 @@ fn mark_links(
     for (i, link) in near.links.iter().enumerate() {
         let size = link.to.terms.len();
         let own = &lists[at..at + size];
-        let starts = kept.as_ref().unwrap_or(starts);
+        let starts = kept.as_deref().unwrap_or(starts);
         let most = link.most;
         let gap = Gap { k, m: size, most };
         let next = near_those(found.alloc, gap, starts, &all[i], steps)?;

@@ -20,22 +20,20 @@ returns-in-None-clause-fault c _ =
 
 pub returns-in-Some-clause-ok : goal.returns-in-Some-clause-ok
 returns-in-Some-clause-ok c =
-    let lexed = rw c.in-Some.is at c.in_ok-lexemes_of.ensures in
     let found = map plain_lexeme c.in-Some.lexemes.items in
     let same =
     read_within (map string_bytes c.args.columns.now) c.args.default c.args.text.now found c.if-text-gt-MOST_BYTES.false
-    (sym c.has_zero.ensures ∙ c.if-has_zero.false) lexed in
+    (sym c.has_zero.ensures ∙ c.if-has_zero.false) (rw c.in-Some.is at c.in_ok-lexemes_of.ensures) in
     IfOk-weaker c.read.result (λ query. query_within c.args.default found ≡ Ok (option_map tree_of query))
     (λ query. query_of (map string_bytes c.args.columns.now) c.args.default c.args.text.now ≡ Ok (option_map tree_of query))
     (λ query e. sym same ∙ e) c.read.ensures.ok
 
 pub returns-in-Some-clause-fault : goal.returns-in-Some-clause-fault
 returns-in-Some-clause-fault c =
-    let lexed = rw c.in-Some.is at c.in_ok-lexemes_of.ensures in
     let found = map plain_lexeme c.in-Some.lexemes.items in
     let same =
     read_within (map string_bytes c.args.columns.now) c.args.default c.args.text.now found c.if-text-gt-MOST_BYTES.false
-    (sym c.has_zero.ensures ∙ c.if-has_zero.false) lexed in
+    (sym c.has_zero.ensures ∙ c.if-has_zero.false) (rw c.in-Some.is at c.in_ok-lexemes_of.ensures) in
     IfErr-weaker c.read.result (λ fault. fault ≢ Memory → query_within c.args.default found ≡ Err fault)
     (λ fault. fault ≢ Memory → query_of (map string_bytes c.args.columns.now) c.args.default c.args.text.now ≡ Err fault)
     (λ fault e other. sym same ∙ e other) c.read.ensures.fault

@@ -10,8 +10,7 @@ add_query-requires t c =
     let items : c.loop-joint.joints.items ≡ c.pop.new.self.items ++ c.in-Some.joint ∷ [] = c.in-Some.ensures.items in
     let at = c.loop-joint.invariant in
     let all = subst (λ (js : List Joint). whole js at.part ≡ tree_of c.args.query.now) items at.all in
-    let less = right_width c.pop.new.self.items c.in-Some.joint at.part (tree_of c.args.query.now) all in
-    (omega (arith, less), tt)
+    (omega (arith, right_width c.pop.new.self.items c.in-Some.joint at.part (tree_of c.args.query.now) all), tt)
 
 pub loop-joint-preserved : goal.loop-joint-preserved
 loop-joint-preserved t c = front_on c.in-Some.joint c.in-Some.ensures.items c.loop-joint.invariant c.in_ok-add_query.ensures

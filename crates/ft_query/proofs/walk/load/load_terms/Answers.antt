@@ -49,12 +49,9 @@ loop-term-preserved g c = record {
   becomes = reaches_on _ _ _ _ _ c.loop-term.invariant.becomes c.in_ok-answer.ensures.asks.becomes;
   failed = grind (arith, common_steps);
   given = λ clean few.
-      let was = c.in_ok-answer.ensures.asks.clean clean in
-      let so_far = c.loop-term.invariant.given was.0 few in
-      let more = c.in_ok-answer.ensures.given in
       let same = ap place_count (next g c clean ∙ sym (c.in_ok-answer.ensures.list clean)) in
       let all = ap places_left c.in_ok-push.ensures.items ∙ places_on c.loop-term.cursors.items c.in_ok-cursor.cursor in
-      omega (arith, so_far, more, same, all);
+      omega (arith, c.loop-term.invariant.given (c.in_ok-answer.ensures.asks.clean clean).0 few, c.in_ok-answer.ensures.given, same, all);
 }
 
 pub returns-clause-loads : goal.returns-clause-loads

@@ -33,13 +33,12 @@ loop-docid-smaller c = fewer (goal.at.loop-docid-smaller c).After-pass
 pub loop-docid-preserved : goal.loop-docid-preserved
 loop-docid-preserved c =
     let here = (goal.at.loop-docid-preserved c).After-pass in
-    let less = fewer here in
     let so_far = c.loop-docid.invariant in
     record {
       kept = c.pass.ensures.go.kept ∙ so_far.kept;
       number = c.pass.auto.cursors ∙ so_far.number;
       rise = omega (arith, so_far.rise, c.least.ensures.steps.at_least, c.in_ok-offsets.ensures.steps.at_least, c.pass.ensures.steps.at_least);
-      fewer = omega (arith, less, so_far.fewer);
+      fewer = omega (arith, fewer here, so_far.fewer);
       went = λ documents stands.
           let first = so_far.went documents stands in
           went_then c.args.query.now (map lists_left c.args.cursors.now) (map lists_left c.loop-docid.cursors) (map lists_left c.pass.new.cursors)
@@ -68,9 +67,8 @@ returns-clause-finds c = record {
 pub returns-in-Some-offsets-clause-finds : goal.returns-in-Some-offsets-clause-finds
 returns-in-Some-offsets-clause-finds c =
     let here = (goal.at.returns-in-Some-offsets-clause-finds c).After-pass in
-    let less = fewer here in
     let all : sum_by length (map lists_left c.pass.new.cursors) < sum_by length (map lists_left c.args.cursors.now) =
-    omega (arith, less, c.loop-docid.invariant.fewer) in
+    omega (arith, fewer here, c.loop-docid.invariant.fewer) in
     record {
       passes = all;
       finds = λ documents stands.

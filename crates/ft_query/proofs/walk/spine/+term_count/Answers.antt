@@ -10,7 +10,4 @@ term_count-count-requires t c =
     let q = tree_of c.deref.result.now in
     let terms : terms_in p ++ terms_in q ≡ terms_in (tree_of c.loop-part.part.now) = search rules in
     let wide : width p + width q ≡ width (tree_of c.loop-part.part.now) = search rules in
-    let sum = length-append (terms_in p) (terms_in q) in
-    let some = some_width p in
-    let same = ap length terms in
-    (omega (arith, wide, some), omega (arith, same, sum))
+    (omega (arith, wide, some_width p), omega (arith, ap length terms, length-append (terms_in p) (terms_in q)))

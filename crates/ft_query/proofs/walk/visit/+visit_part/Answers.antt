@@ -6,11 +6,10 @@ use Rattle.ft_query.proofs.walk.visit.+visit_part.Goals as goal
 pub visit_joint-returns-then-not-accepted-clause-steps : goal.visit_joint-returns-then-not-accepted-clause-steps
 visit_joint-returns-then-not-accepted-clause-steps t c =
     let right = tree_of c.args.joint.right.now in
-    let cost = nodes_cost right (plain_lists (own_lists right c.args.lists.now.now)) in
     let more = c.term_count-count.ensures.steps in
     record {
       at_least = omega (arith, c.visit.ensures.step.at_least, more.at_least);
-      at_most = omega (arith, cost, c.visit.ensures.step.at_most, more.at_most);
+      at_most = omega (arith, nodes_cost right (plain_lists (own_lists right c.args.lists.now.now)), c.visit.ensures.step.at_most, more.at_most);
     }
 
 pub visit_part-visit_leaf-requires : goal.visit_part-visit_leaf-requires

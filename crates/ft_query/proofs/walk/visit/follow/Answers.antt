@@ -13,12 +13,12 @@ loop-i-preserved c =
     let starts = c.loop-i.starts.items in
     let list = (get_or c.args.lists.now i no_list).now in
     let inside : i < length c.args.lists.now = omega arith in
-    let is = c.in_ok-starts.ensures.starts in
+    let is = rw c.deref.ensures.value at c.in_ok-starts.ensures.starts in
     let step = follow_more i c.args.terms.now c.args.lists.now starts c.index-terms-i.result no_list c.loop-i-test.true c.requires c.index-terms-i.is in (
       ap (followed (i + 1 + 1) (map plain_term (drop (i + 1) c.args.terms.now)) (plain_lists (drop (i + 1) c.args.lists.now))) is ∙ sym step
           ∙ c.loop-i.invariant.0,
       omega arith,
-      omega (arith, total_more c.args.lists.now i no_list inside, followed_few c.index-terms-i.result.first (i + 1) starts list, ap length is),
+      omega (arith, total_more c.args.lists.now i no_list inside, followed_few c.index-terms-i.result.first (i + 1) starts list, ap length is, ap length c.deref.ensures.value),
     )
 
 pub returns-in_err-starts-clause-steps : goal.returns-in_err-starts-clause-steps

@@ -9,8 +9,7 @@ last_none first (link ∷ links) none = absurd (omega arith)
 
 pub returns-in-Some : goal.returns-in-Some
 returns-in-Some c =
-    let link = c.in-Some.link.now in
-    sym (ap (last_phrase c.args.first.now) c.in-Some.ensures.cases.0 ∙ last_push c.args.first.now c.in-Some.field-0-1.now link)
+    sym (ap (last_phrase c.args.first.now) c.in-Some.ensures.cases.0 ∙ last_push c.args.first.now c.in-Some.field-0-1.now c.in-Some.link.now)
 
 pub returns-in-None : goal.returns-in-None
 returns-in-None c = sym (last_none c.args.first.now c.args.links.now c.in-None.ensures.cases)

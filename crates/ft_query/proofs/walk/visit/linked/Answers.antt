@@ -14,10 +14,8 @@ count_push : (links : List Link) (link : Link) → count_of (links ++ link ∷ [
 unfolding count_of
 count_push [] link = length-append (map plain_term link.to.terms.items) [] ∙ omega (arith, length-map link.to.terms.items plain_term)
 count_push (l ∷ links) link =
-    let more = count_push links link in
     let one = length-append (map plain_term l.to.terms.items) (flat_map (λ m. m.to.terms) (map plain_link (links ++ link ∷ []))) in
-    let two = length-append (map plain_term l.to.terms.items) (flat_map (λ m. m.to.terms) (map plain_link links)) in
-    omega (arith, more, one, two)
+    omega (arith, count_push links link, one, length-append (map plain_term l.to.terms.items) (flat_map (λ m. m.to.terms) (map plain_link links)))
 
 chain_count : (first : Phrase) (links : List Link)
     → length (terms_in (chain (plain_phrase first) (map plain_link links))) ≡ length first.terms.items + count_of links
@@ -34,9 +32,7 @@ count_more link links = chain_count link.to links
 last_short : (first : Phrase) (links : List Link) → length (last_phrase first links).terms.items ≤ length first.terms.items + count_of links
 last_short first [] = omega arith
 last_short first (l ∷ links) =
-    let more = last_short l.to links in
-    let sum = count_more l links in
-    omega (arith, more, sum)
+    omega (arith, last_short l.to links, count_more l links)
 
 -- ---- one phrase more
 
@@ -55,21 +51,17 @@ part_cost : (first : Phrase) (left done : List Link) (front behind : List LentPl
     ≤ linked_cost (plain_phrase first) (map plain_link (left ++ done)) (plain_lists (front ++ behind))
 unfolding count_of
 part_cost first [] done front behind each =
-    let none = nil_from_length front (omega (arith, each)) in
-    let same = ap (λ l. linked_cost (plain_phrase first) (map plain_link done) (plain_lists (l ++ behind))) none in
+    let same = ap (λ l. linked_cost (plain_phrase first) (map plain_link done) (plain_lists (l ++ behind))) (nil_from_length front (omega (arith, each))) in
     omega (arith, same)
 part_cost first (link ∷ left) done front behind each =
     let terms = first.terms.items in
     let n = length terms in
-    let short = last_short link.to left in
     let sum = count_more link left in
-    let enough : n ≤ length front = omega (arith, short, sum, each) in
-    let fewer = length-drop n front in
-    let inner = part_cost link.to left done (drop n front) behind (omega (arith, fewer, sum, each, enough)) in
+    let enough : n ≤ length front = omega (arith, last_short link.to left, sum, each) in
     let is : drop (length (map plain_term terms)) (plain_lists (front ++ behind)) ≡ plain_lists (drop n front ++ behind) =
     simp (length-map, drop-map, drop-append-le n front behind enough) in
     let same = ap (linked_cost (plain_phrase link.to) (map plain_link (left ++ done))) is in
-    omega (arith, inner, same)
+    omega (arith, part_cost link.to left done (drop n front) behind (omega (arith, length-drop n front, sum, each, enough)), same)
 
 -- ---- one turn
 
@@ -78,10 +70,7 @@ enough : {first : Phrase} {links : List Link} (before : List Link) (link : Link)
     {begun steps : Steps} → IsBack first links (before ++ link ∷ []) lists front next rest begun steps
     → length front ≡ length first.terms.items + count_of before
 enough {first} {links} before link {lists} {front} at =
-    let last = ap (λ p. length p.terms.items) (last_push first before link) in
-    let sum = chain_count first (before ++ link ∷ []) in
-    let more = count_push before link in
-    omega (arith, last, sum, more, at.each)
+    omega (arith, ap (λ p. length p.terms.items) (last_push first before link), chain_count first (before ++ link ∷ []), count_push before link, at.each)
 
 -- the steps of one turn, with those before it, are among those for the whole chain
 turn_cost : {first : Phrase} {links : List Link} (before : List Link) (link : Link) {lists : List LentPlaces} (own front : List LentPlaces) {next : Occurrences}
@@ -94,16 +83,13 @@ turn_cost {first} {links} before link {lists} own front {next} {rest} {begun} {s
     let last = last_push first before link in
     let done = map plain_link at.done in
     let back = plain_lists at.behind in
-    let cost = cost_more (last_phrase first before) (plain_link link) done own at.behind fills in
     let so_far = ap (λ l. linked_cost (plain_phrase l) done back) last in
     let near = ap length at.found.first ∙ ap (λ l. length (head_of (linked (plain_phrase l) done back))) last in
-    let left = enough before link at in
-    let two = length-append front own in
-    let inner = part_cost first before (link ∷ at.done) front (own ++ at.behind) (omega (arith, left, two, fills)) in
+    let inner = part_cost first before (link ∷ at.done) front (own ++ at.behind) (omega (arith, enough before link at, length-append front own, fills)) in
     let whole : linked_cost (plain_phrase first) (map plain_link (before ++ link ∷ at.done)) (plain_lists (front ++ (own ++ at.behind)))
     ≡ linked_cost (plain_phrase first) (map plain_link links) (plain_lists lists) =
     rw (← at.all, ← at.split) (simp append_assoc) in
-    omega (arith, cost, so_far, near, inner, whole, at.taken.at_most)
+    omega (arith, cost_more (last_phrase first before) (plain_link link) done own at.behind fills, so_far, near, inner, whole, at.taken.at_most)
 
 -- one link less is left
 turned : {first : Phrase} {links : List Link} (before : List Link) (link : Link) {lists : List LentPlaces} (own front : List LentPlaces) {next : Occurrences}
@@ -129,24 +115,19 @@ turned {first} {links} before link {lists} own front {next} {rest} {begun} {step
     let later : plain_starts rest ≡ reverse (drop 1 behind) = at.found.rest ∙ ap (λ l. reverse (drop 1 (linked (plain_phrase l) done back))) last in
     let n = length phrase.terms.items in
     let kept_back = lists_back own at.behind n fills in
-    let near_count = ap length near in
-    let starts_count = ap length is_starts in
-    let left = enough before link at in
-    let parts = length-append front own in
-    let sum = chain_count first before in
     record {
       done = link ∷ at.done;
       behind = own ++ at.behind;
       all = sym (append_assoc before (link ∷ []) at.done) ∙ at.all;
       split = sym (append_assoc front own at.behind) ∙ at.split;
-      each = omega (arith, left, parts, fills, sum);
+      each = omega (arith, enough before link at, length-append front own, fills, chain_count first before);
       found = record {
         first = simp (is_kept, near, is_starts, length-map, lists_front own at.behind n fills, kept_back);
         rest = simp (is_more, length-map, kept_back) (linked_push (plain_phrase link.to) done back rest next near later);
       };
       taken = record {
         at_least = omega (arith, at.taken.at_least, one.at_least, two.at_least);
-        at_most = omega (arith, cost, so_far, near_count, starts_count, at.taken.at_most, one.at_most, two.at_most);
+        at_most = omega (arith, cost, so_far, ap length near, ap length is_starts, at.taken.at_most, one.at_most, two.at_most);
       };
     }
 
@@ -173,23 +154,18 @@ phrase_size c =
 
 pub overflow_sub-lists : goal.overflow_sub-lists
 overflow_sub-lists c =
-    let size = last_size c in
-    let few = last_short c.args.near.now.first c.args.near.now.links.items in
     let sum = chain_count c.args.near.now.first c.args.near.now.links.items in
-    omega (arith, size, few, sum, c.requires)
+    omega (arith, last_size c, last_short c.args.near.now.first c.args.near.now.links.items, sum, c.requires)
 
 pub starts_of-requires : goal.starts_of-requires
 starts_of-requires c =
     let size : c.len.result ≡ length c.last_phrase-last.result.now.terms.items = search rules in
-    let enough = overflow_sub-lists (goal.at.starts_of-requires c).After-len in
-    omega (arith, size, enough, c.split_at.ensures.back_len)
+    omega (arith, size, overflow_sub-lists (goal.at.starts_of-requires c).After-len, c.split_at.ensures.back_len)
 
 begun_each : (c : After-split_at)
     → length c.split_at.result.0.now + length (last_phrase c.args.near.now.first c.args.near.now.links.items).terms.items ≡ length c.args.lists.now
 begun_each c =
-    let size = last_size (goal.at.After-split_at c).After-len in
-    let few = overflow_sub-lists (goal.at.After-split_at c).After-len in
-    omega (arith, size, few, c.split_at.ensures.front_len)
+    omega (arith, last_size (goal.at.After-split_at c).After-len, overflow_sub-lists (goal.at.After-split_at c).After-len, c.split_at.ensures.front_len)
 
 pub returns-in_err-next-clause-steps : goal.returns-in_err-next-clause-steps
 returns-in_err-next-clause-steps c =
@@ -198,23 +174,20 @@ returns-in_err-next-clause-steps c =
     let front = c.split_at.result.0.now in
     let own = c.split_at.result.1.now in
     let each = begun_each (goal.at.returns-in_err-next-clause-steps c).After-split_at in
-    let part = part_cost first links [] front own (each ∙ c.requires ∙ chain_count first links) in
     let whole : linked_cost (plain_phrase first) (map plain_link (links ++ [])) (plain_lists (front ++ own))
     ≡ linked_cost (plain_phrase first) (map plain_link links) (plain_lists c.args.lists.now) =
     simp (append-nil, ← c.split_at.ensures.by_index.0) in
     record {
       at_least = c.in_err-next.ensures.steps.at_least;
-      at_most = omega (arith, part, whole, c.in_err-next.ensures.steps.at_most);
+      at_most = omega (arith, part_cost first links [] front own (each ∙ c.requires ∙ chain_count first links), whole, c.in_err-next.ensures.steps.at_most);
     }
 
 pub loop-link-init : goal.loop-link-init
 loop-link-init c =
     let here = (goal.at.loop-link-init c).After-split_at in
-    let first = c.args.near.now.first in
     let links = c.args.near.now.links.items in
     let own = c.split_at.result.1.now in
-    let is = last_is (goal.at.After-split_at here).After-len in
-    let at : IsBack first links links c.args.lists.now c.split_at.result.0.now c.in_ok-next.next c.new-rest.result.items c.args.steps.now
+    let at : IsBack c.args.near.now.first links links c.args.lists.now c.split_at.result.0.now c.in_ok-next.next c.new-rest.result.items c.args.steps.now
     c.starts_of.new.steps = record {
       done = [];
       behind = own;
@@ -222,7 +195,7 @@ loop-link-init c =
       split = sym c.split_at.ensures.by_index.0;
       each = begun_each here ∙ c.requires;
       found = record {
-        first = c.in_ok-next.ensures.starts ∙ ap (λ p. starts_of (plain_phrase p) (plain_lists own)) is;
+        first = c.in_ok-next.ensures.starts ∙ ap (λ p. starts_of (plain_phrase p) (plain_lists own)) (last_is (goal.at.After-split_at here).After-len);
         rest = ap plain_starts c.new-rest.ensures.items;
       };
       taken = c.in_ok-next.ensures.steps;
@@ -231,10 +204,8 @@ loop-link-init c =
 
 pub overflow_sub-front : goal.overflow_sub-front
 overflow_sub-front c =
-    let size = phrase_size c in
-    let few = last_short c.args.near.now.first c.in-Some.before.now in
     let left = enough _ _ (moved c.in-Some.ensures.cases.0 refl c.loop-link.invariant) in
-    omega (arith, size, few, left)
+    omega (arith, phrase_size c, last_short c.args.near.now.first c.in-Some.before.now, left)
 
 turn : (c : After-split_at-in-Some)
     → IsBack c.args.near.now.first c.args.near.now.links.items (c.in-Some.before.now ++ c.in-Some.link.now ∷ []) c.args.lists.now
@@ -246,9 +217,7 @@ fills : (c : After-split_at-in-Some)
     → length c.split_at-in-Some.result.1.now ≡ length (last_phrase c.args.near.now.first c.in-Some.before.now).terms.items
 fills c =
     let before = (goal.at.After-split_at-in-Some c).After-len-size in
-    let size = phrase_size before in
-    let enough = overflow_sub-front before in
-    omega (arith, size, enough, c.split_at-in-Some.ensures.back_len)
+    omega (arith, phrase_size before, overflow_sub-front before, c.split_at-in-Some.ensures.back_len)
 
 cost : (c : After-split_at-in-Some)
     → c.loop-link.steps.taken + 2 * total (plain_lists c.split_at-in-Some.result.1.now) + length c.loop-link.next.items
@@ -260,33 +229,29 @@ cost c = rw c.last_phrase-phrase.ensures (turn_cost _ _ _ _ (turn c) (fills c))
 pub starts_of-requires-in-Some : goal.starts_of-requires-in-Some
 starts_of-requires-in-Some c =
     let size : c.len-size.result ≡ length c.last_phrase-phrase.result.now.terms.items = search rules in
-    let enough = overflow_sub-front (goal.at.starts_of-requires-in-Some c).After-len-size in
-    omega (arith, size, enough, c.split_at-in-Some.ensures.back_len)
+    omega (arith, size, overflow_sub-front (goal.at.starts_of-requires-in-Some c).After-len-size, c.split_at-in-Some.ensures.back_len)
 
 pub returns-in_err-starts-clause-steps : goal.returns-in_err-starts-clause-steps
 returns-in_err-starts-clause-steps c =
-    let all = cost (goal.at.returns-in_err-starts-clause-steps c).After-split_at-in-Some in
     record {
       at_least = omega (arith, c.loop-link.invariant.taken.at_least, c.in_err-starts.ensures.steps.at_least);
-      at_most = omega (arith, all, c.in_err-starts.ensures.steps.at_most);
+      at_most = omega (arith, cost (goal.at.returns-in_err-starts-clause-steps c).After-split_at-in-Some, c.in_err-starts.ensures.steps.at_most);
     }
 
 pub returns-in_err-kept-clause-steps : goal.returns-in_err-kept-clause-steps
 returns-in_err-kept-clause-steps c =
     let all = cost (goal.at.returns-in_err-kept-clause-steps c).After-split_at-in-Some in
-    let starts = ap length c.in_ok-starts.ensures.starts in
     record {
       at_least = omega (arith, c.loop-link.invariant.taken.at_least, c.in_ok-starts.ensures.steps.at_least, c.in_err-kept.ensures.steps.at_least);
-      at_most = omega (arith, all, starts, c.in_ok-starts.ensures.steps.at_most, c.in_err-kept.ensures.steps.at_most);
+      at_most = omega (arith, all, ap length c.in_ok-starts.ensures.starts, c.in_ok-starts.ensures.steps.at_most, c.in_err-kept.ensures.steps.at_most);
     }
 
 pub returns-in_err-push-clause-steps : goal.returns-in_err-push-clause-steps
 returns-in_err-push-clause-steps c =
     let all = cost (goal.at.returns-in_err-push-clause-steps c).After-split_at-in-Some in
-    let starts = ap length c.in_ok-starts.ensures.starts in
     record {
       at_least = omega (arith, c.loop-link.invariant.taken.at_least, c.in_ok-starts.ensures.steps.at_least, c.in_ok-kept.ensures.steps.at_least);
-      at_most = omega (arith, all, starts, c.in_ok-starts.ensures.steps.at_most, c.in_ok-kept.ensures.steps.at_most);
+      at_most = omega (arith, all, ap length c.in_ok-starts.ensures.starts, c.in_ok-starts.ensures.steps.at_most, c.in_ok-kept.ensures.steps.at_most);
     }
 
 pub loop-link-preserved : goal.loop-link-preserved
@@ -299,4 +264,5 @@ loop-link-preserved c =
     turned c.in-Some.before.now link own c.split_at-in-Some.result.0.now (turn here) (fills here) c.in_ok-starts.starts c.in_ok-kept.kept
     c.push.new.self.items c.starts_of-in-Some.new.steps c.near_those.new.steps
     (c.in_ok-starts.ensures.starts ∙ ap (λ p. starts_of (plain_phrase p) (plain_lists own)) c.last_phrase-phrase.ensures)
-    (simp (← size, ← of_link) c.in_ok-kept.ensures.starts) c.in_ok-push.ensures.items c.in_ok-starts.ensures.steps c.in_ok-kept.ensures.steps
+    (simp (← size, ← of_link) (rw (c.deref.ensures.value, c.deref-in-Some.ensures.value) at c.in_ok-kept.ensures.starts)) c.in_ok-push.ensures.items c.in_ok-starts.ensures.steps
+    (rw (c.deref.ensures.value, c.deref-in-Some.ensures.value) at c.in_ok-kept.ensures.steps)

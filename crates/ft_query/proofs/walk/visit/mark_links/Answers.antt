@@ -1,4 +1,4 @@
-use Rattle.std.proofs.Common.{◌≡◌, ℕ, ◌+◌, ◌<◌, ◌-◌, ◌*◌, ◌≤◌, Bor, Option, Some, None, List, ◌∷◌, ◌++◌, map, take, drop, length, unwrap_or, refl, sym, ap, ◌∙◌, subst, append-nil, rules, arith, flat_map, option_copied, drop-drop, length-append, length-take-le, length-drop}
+use Rattle.std.proofs.Common.{◌≡◌, ℕ, ◌+◌, ◌<◌, ◌-◌, ◌*◌, ◌≤◌, Bor, Option, Some, None, List, ◌∷◌, ◌++◌, map, take, drop, length, unwrap_or, refl, sym, ap, ◌∙◌, subst, append-nil, rules, arith, flat_map, option_map, drop-drop, length-append, length-take-le, length-drop}
 use Rattle.ft_query.proofs.Common.{take-map, drop-map, drop_more, drop_all, length-map, Link, Place, Steps, LentPlaces, Occurrences, Found, plain_term, plain_link, TakesAtMost, near_those, link_marks, link_cost, numbered_offsets, marks_from, total, plain_lists, plain_starts}
 use Rattle.ft_query.proofs.Passes.{count_more, numbered_marks, link_marks_one}
 use Rattle.ft_query.proofs.walk.visit.mark_links.Invariants.{AreMarked}
@@ -75,7 +75,7 @@ moved {marks} {count} {cost} {at} {k} {starts} {now} {links} {more} {lists} {all
 -- ---- answers
 
 -- the occurrences of the phrase before, which are kept or passed in
-held : (o : Option (Bor Occurrences)) (p : Option Occurrences) (s : Bor Occurrences) → option_copied o ≡ p → (unwrap_or o s).now ≡ unwrap_or p s.now
+held : (o : Option LentPlaces) (p : Option (List Place)) (s : LentPlaces) → option_map (λ l. l.now) o ≡ p → (unwrap_or o s).now ≡ unwrap_or p s.now
 held None p s is = ap (λ q. unwrap_or q s.now) is
 held (Some x) p s is = ap (λ q. unwrap_or q s.now) is
 
@@ -83,30 +83,27 @@ enough : (c : After-len-size) → c.loop-i.at + c.len-size.result ≤ length c.a
 enough c =
     let size : c.len-size.result ≡ length c.link-item.result.to.terms.items = search rules in
     let links_are = c.deref-link-items.ensures.value in
-    let is = ap (λ l. length l.to.terms.items) (rw links_are at c.link-item.is) in
     let more = count_more c.args.near.now.links.items c.loop-i.i c.link-item.result (rw links_are at c.loop-i-test.true) in
-    omega (arith, size, is, more, c.loop-i.invariant.each, c.loop-i.invariant.left)
+    omega (arith, size, ap (λ l. length l.to.terms.items) (rw links_are at c.link-item.is), more, c.loop-i.invariant.each, c.loop-i.invariant.left)
 
 pub slice_bounds-own-end : goal.slice_bounds-own-end
-slice_bounds-own-end c = let h = enough c in omega arith
+slice_bounds-own-end c = omega (arith, enough c)
 
 pub mark_phrase-requires : goal.mark_phrase-requires
 mark_phrase-requires c =
     let before = enough (goal.at.mark_phrase-requires c).After-len-size in
     let same : c.loop-i.at + c.len-size.result - c.loop-i.at ≡ c.len-size.result = omega arith in
-    let left = length-drop c.loop-i.at c.args.lists.now in
-    let few = length-take-le c.len-size.result (drop c.loop-i.at c.args.lists.now) (omega (arith, before, left)) in
-    let own = ap (λ n. length (take n (drop c.loop-i.at c.args.lists.now))) same in
-    omega (arith, before, few, own, c.loop-i.invariant.next, c.requires.lists.fits)
+    let few = length-take-le c.len-size.result (drop c.loop-i.at c.args.lists.now) (omega (arith, before, length-drop c.loop-i.at c.args.lists.now)) in
+    omega (arith, before, few, ap (λ n. length (take n (drop c.loop-i.at c.args.lists.now))) same, c.loop-i.invariant.next, c.requires.lists.fits)
 
 -- what is marked so far, with the next link
 here : (c : After-near_those)
-    → AreMarked (link_marks (length c.args.near.now.first.terms.items) c.args.starts.now.items (map plain_link c.args.near.now.links.items)
+    → AreMarked (link_marks (length c.args.near.now.first.terms.items) c.args.starts.now (map plain_link c.args.near.now.links.items)
     (plain_lists c.args.lists.now)
     (plain_starts c.args.all.now)) (length c.args.lists.now)
-    (link_cost (length c.args.near.now.first.terms.items) c.args.starts.now.items (map plain_link c.args.near.now.links.items)
+    (link_cost (length c.args.near.now.first.terms.items) c.args.starts.now (map plain_link c.args.near.now.links.items)
     (plain_lists c.args.lists.now) (plain_starts c.args.all.now))
-    c.loop-i.at c.loop-i.k c.unwrap_or-starts.result.now.items (c.link-item.result ∷ drop (c.loop-i.i + 1) c.args.near.now.links.items)
+    c.loop-i.at c.loop-i.k c.unwrap_or-starts.result.now (c.link-item.result ∷ drop (c.loop-i.i + 1) c.args.near.now.links.items)
     (drop c.loop-i.at c.args.lists.now) (c.index-all-i.result ∷ drop (c.loop-i.i + 1) c.args.all.now) c.args.found.now c.loop-i.found c.args.steps.now
     c.loop-i.steps
 here c =
@@ -115,8 +112,7 @@ here c =
     let all = c.args.all.now in
     let links_are = c.deref-link-items.ensures.value in
     let inside : i < length links = rw links_are at c.loop-i-test.true in
-    moved (ap (λ b. b.now.items) c.unwrap_or-starts.ensures
-    ∙ ap (λ s. s.items) (held c.as_ref.result c.loop-i.kept c.args.starts c.as_ref.ensures.value))
+    moved (ap (λ b. b.now) c.unwrap_or-starts.ensures ∙ held c.as_deref.result _ c.args.starts c.as_deref.ensures.value)
     (drop_more links i c.link-item.result inside ∙ ap (λ l. l ∷ drop (i + 1) links) (sym (rw links_are at c.link-item.is)))
     (drop_more all i c.index-all-i.result (omega arith) ∙ ap (λ s. s ∷ drop (i + 1) all) (sym c.index-all-i.is)) c.loop-i.invariant
 
@@ -128,17 +124,23 @@ returns-in_err-mark_phrase-clause-steps c =
     let same : at + c.len-size.result - at ≡ c.len-size.result = omega arith in
     let own = ap (λ n. take n (drop at lists)) same in
     let before = enough (goal.at.returns-in_err-mark_phrase-clause-steps c).After-len-size in
-    let left = length-drop at lists in
-    let few = ap length own ∙ length-take-le c.len-size.result (drop at lists) (omega (arith, before, left)) in
-    let own_too = ap (λ n. n * length c.in_ok-next.next.items) few in
+    let few = ap length own ∙ length-take-le c.len-size.result (drop at lists) (omega (arith, before, length-drop at lists)) in
     let costs =
-    cost_one c.loop-i.k c.unwrap_or-starts.result.now.items c.link-item.result (drop (c.loop-i.i + 1) c.args.near.now.links.items) (drop at lists)
+    cost_one c.loop-i.k c.unwrap_or-starts.result.now c.link-item.result (drop (c.loop-i.i + 1) c.args.near.now.links.items) (drop at lists)
     (take (at + c.len-size.result - at) (drop at lists)) (drop c.len-size.result (drop at lists)) c.index-all-i.result
-    (drop (c.loop-i.i + 1) c.args.all.now) c.len-size.result c.in_ok-next.next.items size own refl c.in_ok-next.ensures.starts in
+    (drop (c.loop-i.i + 1) c.args.all.now) c.len-size.result c.in_ok-next.next.items size own refl (rw c.deref.ensures.value at c.in_ok-next.ensures.starts) in
     let so_far = (here (goal.at.returns-in_err-mark_phrase-clause-steps c).After-near_those).taken in
     record {
       at_least = omega (arith, so_far.at_least, c.in_ok-next.ensures.steps.at_least, c.in_err-mark_phrase.ensures.steps.at_least);
-      at_most = omega (arith, so_far.at_most, costs, own_too, c.in_ok-next.ensures.steps.at_most, c.in_err-mark_phrase.ensures.steps.at_most);
+      at_most = omega (
+        arith,
+        so_far.at_most,
+        costs,
+        ap (λ n. n * length c.in_ok-next.next.items) few,
+        ap length c.deref.ensures.value,
+        c.in_ok-next.ensures.steps.at_most,
+        rw c.deref-in-loop-i.ensures.value at c.in_err-mark_phrase.ensures.steps.at_most,
+      );
     }
 
 pub loop-i-preserved : goal.loop-i-preserved
@@ -150,8 +152,9 @@ loop-i-preserved c =
     marked_on (here (goal.at.loop-i-preserved c).After-near_those) (take (at + c.len-size.result - at) (drop at lists))
     (drop (at + c.len-size.result) lists)
     c.len-size.result c.in_ok-next.next.items c.mark_phrase.new.found c.near_those.new.steps c.mark_phrase.new.steps size
-    (ap (λ n. take n (drop at lists)) same) (sym (drop-drop c.len-size.result at lists)) c.in_ok-next.ensures.starts c.in_ok-mark_phrase.ensures.marks.wanted
-    c.in_ok-mark_phrase.ensures.marks.offsets c.in_ok-mark_phrase.ensures.marks.next c.in_ok-next.ensures.steps c.in_ok-mark_phrase.ensures.steps
+    (ap (λ n. take n (drop at lists)) same) (sym (drop-drop c.len-size.result at lists)) (rw c.deref.ensures.value at c.in_ok-next.ensures.starts) c.in_ok-mark_phrase.ensures.marks.wanted
+    (rw c.deref-in-loop-i.ensures.value at c.in_ok-mark_phrase.ensures.marks.offsets) c.in_ok-mark_phrase.ensures.marks.next
+    (rw c.deref.ensures.value at c.in_ok-next.ensures.steps) (rw c.deref-in-loop-i.ensures.value at c.in_ok-mark_phrase.ensures.steps)
 
 pub returns-clause-marks : goal.returns-clause-marks
 returns-clause-marks c =

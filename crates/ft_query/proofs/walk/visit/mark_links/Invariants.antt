@@ -1,4 +1,4 @@
-use Rattle.std.proofs.Common.{◌≡◌, ℕ, ◌+◌, List, ◌++◌, length, map, drop, unwrap_or, flat_map}
+use Rattle.std.proofs.Common.{◌≡◌, ℕ, ◌+◌, List, ◌++◌, length, map, drop, unwrap_or, flat_map, option_map}
 use Rattle.ft_query.proofs.Common.{Place, Link, Steps, LentPlaces, Occurrences, Found, plain_link, TakesOf, link_marks, link_cost, numbered_offsets, plain_lists, plain_starts}
 use Rattle.ft_query.proofs.walk.visit.mark_links.Given as goal
 
@@ -16,8 +16,8 @@ pub record AreMarked (marks : List (List Place)) (count cost at k : ℕ) (starts
 
 abbrev pub invariant-loop-i : goal.invariant-loop-i
 invariant-loop-i l =
-    AreMarked (link_marks (length l.near.first.terms.items) l.starts.items (map plain_link l.near.links.items) (plain_lists l.lists)
+    AreMarked (link_marks (length l.near.first.terms.items) l.starts (map plain_link l.near.links.items) (plain_lists l.lists)
     (plain_starts l.all))
     (length l.lists)
-    (link_cost (length l.near.first.terms.items) l.starts.items (map plain_link l.near.links.items) (plain_lists l.lists) (plain_starts l.all))
-    l.at l.k (unwrap_or l.kept l.starts).items (drop l.i l.near.links.items) (drop l.at l.lists) (drop l.i l.all) l.fn.found l.found l.fn.steps l.steps
+    (link_cost (length l.near.first.terms.items) l.starts (map plain_link l.near.links.items) (plain_lists l.lists) (plain_starts l.all))
+    l.at l.k (unwrap_or (option_map (λ v. v.items) l.kept) l.starts) (drop l.i l.near.links.items) (drop l.at l.lists) (drop l.i l.all) l.fn.found l.found l.fn.steps l.steps
