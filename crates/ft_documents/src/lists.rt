@@ -46,8 +46,7 @@ fn row_lists(alloc: Global, rows: Vec<ListRow>) -> Result<Vec<DocList>, AllocErr
 {
     let mut lists = Vec::with_capacity(alloc, rows.len())?;
     for row in rows {
-        let mut places = Vec::with_capacity(alloc, row.spots.len())?;
-        places.extend(row.spots.iter().map(|spot| place_of(spot)))?;
+        let places = row.spots.iter().map(|spot| place_of(spot)).collect(alloc)?;
         lists.push(DocList::new(row.docid, places))?;
     }
     Ok(lists)
@@ -80,7 +79,7 @@ fn put_in_order(postings: &mut Vec<Posting>) -> Result<(), AllocError>
 }
 
 // The lists of postings: those of one document that stand beside each other are one.
-fn posting_lists(alloc: Global, postings: &[Posting]) -> Result<Vec<DocList>, AllocError>
+fn lists_by_document(alloc: Global, postings: &[Posting]) -> Result<Vec<DocList>, AllocError>
     ensures { IfOk result (λ lists. map plain_list lists.items
         ≡ map read_list (lists_of_postings postings.now)) }
 {
@@ -106,5 +105,5 @@ pub fn doc_lists(alloc: Global, rows: Vec<ListRow>) -> Result<Vec<DocList>, Allo
     }
     let mut postings = postings_of(alloc, rows.as_slice())?;
     put_in_order(&mut postings)?;
-    posting_lists(alloc, postings.as_slice())
+    lists_by_document(alloc, postings.as_slice())
 }

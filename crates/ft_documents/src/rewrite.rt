@@ -17,7 +17,7 @@ ghost use Rattle.ft_documents.specs.RewriteRows as rows;
 
 use crate::document_index::{DocumentIndex, Sizes, Terms, term_lists};
 use ft_content::{Column, Value};
-use ft_rows::{TermLists, lists_of};
+use ft_rows::{TermLists, split_list};
 use ft_values::{RowChange, Spot};
 use std::alloc::{AllocError, Global};
 
@@ -146,8 +146,11 @@ fn add_lists(alloc: Global, lists: &mut Vec<List>, term: &TermLists) -> Result<(
     ensures { OnOk result (map kept_list lists.new.items ≡ map kept_list lists.old.items
         ++ lists_of_term (string_bytes term.now.term) term.now.postings.items) }
 {
-    for list in lists_of(alloc, term.postings.as_slice())? {
-        lists.push(((term.term.clone()?, list.docid), list.spots))?;
+    let mut left = term.postings.as_slice();
+    while let Some((docid, list, rest)) = split_list(left) {
+        let spots = list.iter().map(|posting| posting.spot).collect(alloc)?;
+        lists.push(((term.term.clone()?, docid), spots))?;
+        left = rest;
     }
     Ok(())
 }

@@ -6,4 +6,4 @@ mod packed;
 mod terms;
 
 pub use packed::{can_pack, is_list_of, pack, packed_lists, unpack};
-pub use terms::{Posting, TermLists, first_list, lists_of, split_list};
+pub use terms::{Posting, TermLists, first_list, split_list};

@@ -198,13 +198,10 @@ fn small_numbers(bytes: &[u8]) -> Option<(u32, u32, u32, u32, &[u8])>
     ensures { IfSome result (λ n. (bytes.now ≡ n.0 ∷ n.1 ∷ n.2 ∷ n.3 ∷ n.4.now)
         × (n.0 < 128) × (n.1 < 128) × (n.2 < 128) × (n.3 < 128)) }
 {
-    if bytes.len() < 4 {
+    let [c, p, l, z, rest @ ..] = bytes else {
         return None;
-    }
-    let (c, rest) = first_byte(bytes)?;
-    let (p, rest) = first_byte(rest)?;
-    let (l, rest) = first_byte(rest)?;
-    let (z, rest) = first_byte(rest)?;
+    };
+    let (c, p, l, z) = (u32::from(*c), u32::from(*p), u32::from(*l), u32::from(*z));
     (c < 128 && p < 128 && l < 128 && z < 128).then_some((c, p, l, z, rest))
 }
 

@@ -1,10 +1,8 @@
 //! Postings by their terms.
-ghost use Rattle.std.specs.Prelude.{◌≡◌, [], map, IfOk, MatchOption};
-ghost use Rattle.ft_rows.specs.Shown.{shown_list};
-ghost use Rattle.ft_rows.specs.Terms.{AreFirstList, IsSplit, lists_of_postings};
+ghost use Rattle.std.specs.Prelude.{◌≡◌, [], MatchOption};
+ghost use Rattle.ft_rows.specs.Terms.{AreFirstList, IsSplit};
 
-use ft_values::{ListRow, Spot};
-use std::alloc::{AllocError, Global};
+use ft_values::Spot;
 
 /// A place of a term in a document. Postings stand by docid, column and position.
 #[derive(Clone, Copy, Debug, PartialEq, Eq, PartialOrd, Ord)]
@@ -41,18 +39,4 @@ pub fn split_list(postings: &[Posting]) -> Option<(i64, &[Posting], &[Posting])>
     let docid = postings.first()?.docid;
     let (list, rest) = postings.split_at(first_list(postings));
     Some((docid, list, rest))
-}
-
-/// The lists of postings: those of one document that stand beside each other are one.
-pub fn lists_of(alloc: Global, postings: &[Posting]) -> Result<Vec<ListRow>, AllocError>
-    ensures { IfOk result (λ lists. map shown_list lists.items ≡ lists_of_postings postings.now) }
-{
-    let mut lists = Vec::new(alloc);
-    let mut left = postings;
-    while let Some((docid, list, rest)) = split_list(left) {
-        let spots = list.iter().map(|posting| posting.spot).collect(alloc)?;
-        lists.push(ListRow { docid, spots })?;
-        left = rest;
-    }
-    Ok(lists)
 }

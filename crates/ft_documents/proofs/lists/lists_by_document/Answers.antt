@@ -5,7 +5,7 @@ use Rattle.sqlite_keyed.proofs.ListLemmas.{map-map}
 use Rattle.ft_values.specs.declared.rows.Spot.{Spot}
 use Rattle.ft_rows.specs.declared.terms.Posting.{Posting}
 use Rattle.ft_documents.proofs.Common.{YieldsList-from_slice, YieldsList-from_map, YieldsList-at, IfOk-at_ok, map-append, plain_list, place_of, read_list, lists_of_postings, spot_of}
-use Rattle.ft_documents.proofs.lists.posting_lists.Goals as goal
+use Rattle.ft_documents.proofs.lists.lists_by_document.Goals as goal
 
 pub loop-docid-preserved : goal.loop-docid-preserved
 loop-docid-preserved c =
