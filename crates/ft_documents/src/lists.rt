@@ -2,7 +2,7 @@
 ghost use Rattle.std.specs.Prelude.{◌≡◌, map, IfOk, OnOk, IsPermutation, IsSorted};
 ghost use Rattle.ft_query.specs.Documents.{plain_list};
 ghost use Rattle.ft_rows.specs.Terms.{lists_of_postings};
-ghost use Rattle.ft_documents.specs.Placed.{place_of, read_list, list_of, all_in, posting_cmp, is_before, is_in_order, are_in_order, AreListsOf};
+ghost use Rattle.ft_documents.specs.Placed.{place_of, read_list, list_of, all_in, posting_cmp, is_in_order, are_in_order, AreListsOf};
 
 use ft_query::{DocList, Place};
 use ft_rows::{Posting, split_list};
@@ -11,18 +11,12 @@ use std::alloc::{AllocError, Global};
 
 // ---- rows in order, each a list
 
-// Whether a spot stands before another of its document.
-fn is_before(one: &Spot, other: &Spot) -> bool
-    ensures { result ≡ is_before one.now other.now }
-{
-    one.column < other.column || (one.column == other.column && one.pos < other.pos)
-}
-
 // Whether a row has places, in order.
 fn is_in_order(row: &ListRow) -> bool
     ensures { result ≡ is_in_order row.now }
 {
-    !row.spots.is_empty() && row.spots.is_sorted_by(|one, other| is_before(one, other))
+    !row.spots.is_empty()
+        && row.spots.is_sorted_by(|one, other| (one.column, one.pos) < (other.column, other.pos))
 }
 
 // Whether rows stand by rising docid, each with places in order.

@@ -212,8 +212,7 @@ fn drop_sizes(changes: &mut Changes, tab: i64, old: &Sizes, new: &Sizes) -> Resu
         (rows.gone column_key_cmp old.now.entries new.now.entries)) }
 {
     let gone = old.iter().filter(|&(key, _n)| !new.contains_key(key));
-    changes.extend(gone.map(|(key, _n)| RowChange::DropSize(tab, key.0, key.1)))?;
-    Ok(())
+    changes.extend(gone.map(|(key, _n)| RowChange::DropSize(tab, key.0, key.1)))
 }
 
 // Puts the sizes that are new or differ.
