@@ -99,8 +99,7 @@ impl DocumentIndex {
             postings.push(posting)?;
             return Ok(());
         }
-        let mut postings = Vec::new(self.alloc);
-        postings.push(posting)?;
+        let postings = vec![in self.alloc; posting]?;
         self.terms.insert(term, postings)?;
         Ok(())
     }

@@ -13,8 +13,8 @@ returns-in-Some c =
 
 pub returns : goal.returns
 returns c =
-    let postings = c.push-2.new.self in
+    let postings = c.in_ok-postings.postings in
     let joins = λ (q : String Global). c.in_ok-insert.ensures.updates.0 q ∙ ap (λ m. cond (string_eq c.args.term q) (Some postings) (lookup (string_eq q) m.entries)) c.get_mut.follows.holds-at-none in
     let lists = posting_joins c.args.term c.args.posting postings c.args.self.now.terms.entries _ joins c.get_mut.ensures.unique c.in_ok-insert.ensures.unique
-    (c.in_ok-push-2.ensures.items ∙ ap (λ ps. ps ++ c.args.posting ∷ []) (c.new-postings.ensures.items ∙ ap held c.in_default.ensures.value)) in
+    (c.in_ok-postings.ensures.items ∙ ap (λ ps. ps ++ c.args.posting ∷ []) (ap held c.in_default.ensures.value)) in
     record { lists = lists; sizes = search rules }
