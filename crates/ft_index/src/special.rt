@@ -104,8 +104,7 @@ fn rebuilt<'t, S: Alter>(
     match known_state(alloc, store, table)? {
         RowState::Sound => Ok(None),
         RowState::Stale => {
-            let documents = all_documents(alloc, store, table.id)?;
-            let rewrites = additions(alloc, documents)?;
+            let rewrites = additions(alloc, all_documents(alloc, store, table.id)?)?;
             Ok(Some(Written { table, rewrites }))
         }
         RowState::Loose => Err(Fault::Corrupt),

@@ -28,7 +28,7 @@ returns-in_ok-rewrites-in-Stale-clause-told g c = λ tables name is.
     let mid = c.known_state.new.store in
     let new = c.all_documents.new.store in
     let one = c.in_ok-known_state.ensures.asks.only in
-    let two = c.in_ok-documents-in-Stale.ensures.looks.only in
+    let two = c.in_ok-all_documents-in-Stale.ensures.looks.only in
     let rewrites = map shown_rewrite c.in_ok-rewrites-in-Stale.rewrites.items in
     let order = c.is_in_order.ensures.order in
     let stale : IsUp g.S.Store (with_tables new tables) → (contents : Contents) → AreHeld v tables contents → IsPutAnew v contents name known rewrites = λ up contents held.
@@ -41,7 +41,7 @@ returns-in_ok-rewrites-in-Stale-clause-told g c = λ tables name is.
       stale = sym c.in-Stale.is ∙ stands;
       all = λ content is_content rows.
           let has : HasRows g.S.Store (to_z w64 (of_z w64 known.id)) old new content = record { clean = up.clean; is_open = up.is_open; name = t.table.1.name; is_content = is_content; rows = ap (λ k. table_rows k v) id ∙ rows } in
-          c.in_ok-rewrites-in-Stale.ensures ∙ ap (map new_rewrite) (c.in_ok-documents-in-Stale.ensures.told content (rows_then g.S.Store old mid new one two (to_z w64 (of_z w64 known.id)) content has));
+          c.in_ok-rewrites-in-Stale.ensures ∙ ap (map new_rewrite) (c.in_ok-all_documents-in-Stale.ensures.told content (rows_then g.S.Store old mid new one two (to_z w64 (of_z w64 known.id)) content has));
     } in (
       λ changes are up contents held. subst (λ (cs : List Change). PlansFrom contents (plain.Rebuild name) v (Ok cs)) (sym are.are) (let s = stale up contents held in plan_stale v tables contents name known order held s.told rewrites are.rest s.stale s.all are.of_written.0 are.of_written.1),
       λ up contents held.
