@@ -1,5 +1,5 @@
 -- The steps for one document are few for each place of its lists and each term of the query.
-use Rattle.std.proofs.Common.{◌≡◌, ℕ, ◌+◌, ◌*◌, ◌≤◌, Bool, true, false, cond, List, [], ◌∷◌, ◌++◌, length, take, drop, zero, suc, refl, sym, ap, ◌∙◌, subst, arith, max, ℤ, filter, flat_map, sum_by, Option, mul-le-mul_left, length-append, length-take-le, length-drop, take_all, rules}
+use Rattle.std.proofs.Common.{◌≡◌, ℕ, ◌+◌, ◌*◌, ◌≤◌, Bool, true, false, cond, List, [], ◌∷◌, ◌++◌, length, take, drop, zero, suc, refl, sym, ap, ◌∙◌, arith, max, ℤ, filter, flat_map, sum_by, Option, mul-le-mul_left, length-append, length-take-le, length-drop, take_all, rules}
 use Rattle.ft_query.proofs.Common.{length-map, sum_by-cons, Place, Cursor, Steps, TakesAtMost, LentPlaces, own_lists, PlainTerm, PlainPhrase, PlainLink, Tree, phrase, chain, both, either, without, terms_in, width, lists_left, places_at, among, may_begin, followed, starts_from, starts_of, near_those, head_of, linked, total, linked_cost, link_cost, visit_cost, plain_lists, places_in, nat_tests, common_steps}
 use Rattle.ft_query.proofs.Passes.{among_short, followed_few, near_short, filter_short}
 

@@ -1,6 +1,6 @@
 -- How many places the passes keep.
-use Rattle.std.proofs.Common.{◌≡◌, ℕ, ◌+◌, ◌<◌, List, [], ◌∷◌, ◌++◌, length, map, take, drop, get_or, ap, sym, ◌∙◌, arith, flat_map, append_assoc, length-append, length-drop, length-take-le, ◌*◌, ◌≤◌, Bool, true, false, cond, reverse, suc, add-zero, refl, take_at, drop_at, filter, None, Ordering, Less, Equal, Greater, rules}
-use Rattle.ft_query.proofs.Common.{length-map, drop_more, LentPlaces, Place, Offset, Link, PlainPhrase, PlainLink, chain, plain_link, plain_term, terms_in, marks_from, head_of, linked, link_marks, near_those, marks_of, numbered_offsets, plain_lists, match_ordering, map-append, take-map, drop-map, Chain, chain_tree, AreLinked, last_phrase, reverse-append, reverse-reverse, QueryTerm, Phrase, plain_phrase, place_order, seek, among, skip_behind, begin_near, may_begin, followed, offset_at, plain_starts, total, linked_cost, link_cost, visit_cost, Occurrences, nat_tests, common_steps}
+use Rattle.std.proofs.Common.{◌≡◌, ℕ, ◌+◌, ◌<◌, List, [], ◌∷◌, ◌++◌, length, map, take, drop, get_or, ap, sym, ◌∙◌, arith, flat_map, append_assoc, length-append, length-drop, length-take-le, ◌*◌, ◌≤◌, Bool, true, false, cond, reverse, suc, add-zero, refl, filter, None, Ordering, Less, Equal, Greater, rules}
+use Rattle.ft_query.proofs.Common.{length-map, drop_more, LentPlaces, Place, Offset, Link, PlainPhrase, PlainLink, chain, plain_link, plain_term, terms_in, marks_from, head_of, linked, link_marks, near_those, marks_of, numbered_offsets, plain_lists, match_ordering, map-append, take-map, drop-map, Chain, chain_tree, AreLinked, last_phrase, reverse-append, reverse-reverse, QueryTerm, Phrase, plain_phrase, place_order, seek, among, skip_behind, begin_near, may_begin, followed, plain_starts, total, linked_cost, link_cost, visit_cost, Occurrences, nat_tests, common_steps}
 
 -- what is left of a list, with the one that was found
 abbrev left_over : Bool × List Place → ℕ
