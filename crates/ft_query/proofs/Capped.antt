@@ -20,13 +20,6 @@ depth_capped : (l : Lexeme) (n : ℕ × ℕ) → open_after (capped l) n ≡ ope
 depth_capped (near_word most) n = refl
 depth_capped _ n = refl
 
-number_kept : (most : ℕ) → nat_lt 1000000 most ≡ false → min most 1000001 ≡ most
-number_kept most near = let small : most ≤ 1000000 = ltb-false 1000000 most near in omega arith
-
-near_kept : (l : Lexeme) → is_far l ≡ false → capped l ≡ l
-near_kept (near_word most) near = ap near_word (number_kept most near)
-near_kept _ near = refl
-
 -- ---- all lexemes
 
 counts_capped : (ls : List Lexeme) → sum_by term_count (map capped ls) ≡ sum_by term_count ls

@@ -3,9 +3,6 @@ use Rattle.std.proofs.Common.{◌≡◌, ℕ, ◌+◌, ◌<◌, Bool, true, fals
 use Rattle.std.specs.Str.{str_eq_ignore_ascii_case}
 use Rattle.ft_query.proofs.Common.{list_any, position_or_len, before_first, after_first, nat_tests, length-map, is_colon, column_filter_of}
 
-lt-suc : (a b : ℕ) → nat_lt a b ≡ nat_lt (1 + a) (suc b)
-lt-suc a b = grind (arith, nat_tests)
-
 -- something passes exactly where its first place is in the list
 pub any_place : {X : Type 0} (p : X → Bool) (xs : List X) → list_any p xs ≡ nat_lt (position_or_len p xs) (length xs)
 any_place p [] = refl

@@ -49,10 +49,6 @@ filled : (t : PlainTerm) (ps : List Posting) → is_filled (listed_places ps t) 
 filled t [] = refl
 filled t (p ∷ ps) = grind (arith, filled t ps)
 
-empty_one : (places : List Place) → is_filled places ≡ false → places ≡ []
-empty_one [] none = refl
-empty_one (p ∷ ps) none = absurd (true≢false none)
-
 module _ (d : Document) (ds : List Document) (later : AllByRecursion (λ e. d.docid <ℤ e.docid) ds) (t : PlainTerm) where
   here : PlaceList
   here = places_with (is_listed t) d
@@ -169,10 +165,6 @@ hit_in tree d = record { docid = d.docid; offsets = offsets_of d.postings tree }
 -- the hits with and without a document
 pub without_it : (tree : Tree) (d : Document) (ds : List Document) → accepts d.postings tree ≡ false → hits_of tree (d ∷ ds) ≡ hits_of tree ds
 without_it tree d ds is = ap (λ v. map (hit_in tree) (cond v (d ∷ filter (λ e. accepts e.postings tree) ds) (filter (λ e. accepts e.postings tree) ds))) is
-
-pub with_it : (tree : Tree) (d : Document) (ds : List Document) → accepts d.postings tree ≡ true
-    → hits_of tree (d ∷ ds) ≡ record { docid = d.docid; offsets = offsets_of d.postings tree } ∷ hits_of tree ds
-with_it tree d ds is = ap (λ v. map (hit_in tree) (cond v (d ∷ filter (λ e. accepts e.postings tree) ds) (filter (λ e. accepts e.postings tree) ds))) is
 
 pub next_of : (tree : Tree) (documents : List Document) → AreDocuments documents → Next tree documents
 next_of tree [] are = Nothing (none_left (terms_in tree)) refl refl refl

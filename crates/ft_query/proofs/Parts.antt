@@ -61,10 +61,6 @@ closed_by false bytes false false false false = refl
 ended_closed : (q : Bool) (bytes : List ℕ) (b : ℕ) → list_any is_unclosed_part (parts_ended (begun_part q bytes) (byte_mark b)) ≡ false
 ended_closed q bytes b = closed_by q bytes (b == 34) (b == 40) (b == 41) (is_query_space b)
 
--- a byte that ends something is ASCII
-late_plain : (b : ℕ) → 128 ≤ b → byte_mark b ≡ plain
-late_plain b late = grind arith
-
 pub ends_ascii : (q : Bool) (b : ℕ) → ends_begun q (byte_mark b) ≡ true → b < 128
 ends_ascii q b ends = grind arith
 

@@ -24,31 +24,10 @@ meets i j x y = y.column == x.column && y.pos + j == x.pos + i
 
 -- ---- the order of two places
 
-abbrev pub Compared : ℕ → ℕ → Ordering → Type 0
-Compared a b Less = a < b
-Compared a b Equal = a ≡ b
-Compared a b Greater = b < a
-
-compared_by : (a b : ℕ) (less same : Bool) → nat_lt a b ≡ less → (a == b) ≡ same → Compared a b (cond less Less (cond same Equal Greater))
-compared_by a b true same l s = grind (arith, nat_tests)
-compared_by a b false true l s = grind (arith, nat_tests)
-compared_by a b false false l s = grind (arith, nat_tests)
-
-pub compared : (a b : ℕ) → Compared a b (nat_cmp a b)
-compared a b = compared_by a b (nat_lt a b) (a == b) refl refl
-
 abbrev Ordered : ℕ → Place → ℕ → Place → Ordering → Type 0
 Ordered j y i x Less = Earlier j y i x
 Ordered j y i x Equal = meets i j x y ≡ true
 Ordered j y i x Greater = Earlier i x j y
-
-ordered_by : (j : ℕ) (y : Place) (i : ℕ) (x : Place) (columns places : Ordering) → Compared y.column x.column columns → Compared (y.pos + j) (x.pos + i) places
-    → Ordered j y i x (ordering_then columns places)
-ordered_by j y i x Less places c p = inl c
-ordered_by j y i x Greater places c p = inl c
-ordered_by j y i x Equal Less c p = inr (c, p)
-ordered_by j y i x Equal Equal c p = grind (arith, nat_tests)
-ordered_by j y i x Equal Greater c p = inr (sym c, p)
 
 ordered : (j : ℕ) (y : Place) (i : ℕ) (x : Place) → Ordered j y i x (place_order j y i x)
 ordered j y i x = grind arith
