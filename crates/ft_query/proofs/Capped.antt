@@ -1,6 +1,6 @@
 -- The tests say of the lexemes as the parser holds them what they say of the text's, and where no
 -- number is too great they are the text's.
-use Rattle.std.proofs.Common.{◌≡◌, ℕ, ◌<◌, ◌≤◌, Bool, true, false, cond, List, [], ◌∷◌, length, map, refl, ap, arith, ◌||◌, ◌==◌, nat_lt, min, sum_by, Option, Some, None, Err, ltb-false}
+use Rattle.std.proofs.Common.{◌≡◌, ℕ, ◌<◌, ◌≤◌, Bool, true, false, cond, List, [], ◌∷◌, length, map, refl, arith, ◌||◌, ◌==◌, nat_lt, min, sum_by, Option, Some, None, Err}
 use Rattle.ft_query.proofs.Common.{list_any, or_parts, or_from, nat_tests, sum_by-cons, QueryFault, Malformed, TooLarge, Lexeme, near_word, parts_of, lexemes_of, is_unclosed_part, term_count, is_far, open_after, nests_deep, query_unless, capped, asks_much, query_within, query_of}
 
 -- ---- one lexeme

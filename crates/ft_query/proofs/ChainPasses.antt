@@ -1,5 +1,5 @@
 -- The passes over the phrases of a chain, backwards and forwards, give the members of its choices.
-use Rattle.std.proofs.Common.{◌≡◌, ℕ, ◌+◌, ◌<◌, ◌≤◌, ◌==◌, ◌||◌, Bool, true, false, cond, List, [], ◌∷◌, ◌⊎◌, inl, inr, refl, sym, ap, ◌∙◌, arith, filter, ◌++◌, length, map, take, drop, AllPairs, subst, ⊎_elim, flat_map, Contains, append-nil}
+use Rattle.std.proofs.Common.{◌≡◌, ℕ, ◌+◌, ◌<◌, ◌≤◌, ◌||◌, Bool, true, false, cond, List, [], ◌∷◌, ◌⊎◌, inl, inr, refl, sym, ap, ◌∙◌, arith, filter, ◌++◌, length, map, take, drop, AllPairs, subst, ⊎_elim, flat_map, Contains, append-nil}
 use Rattle.std.proofs.Math.Bool.{or-false}
 use Rattle.ft_query.proofs.Common.{list_any, AllByRecursion, nat_tests, Place, are_near, is_behind, skip_behind, begin_near, near_those, Posting, IsBefore, is_filled, PlainPhrase, Tree, phrase, chain, both, either, without, terms_in, accepts, taken, taken_in, occurrences, places_of, listed_places, is_accepted, marks_of, marks_from, starts_of, PlainTerm, PlainLink, IsChoice, choices, heads, taken_links, head_of, linked, link_marks}
 use Rattle.ft_query.proofs.PhrasePasses.{Before, Rising, filter_same, all_weaker, starts_are, occurrences_rising, marks_are, occurrences_take, all_filter, rising_filter, any_same, filter_alike, Alike, Takes}

@@ -45,7 +45,7 @@ link_terms links = flat_map (λ link. link.to.terms) links
 
 linked_le : (p : PlainPhrase) (links : List PlainLink) (ls : List (List Place)) → length ls ≡ length (p.terms ++ link_terms links)
     → length (head_of (linked p links ls)) ≤ total (take (length p.terms) ls)
-linked_le p [] ls same = grind (arith, nat_tests, length-append, take_all, from_le, nat_tests)
+linked_le p [] ls same = grind (arith, nat_tests, length-append, take_all, from_le)
 linked_le p (link ∷ links) ls same = grind (arith, nat_tests, near_short, from_le)
 
 linked_times : (p : PlainPhrase) (links : List PlainLink) (ls : List (List Place)) → length ls ≡ length (p.terms ++ link_terms links)

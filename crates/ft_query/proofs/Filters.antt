@@ -1,5 +1,5 @@
 -- Where a chunk's first colon stands, and which column its filter names.
-use Rattle.std.proofs.Common.{◌≡◌, ℕ, ◌+◌, ◌<◌, Bool, true, false, cond, List, [], ◌∷◌, length, map, refl, ap, ◌∙◌, arith, suc, String, Global, not, nat_lt, Option, Some, None, position, MatchOption, string_bytes, lt-ltb, le-ltb, Bor}
+use Rattle.std.proofs.Common.{◌≡◌, ℕ, ◌+◌, ◌<◌, Bool, true, false, cond, List, [], ◌∷◌, length, map, refl, ap, ◌∙◌, arith, String, Global, not, nat_lt, Option, Some, None, position, MatchOption, string_bytes, lt-ltb, le-ltb, Bor}
 use Rattle.std.specs.Str.{str_eq_ignore_ascii_case}
 use Rattle.ft_query.proofs.Common.{list_any, position_or_len, before_first, after_first, nat_tests, length-map, is_colon, column_filter_of}
 

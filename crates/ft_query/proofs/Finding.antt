@@ -1,7 +1,7 @@
 -- What a search answers, as callers of a walk are told it.
-use Rattle.std.proofs.Common.{◌≡◌, ℕ, ◌<◌, map, [], ◌∷◌, refl, sym, subst, Option, Some, None, Result, Ok, Err, IfOk, List, option_map, IfSome, arith, rules}
+use Rattle.std.proofs.Common.{◌≡◌, ℕ, ◌<◌, map, refl, Option, Some, None, Result, Ok, Err, IfOk, List, option_map, IfSome, arith, rules}
 use Rattle.std.specs.declared.alloc.AllocError.{AllocError}
-use Rattle.ft_query.proofs.Common.{Query, Hit, Cursor, Wanted, Docids, Offsets, Document, Walk, StandsBefore, Went, Walked, WalkedTo, lists_to_come, lists_left, lists_kept, walk_at, stands_at, Finds, FindsNext, nat_tests, common_steps}
+use Rattle.ft_query.proofs.Common.{Query, Hit, Cursor, Wanted, Docids, Offsets, Document, Walk, StandsBefore, Walked, WalkedTo, lists_to_come, lists_left, lists_kept, walk_at, stands_at, Finds, FindsNext}
 
 -- with offsets
 pub found_hit : (old new : Walk) (hit : Option Hit) (documents : List Document) → Finds Offsets old new hit documents → Walked old new hit documents

@@ -1,7 +1,7 @@
 -- The terms of a query, and the cursors of their lists.
-use Rattle.std.proofs.Common.{◌≡◌, ◌++◌, ◌∷◌, [], ◌<◌, ◌+◌, ℕ, zero, suc, List, map, take, length, subst, ap, ap₂, sym, ◌∙◌, append_assoc, arith, slice_index_or, Bor, length-append, take_all, rules}
+use Rattle.std.proofs.Common.{◌≡◌, ◌++◌, ◌∷◌, [], ◌<◌, ◌+◌, ℕ, zero, suc, List, map, take, length, ap, ap₂, sym, ◌∙◌, append_assoc, arith, slice_index_or, Bor, length-append, take_all, rules}
 use Rattle.std.proofs.lemmas.Simd.{map-map}
-use Rattle.ft_query.proofs.Common.{map-append, map_more, sum_by-append, QueryTerm, Cursor, Joint, Document, place_count, PlainTerm, Tree, plain_term, tree_of, terms_in, joined_sides, whole, lists_kept, places_left, listed_for, plain_terms, AreCursorsOf, nat_tests, common_steps}
+use Rattle.ft_query.proofs.Common.{map-append, map_more, sum_by-append, QueryTerm, Cursor, Joint, Document, place_count, PlainTerm, Tree, plain_term, tree_of, terms_in, whole, lists_kept, places_left, listed_for, plain_terms, AreCursorsOf, nat_tests}
 use Rattle.ft_query.proofs.Spines.{joined_terms, whole_last}
 
 -- A part of the query with its joints is the query, and its terms are added.

@@ -1,7 +1,7 @@
 -- How the parts of what is left of a text change by one byte.
 use Rattle.std.proofs.Common.{◌≡◌, ℕ, ◌+◌, ◌-◌, ◌<◌, ◌≤◌, Bool, true, false, List, [], ◌∷◌, ◌++◌, length, map, drop, get_or, refl, sym, ap, ◌∙◌, arith, append_assoc, length-drop, get_or-drop, IsUtf8, IsCharBoundary, ◌==◌, ◌&&◌, not, slice_range, flat_map}
 use Rattle.std.proofs.lemmas.List.Concat.{flat_map-append}
-use Rattle.ft_query.proofs.Common.{list_any, map-append, take_more, list_any-append, IsCharBoundary-start, IsCharBoundary-after_ascii, Lexeme, Part, open_part, close_part, is_query_space, parts_of, lexemes_of_part, is_unclosed_part, capped, plain, byte_mark, chunk_parts, begun_after, parts_ended, parts_from, begun_part, ends_begun, nat_tests}
+use Rattle.ft_query.proofs.Common.{list_any, map-append, take_more, list_any-append, IsCharBoundary-start, IsCharBoundary-after_ascii, Lexeme, Part, open_part, close_part, is_query_space, parts_of, lexemes_of_part, is_unclosed_part, capped, byte_mark, chunk_parts, begun_after, parts_ended, parts_from, begun_part, ends_begun, nat_tests}
 use Rattle.ft_query.proofs.TokenSteps.{rest_at}
 use Rattle.ft_query.proofs.PartLaw.{mark_by, inside_ends, inside_grows, parts_by_bytes}
 

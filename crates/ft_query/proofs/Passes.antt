@@ -32,7 +32,7 @@ among_short i j (x ∷ xs) ys =
 
 among_few : (i j : ℕ) (xs ys : List Place) → length (among i j xs ys) ≤ length ys
 among_few i j [] ys = omega arith
-among_few i j (x ∷ xs) ys = grind (arith, nat_tests, among_few i j xs (seek i x j ys).1, seek_short, among_one, nat_tests)
+among_few i j (x ∷ xs) ys = grind (arith, nat_tests, among_few i j xs (seek i x j ys).1, seek_short, among_one)
 
 pub near_short : (most k : ℕ) (near : List Place) (m : ℕ) (bs : List Place) → length (near_those most k near m bs) ≤ length bs
 near_short most k near m [] = omega arith
@@ -88,7 +88,7 @@ last_push first (l ∷ links) link = last_push l.to links link
 
 pub numbered-append : (n : ℕ) (ms more : List (List Place)) → numbered_offsets n (ms ++ more) ≡ numbered_offsets n ms ++ numbered_offsets (n + length ms) more
 numbered-append n [] more = ap (λ m. numbered_offsets m more) (sym (add-zero n))
-numbered-append n (m ∷ ms) more = grind (arith, nat_tests, numbered-append (n + 1) ms more, append_assoc, nat_tests)
+numbered-append n (m ∷ ms) more = grind (arith, nat_tests, numbered-append (n + 1) ms more, append_assoc)
 
 pub marks_length : (i : ℕ) (lists : List (List Place)) (starts : List Place) → length (marks_from i lists starts) ≡ length lists
 marks_length i [] starts = refl
@@ -112,7 +112,7 @@ link_marks_one k starts link links lists own behind others all size next is_size
 
 pub linked_length : (p : PlainPhrase) (links : List PlainLink) (lists : List (List Place)) → length (drop 1 (linked p links lists)) ≡ length links
 linked_length p [] lists = refl
-linked_length p (link ∷ links) lists = grind (arith, nat_tests, linked_length link.to links (drop (length p.terms) lists), linked_first, nat_tests)
+linked_length p (link ∷ links) lists = grind (arith, nat_tests, linked_length link.to links (drop (length p.terms) lists), linked_first)
 
 starts-reverse : (all : List Occurrences) → plain_starts (reverse all) ≡ reverse (plain_starts all)
 starts-reverse [] = refl
@@ -205,7 +205,7 @@ numbered_marks old n lists starts more = search (rules, phrase_marks_count lists
 pub count_more : (links : List Link) (i : ℕ) (d : Link) → i < length links
     → length (flat_map (λ l. l.to.terms) (map plain_link (drop i links)))
     ≡ length (get_or links i d).to.terms.items + length (flat_map (λ l. l.to.terms) (map plain_link (drop (i + 1) links)))
-count_more links i d h = grind (arith, nat_tests, drop_more, length-append, length-map, nat_tests)
+count_more links i d h = grind (arith, nat_tests, drop_more, length-append, length-map)
 
 pub chain_marks_count : (p : PlainPhrase) (links : List PlainLink) (lists : List LentPlaces) → length lists ≡ length (terms_in (chain p links))
     → length (marks_of (chain p links) (plain_lists lists)) ≡ length lists

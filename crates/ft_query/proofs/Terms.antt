@@ -1,8 +1,8 @@
 -- The terms of a part, token by token, and the number of a NEAR, digit by digit.
-use Rattle.std.proofs.Common.{◌≡◌, ℕ, ◌+◌, ◌<◌, ◌≤◌, List, [], ◌∷◌, length, map, refl, ap, arith, ◌==◌, All, slice_index, Option, Some, None, rules}
+use Rattle.std.proofs.Common.{◌≡◌, ℕ, ◌+◌, ◌<◌, ◌≤◌, List, [], ◌∷◌, length, map, refl, ap, arith, ◌==◌, All, slice_index, Option, Some, None}
 use Rattle.std.specs.Char.{is_ascii_digit}
 use Rattle.std.specs.Str.{byte}
-use Rattle.ft_query.proofs.Common.{list_all, after_first, All-head, All-tail, PlainToken, AreTokens, plain_token, PlainTerm, word, filter_on, follows_caret, terms_of, is_colon, words_after, is_digit_run, capped, nat_tests, common_steps}
+use Rattle.ft_query.proofs.Common.{list_all, after_first, All-head, All-tail, PlainToken, AreTokens, plain_token, PlainTerm, word, filter_on, follows_caret, terms_of, is_colon, words_after, is_digit_run, capped, nat_tests}
 use Rattle.ft_query.specs.declared.text.Token.{Token}
 
 -- the term that a token of the part is

@@ -1,5 +1,5 @@
-use Rattle.std.proofs.Common.{◌≡◌, ℕ, ◌+◌, ◌*◌, ◌≤◌, List, [], ◌∷◌, ◌++◌, map, drop, reverse, length, refl, sym, ap, ◌∙◌, subst, append-nil, append_assoc, rules, arith, flat_map, length-append, length-drop}
-use Rattle.ft_query.proofs.Common.{nil_from_length, length-map, drop-map, drop-append-le, Link, Phrase, Steps, LentPlaces, Occurrences, PlainLink, plain_term, plain_phrase, plain_link, chain, TakesAtMost, terms_in, near_those, head_of, last_phrase, starts_of, linked, linked_cost, total, plain_lists, plain_starts, nat_tests, common_steps}
+use Rattle.std.proofs.Common.{◌≡◌, ℕ, ◌+◌, ◌*◌, ◌≤◌, List, [], ◌∷◌, ◌++◌, map, drop, reverse, length, refl, sym, ap, ◌∙◌, append-nil, append_assoc, rules, arith, flat_map, length-append, length-drop}
+use Rattle.ft_query.proofs.Common.{nil_from_length, length-map, drop-map, drop-append-le, Link, Phrase, Steps, LentPlaces, Occurrences, PlainLink, plain_term, plain_phrase, plain_link, chain, TakesAtMost, terms_in, near_those, head_of, last_phrase, starts_of, linked, linked_cost, total, plain_lists, plain_starts, nat_tests}
 use Rattle.ft_query.proofs.Passes.{last_push, linked_push, lists_front, lists_back}
 use Rattle.ft_query.proofs.walk.visit.linked.Invariants.{IsBack}
 use Rattle.ft_query.proofs.walk.visit.linked.Goals.{After-len, After-split_at, After-len-size, After-split_at-in-Some}

@@ -1,5 +1,5 @@
-use Rattle.std.proofs.Common.{◌≡◌, ℕ, ◌+◌, ◌<◌, ◌-◌, ◌*◌, ◌≤◌, Option, Some, None, List, ◌∷◌, ◌++◌, map, take, drop, length, unwrap_or, refl, sym, ap, ◌∙◌, subst, append-nil, rules, arith, flat_map, option_map, drop-drop, length-append, length-take-le, length-drop}
-use Rattle.ft_query.proofs.Common.{take-map, drop-map, drop_more, drop_all, length-map, Link, Place, Steps, LentPlaces, Occurrences, Found, plain_term, plain_link, TakesAtMost, near_those, link_marks, link_cost, numbered_offsets, marks_from, total, plain_lists, plain_starts, nat_tests, common_steps}
+use Rattle.std.proofs.Common.{◌≡◌, ℕ, ◌+◌, ◌-◌, ◌*◌, ◌≤◌, Option, Some, None, List, ◌∷◌, ◌++◌, map, take, drop, length, unwrap_or, refl, sym, ap, ◌∙◌, append-nil, rules, arith, flat_map, option_map, drop-drop, length-append, length-take-le, length-drop}
+use Rattle.ft_query.proofs.Common.{take-map, drop-map, drop_all, length-map, Link, Place, Steps, LentPlaces, Occurrences, Found, plain_term, plain_link, TakesAtMost, near_those, link_marks, link_cost, numbered_offsets, marks_from, total, plain_lists, plain_starts, nat_tests, common_steps}
 use Rattle.ft_query.proofs.Passes.{count_more, numbered_marks, link_marks_one}
 use Rattle.ft_query.proofs.walk.visit.mark_links.Invariants.{AreMarked}
 use Rattle.ft_query.proofs.walk.visit.mark_links.Goals.{After-len-size, After-near_those}
