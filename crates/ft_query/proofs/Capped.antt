@@ -1,7 +1,7 @@
 -- The tests say of the lexemes as the parser holds them what they say of the text's, and where no
 -- number is too great they are the text's.
-use Rattle.std.proofs.Common.{◌≡◌, ℕ, ◌<◌, ◌≤◌, Bool, true, false, cond, List, [], ◌∷◌, length, map, refl, sym, ap, ◌∙◌, arith, ◌||◌, ◌==◌, nat_lt, min, sum_by, Option, Some, None, Err, lt-ltb, le-ltb, ltb-false, rules}
-use Rattle.ft_query.proofs.Common.{list_any, or_parts, or_left, or_right, or_from, nat_tests, sum_by-cons, QueryFault, Malformed, TooLarge, Lexeme, near_word, parts_of, lexemes_of, is_unclosed_part, term_count, is_far, open_after, nests_deep, query_from, query_unless, capped, asks_much, query_within, query_of, common_steps}
+use Rattle.std.proofs.Common.{◌≡◌, ℕ, ◌<◌, ◌≤◌, Bool, true, false, cond, List, [], ◌∷◌, length, map, refl, arith, ◌||◌, ◌==◌, nat_lt, min, sum_by, Option, Some, None, Err}
+use Rattle.ft_query.proofs.Common.{list_any, or_parts, or_from, nat_tests, sum_by-cons, QueryFault, Malformed, TooLarge, Lexeme, near_word, parts_of, lexemes_of, is_unclosed_part, term_count, is_far, open_after, nests_deep, query_unless, capped, asks_much, query_within, query_of}
 
 -- ---- one lexeme
 
@@ -19,13 +19,6 @@ far_capped _ = refl
 depth_capped : (l : Lexeme) (n : ℕ × ℕ) → open_after (capped l) n ≡ open_after l n
 depth_capped (near_word most) n = refl
 depth_capped _ n = refl
-
-number_kept : (most : ℕ) → nat_lt 1000000 most ≡ false → min most 1000001 ≡ most
-number_kept most near = let small : most ≤ 1000000 = ltb-false 1000000 most near in omega arith
-
-near_kept : (l : Lexeme) → is_far l ≡ false → capped l ≡ l
-near_kept (near_word most) near = ap near_word (number_kept most near)
-near_kept _ near = refl
 
 -- ---- all lexemes
 

@@ -1,7 +1,7 @@
 -- The passes over the phrases of a chain, backwards and forwards, give the members of its choices.
-use Rattle.std.proofs.Common.{◌≡◌, ℕ, ◌+◌, ◌<◌, ◌≤◌, ◌==◌, ◌||◌, Bool, true, false, cond, List, [], ◌∷◌, ◌⊎◌, inl, inr, refl, sym, ap, ◌∙◌, arith, filter, ◌++◌, length, map, take, drop, AllPairs, ◌-◌, ◌&&◌, not, subst, ⊎_elim, flat_map, Contains, nat_le, max, append-nil, rules}
-use Rattle.std.proofs.Math.Bool.{or-false, or-true}
-use Rattle.ft_query.proofs.Common.{list_any, AllByRecursion, nat_tests, Place, are_near, is_behind, skip_behind, begin_near, near_those, Posting, IsBefore, is_filled, PlainPhrase, Tree, phrase, chain, both, either, without, terms_in, accepts, taken, taken_in, occurrences, places_of, listed_places, is_accepted, marks_of, marks_from, starts_of, PlainTerm, PlainLink, IsChoice, choices, heads, taken_links, head_of, linked, link_marks, common_steps}
+use Rattle.std.proofs.Common.{◌≡◌, ℕ, ◌+◌, ◌<◌, ◌≤◌, ◌||◌, Bool, true, false, cond, List, [], ◌∷◌, ◌⊎◌, inl, inr, refl, sym, ap, ◌∙◌, arith, filter, ◌++◌, length, map, take, drop, AllPairs, subst, ⊎_elim, flat_map, Contains, append-nil}
+use Rattle.std.proofs.Math.Bool.{or-false}
+use Rattle.ft_query.proofs.Common.{list_any, AllByRecursion, nat_tests, Place, are_near, is_behind, skip_behind, begin_near, near_those, Posting, IsBefore, is_filled, PlainPhrase, Tree, phrase, chain, both, either, without, terms_in, accepts, taken, taken_in, occurrences, places_of, listed_places, is_accepted, marks_of, marks_from, starts_of, PlainTerm, PlainLink, IsChoice, choices, heads, taken_links, head_of, linked, link_marks}
 use Rattle.ft_query.proofs.PhrasePasses.{Before, Rising, filter_same, all_weaker, starts_are, occurrences_rising, marks_are, occurrences_take, all_filter, rising_filter, any_same, filter_alike, Alike, Takes}
 use Rattle.ft_query.proofs.OffsetOrder.{contains_cases, contains_head, contains_tail}
 use Rattle.ft_query.proofs.Choices.{contains_nothing, map_from, map_to, filter_from, filter_to, chosen}
@@ -31,23 +31,8 @@ behind_not_near most k m a b behind = grind (arith, nat_tests)
 behind_later : (most k : ℕ) (a b c : Place) → Behind most k a b → Before b c → Behind most k a c
 behind_later most k a b c behind before = grind arith
 
-beyond_not_near : (most k m : ℕ) (a b : Place) → Beyond most m b a → are_near most k a m b ≡ false
-beyond_not_near most k m a b beyond = grind (arith, nat_tests)
-
 beyond_later : (most m : ℕ) (b a c : Place) → Beyond most m b a → Before a c → Beyond most m b c
 beyond_later most m b a c beyond before = grind arith
-
-far_beyond : (most k m : ℕ) (a b : Place) → are_near most k a m b ≡ false → a.column ≡ b.column → b.pos ≤ a.pos + k + most → (a.pos + k == b.pos + m) ≡ false
-    → b.pos + m + most < a.pos
-far_beyond most k m a b far column within apart = grind (arith, nat_tests)
-
-bar_moves : (x y k e : ℕ) → x < y → (y + k == e) ≡ true → (x + k == e) ≡ false
-bar_moves x y k e less same = grind (arith, nat_tests)
-
-second_by : (most k m : ℕ) (a c b : Place) → a.column ≡ b.column → c.column ≡ b.column → b.pos ≤ a.pos + k + most → a.pos < c.pos
-    → are_near most k a m b ≡ false → are_near most k c m b ≡ false → (barred : Bool) → (c.pos + k == b.pos + m) ≡ barred → b.pos + m + most < c.pos
-second_by most k m a c b here there within later far far_too false is = far_beyond most k m c b far_too there (omega arith) is
-second_by most k m a c b here there within later far far_too true is = grind arith
 
 -- of two neighbours that aren't near, the second begins too far after
 second_beyond : (most k m : ℕ) (a c b : Place) → Within most k a b → are_near most k a m b ≡ false → Before a c → are_near most k c m b ≡ false
@@ -174,9 +159,6 @@ heads_to ((x ∷ choice) ∷ cs) at rest c = ⊎_elim
     (contains_cases (x ∷ choice) (at ∷ rest) cs c)
 
 -- ---- backwards
-
-same_number : (x y : ℕ) → (x == y) ≡ (y == x)
-same_number x y = grind (arith, nat_tests)
 
 near_turned : (most k : ℕ) (a : Place) (m : ℕ) (b : Place) → are_near most m b k a ≡ are_near most k a m b
 near_turned most k a m b = grind arith

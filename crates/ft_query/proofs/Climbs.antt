@@ -1,6 +1,6 @@
 -- The evaluation of a query from its first operand on, one joint after the other.
-use Rattle.std.proofs.Common.{◌≡◌, ℕ, ◌+◌, ◌-◌, ◌≤◌, ◌<◌, ◌^◌, Bool, List, [], ◌∷◌, ◌++◌, length, take, drop, refl, sym, ap, ◌∙◌, subst, append-nil, append_assoc, add_assoc, arith, Ok, length-append, length-take-le, take-append-drop, rules}
-use Rattle.ft_query.proofs.Common.{nil_from_length, take-append-le, drop-append-le, Place, Offset, Steps, LentPlaces, By, Joint, Found, Wanted, Docids, Offsets, Tree, phrase, chain, both, either, without, tree_of, terms_in, node_count, width, more_steps, TakesAtMost, joined_sides, joined_answer, joined_marks, whole, is_accepted, marks_of, numbered_offsets, if_wanted, plain_lists, visit_cost, own_lists, lists_after, HaveLists, Evaluates, Joins, nat_tests, common_steps}
+use Rattle.std.proofs.Common.{◌≡◌, ℕ, ◌+◌, ◌-◌, ◌≤◌, ◌<◌, ◌^◌, Bool, List, [], ◌∷◌, ◌++◌, length, take, drop, refl, sym, ap, ◌∙◌, subst, append-nil, append_assoc, arith, Ok, length-append, length-take-le, take-append-drop, rules}
+use Rattle.ft_query.proofs.Common.{nil_from_length, take-append-le, drop-append-le, Place, Offset, Steps, LentPlaces, By, Joint, Found, Wanted, Docids, Offsets, Tree, phrase, chain, both, either, without, tree_of, terms_in, node_count, width, more_steps, TakesAtMost, joined_sides, joined_answer, joined_marks, whole, is_accepted, marks_of, numbered_offsets, if_wanted, plain_lists, visit_cost, own_lists, lists_after, HaveLists, Evaluates, Joins, nat_tests}
 use Rattle.ft_query.proofs.Passes.{numbered_more, lists_front, lists_back}
 use Rattle.ft_query.proofs.Spines.{joined_terms, part_terms, right_width, whole_last}
 use Rattle.ft_query.specs.declared.walk.joint.By.TheVariants as by
@@ -45,7 +45,7 @@ joined_evaluates b p q front own left all old mid new same one two =
 
 cost_front : (p : Tree) (front own : List LentPlaces) → length front ≡ length (terms_in p) → (b : By) (q : Tree)
     → visit_cost (joined_sides p b q) (plain_lists (front ++ own)) ≡ 1 + (visit_cost p (plain_lists front) + visit_cost q (plain_lists own))
-cost_front p front own same b q = grind (arith, nat_tests, joined_cost, lists_front, lists_back, nat_tests)
+cost_front p front own same b q = grind (arith, nat_tests, joined_cost, lists_front, lists_back)
 
 -- each node is a step
 pub nodes_cost : (t : Tree) (ls : List (List Place)) → node_count t ≤ visit_cost t ls
@@ -69,7 +69,7 @@ takes_then m n a b c one two = record { at_least = omega arith; at_most = omega 
 part_cost : (js : List Joint) (p : Tree) (front rest : List LentPlaces) → length front ≡ length (terms_in p)
     → length (front ++ rest) ≡ length (terms_in (whole js p))
     → visit_cost p (plain_lists front) ≤ visit_cost (whole js p) (plain_lists (front ++ rest))
-part_cost [] p front rest same all = grind (arith, nat_tests, length-append, nil_from_length, append-nil, nat_tests)
+part_cost [] p front rest same all = grind (arith, nat_tests, length-append, nil_from_length, append-nil)
 part_cost (j ∷ js) p front rest same all =
     let q = tree_of j.right.now in
     let w = whole js p in

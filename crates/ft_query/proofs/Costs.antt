@@ -1,5 +1,5 @@
 -- The steps for one document are few for each place of its lists and each term of the query.
-use Rattle.std.proofs.Common.{◌≡◌, ℕ, ◌+◌, ◌*◌, ◌≤◌, Bool, true, false, cond, List, [], ◌∷◌, ◌++◌, length, take, drop, zero, suc, refl, sym, ap, ◌∙◌, subst, arith, max, ℤ, filter, flat_map, sum_by, Option, mul-le-mul_left, length-append, length-take-le, length-drop, take_all, rules}
+use Rattle.std.proofs.Common.{◌≡◌, ℕ, ◌+◌, ◌*◌, ◌≤◌, Bool, true, false, cond, List, [], ◌∷◌, ◌++◌, length, take, drop, zero, suc, refl, sym, ap, ◌∙◌, arith, max, ℤ, filter, flat_map, sum_by, Option, mul-le-mul_left, length-append, length-take-le, length-drop, take_all, rules}
 use Rattle.ft_query.proofs.Common.{length-map, sum_by-cons, Place, Cursor, Steps, TakesAtMost, LentPlaces, own_lists, PlainTerm, PlainPhrase, PlainLink, Tree, phrase, chain, both, either, without, terms_in, width, lists_left, places_at, among, may_begin, followed, starts_from, starts_of, near_those, head_of, linked, total, linked_cost, link_cost, visit_cost, plain_lists, places_in, nat_tests, common_steps}
 use Rattle.ft_query.proofs.Passes.{among_short, followed_few, near_short, filter_short}
 
@@ -45,7 +45,7 @@ link_terms links = flat_map (λ link. link.to.terms) links
 
 linked_le : (p : PlainPhrase) (links : List PlainLink) (ls : List (List Place)) → length ls ≡ length (p.terms ++ link_terms links)
     → length (head_of (linked p links ls)) ≤ total (take (length p.terms) ls)
-linked_le p [] ls same = grind (arith, nat_tests, length-append, take_all, from_le, nat_tests)
+linked_le p [] ls same = grind (arith, nat_tests, length-append, take_all, from_le)
 linked_le p (link ∷ links) ls same = grind (arith, nat_tests, near_short, from_le)
 
 linked_times : (p : PlainPhrase) (links : List PlainLink) (ls : List (List Place)) → length ls ≡ length (p.terms ++ link_terms links)

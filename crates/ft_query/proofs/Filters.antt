@@ -1,10 +1,7 @@
 -- Where a chunk's first colon stands, and which column its filter names.
-use Rattle.std.proofs.Common.{◌≡◌, ℕ, ◌+◌, ◌<◌, Bool, true, false, cond, List, [], ◌∷◌, length, map, refl, sym, ap, ◌∙◌, arith, suc, String, Global, not, nat_lt, Option, Some, None, position, MatchOption, string_bytes, lt-ltb, le-ltb, Bor}
+use Rattle.std.proofs.Common.{◌≡◌, ℕ, ◌+◌, ◌<◌, Bool, true, false, cond, List, [], ◌∷◌, length, map, refl, ap, ◌∙◌, arith, String, Global, not, nat_lt, Option, Some, None, position, MatchOption, string_bytes, lt-ltb, le-ltb, Bor}
 use Rattle.std.specs.Str.{str_eq_ignore_ascii_case}
-use Rattle.ft_query.proofs.Common.{list_any, position_or_len, before_first, after_first, nat_tests, length-map, is_colon, column_filter_of, common_steps}
-
-lt-suc : (a b : ℕ) → nat_lt a b ≡ nat_lt (1 + a) (suc b)
-lt-suc a b = grind (arith, nat_tests)
+use Rattle.ft_query.proofs.Common.{list_any, position_or_len, before_first, after_first, nat_tests, length-map, is_colon, column_filter_of}
 
 -- something passes exactly where its first place is in the list
 pub any_place : {X : Type 0} (p : X → Bool) (xs : List X) → list_any p xs ≡ nat_lt (position_or_len p xs) (length xs)

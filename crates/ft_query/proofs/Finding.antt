@@ -1,15 +1,12 @@
 -- What a search answers, as callers of a walk are told it.
-use Rattle.std.proofs.Common.{◌≡◌, ℕ, ◌<◌, map, [], ◌∷◌, refl, sym, subst, Option, Some, None, Result, Ok, Err, IfOk, List, option_map, IfSome, arith}
+use Rattle.std.proofs.Common.{◌≡◌, ℕ, ◌<◌, map, refl, Option, Some, None, Result, Ok, Err, IfOk, List, option_map, IfSome, arith, rules}
 use Rattle.std.specs.declared.alloc.AllocError.{AllocError}
-use Rattle.ft_query.proofs.Common.{Query, Hit, Cursor, Wanted, Docids, Offsets, Document, Walk, StandsBefore, Went, Walked, WalkedTo, lists_to_come, lists_left, lists_kept, walk_at, stands_at, Finds, FindsNext, nat_tests, common_steps}
+use Rattle.ft_query.proofs.Common.{Query, Hit, Cursor, Wanted, Docids, Offsets, Document, Walk, StandsBefore, Walked, WalkedTo, lists_to_come, lists_left, lists_kept, walk_at, stands_at, Finds, FindsNext}
 
 -- with offsets
 pub found_hit : (old new : Walk) (hit : Option Hit) (documents : List Document) → Finds Offsets old new hit documents → Walked old new hit documents
 found_hit old new None documents found = record { went = found.went; ended = found.ended }
-found_hit old new (Some hit) documents found = record {
-  went = subst (λ offsets. Went old new (record { docid = hit.docid; offsets = offsets } ∷ []) documents) (sym found.told) found.went;
-  ended = λ never. cc;
-}
+found_hit old new (Some hit) documents found = search rules
 
 pub hits_found : (result : Result (Option Hit) AllocError) (old new : Walk) → IfOk result (FindsNext Offsets old new)
     → IfOk result (λ hit. (documents : List Document) → StandsBefore old documents → Walked old new hit documents)

@@ -1,6 +1,6 @@
 -- The tests on lexemes, over lexemes as the parser holds them.
-use Rattle.std.proofs.Common.{◌≡◌, ℕ, ◌+◌, ◌-◌, ◌<◌, true, List, [], ◌∷◌, map, refl, ap, arith, ◌||◌, nat_lt, sum_by, lt-ltb}
-use Rattle.ft_query.proofs.Common.{list_any, or_left, fold-map, Lexeme, term_count, is_far, nests_deep, open_after, plain_lexeme, nat_tests, common_steps}
+use Rattle.std.proofs.Common.{◌≡◌, ℕ, ◌+◌, ◌-◌, ◌<◌, true, List, [], ◌∷◌, map, refl, ap, arith, ◌||◌, sum_by, lt-ltb}
+use Rattle.ft_query.proofs.Common.{list_any, fold-map, Lexeme, term_count, is_far, nests_deep, plain_lexeme}
 use Rattle.ft_query.specs.declared.lexeme.Lexeme.{Lexeme as CodeLexeme}
 
 -- where the parentheses nest too deep already, what is left changes nothing

@@ -1,7 +1,7 @@
 -- The terms of a query, and the cursors of their lists.
-use Rattle.std.proofs.Common.{◌≡◌, ◌++◌, ◌∷◌, [], ◌<◌, ◌+◌, ℕ, zero, suc, List, map, take, length, subst, ap, ap₂, sym, ◌∙◌, append_assoc, arith, slice_index_or, Bor, length-append, take_all}
+use Rattle.std.proofs.Common.{◌≡◌, ◌++◌, ◌∷◌, [], ◌<◌, ◌+◌, ℕ, zero, suc, List, map, take, length, ap, ap₂, sym, ◌∙◌, append_assoc, arith, slice_index_or, Bor, length-append, take_all, rules}
 use Rattle.std.proofs.lemmas.Simd.{map-map}
-use Rattle.ft_query.proofs.Common.{map-append, map_more, sum_by-append, QueryTerm, Cursor, Joint, Document, place_count, PlainTerm, Tree, plain_term, tree_of, terms_in, joined_sides, whole, lists_kept, places_left, listed_for, plain_terms, AreCursorsOf, nat_tests, common_steps}
+use Rattle.ft_query.proofs.Common.{map-append, map_more, sum_by-append, QueryTerm, Cursor, Joint, Document, place_count, PlainTerm, Tree, plain_term, tree_of, terms_in, whole, lists_kept, places_left, listed_for, plain_terms, AreCursorsOf, nat_tests}
 use Rattle.ft_query.proofs.Spines.{joined_terms, whole_last}
 
 -- A part of the query with its joints is the query, and its terms are added.
@@ -14,16 +14,7 @@ pub record AddsFront (query : Tree) (joints : List Joint) (old new : List PlainT
 pub front_on : {query : Tree} {js ks : List Joint} {a b c : List PlainTerm} (j : Joint) → ks ≡ js ++ j ∷ [] → AddsFront query ks a b
     → c ≡ b ++ terms_in (tree_of j.right.now) → AddsFront query js a c
 front_on {query} {js} {ks} {a} {b} {c} j is at more =
-    let q = tree_of j.right.now in
-    record {
-      part = joined_sides at.part j.by q;
-      all = sym (whole_last js j at.part) ∙ subst (λ joints. whole joints at.part ≡ query) is at.all;
-      added =
-          more
-          ∙ ap (λ ts. ts ++ terms_in q) at.added
-          ∙ append_assoc a (terms_in at.part) (terms_in q)
-          ∙ ap (λ ts. a ++ ts) (sym (joined_terms at.part j.by q));
-    }
+    search (rules, whole_last js j at.part, append_assoc a (terms_in at.part) (terms_in (tree_of j.right.now)), joined_terms at.part j.by (tree_of j.right.now))
 
 -- what stands at one place of two lists with the same images
 pub same_at : {A B X : Type 0} (f : A → X) (g : B → X) (xs : List A) (ys : List B) (i : ℕ) (d : A) (e : B) → map f xs ≡ map g (take (length xs) ys)
@@ -50,7 +41,4 @@ places_on cursors c = omega (arith, sum_by-append (λ (u : Cursor). place_count 
 -- those of all terms
 pub cursors_all : (documents : List Document) (terms : List (Bor QueryTerm)) (cursors : List Cursor) → AreCursorsOf documents terms cursors
     → length terms ≡ length cursors → map lists_kept cursors ≡ map (listed_for documents) (plain_terms terms)
-cursors_all documents terms cursors at many =
-    at
-    ∙ ap (map (λ (t : Bor QueryTerm). listed_for documents (plain_term t.now))) (take_all (length cursors) terms (omega (arith, many)))
-    ∙ sym (map-map (listed_for documents) (λ (t : Bor QueryTerm). plain_term t.now) terms)
+cursors_all documents terms cursors at many = grind (arith, nat_tests, take_all, map-map)

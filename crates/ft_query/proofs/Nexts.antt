@@ -1,7 +1,7 @@
 -- Which document a walk comes to next.
-use Rattle.std.proofs.Common.{◌≡◌, ◌≢◌, ◌+◌, ◌||◌, ℤ, pos, negsuc, ◌<ℤ◌, Bool, true, false, cond, List, [], ◌∷◌, length, map, refl, sym, ap, ◌∙◌, arith, true≢false, Option, Some, None, filter, AllPairs, int_lt, sum_by, int_eq, is_eq, Less, Equal, Greater, rules}
+use Rattle.std.proofs.Common.{◌≡◌, ◌≢◌, ◌+◌, ◌||◌, ℤ, pos, negsuc, ◌<ℤ◌, Bool, true, false, cond, List, [], ◌∷◌, length, map, refl, sym, ap, ◌∙◌, arith, true≢false, Option, Some, None, filter, AllPairs, int_lt, sum_by, int_eq, is_eq}
 use Rattle.std.proofs.lemmas.Cmp.{tied_itself, int_cmp_total}
-use Rattle.ft_query.proofs.Common.{or_parts, sum_by-cons, list_any, AllByRecursion, nat_tests, recursion_from_All, All-tail, Place, Posting, Document, AreDocuments, IsBefore, PlaceList, is_filled, has_places, places_with, place_count, PlainTerm, Tree, PlainHit, is_listed, accepts, offsets_of, hits_of, terms_in, lists_of, candidate_count, places_at, passed, least_of, least_from, listed_for, listed_places, common_steps}
+use Rattle.ft_query.proofs.Common.{or_parts, sum_by-cons, list_any, AllByRecursion, nat_tests, recursion_from_All, All-tail, Place, Posting, Document, AreDocuments, IsBefore, PlaceList, is_filled, places_with, place_count, PlainTerm, Tree, PlainHit, is_listed, accepts, offsets_of, hits_of, terms_in, lists_of, candidate_count, places_at, passed, least_of, least_from, listed_for, listed_places, common_steps}
 use Rattle.ft_query.proofs.TokenOnce.{pairs_head, pairs_tail}
 use Rattle.ft_query.proofs.NotListed.{has_term, accepts_none}
 
@@ -48,10 +48,6 @@ none_passed docid (l ∷ ls) later = ap (λ b. cond b ls (l ∷ ls)) (not_later 
 filled : (t : PlainTerm) (ps : List Posting) → is_filled (listed_places ps t) ≡ has_term ps t
 filled t [] = refl
 filled t (p ∷ ps) = grind (arith, filled t ps)
-
-empty_one : (places : List Place) → is_filled places ≡ false → places ≡ []
-empty_one [] none = refl
-empty_one (p ∷ ps) none = absurd (true≢false none)
 
 module _ (d : Document) (ds : List Document) (later : AllByRecursion (λ e. d.docid <ℤ e.docid) ds) (t : PlainTerm) where
   here : PlaceList
@@ -169,10 +165,6 @@ hit_in tree d = record { docid = d.docid; offsets = offsets_of d.postings tree }
 -- the hits with and without a document
 pub without_it : (tree : Tree) (d : Document) (ds : List Document) → accepts d.postings tree ≡ false → hits_of tree (d ∷ ds) ≡ hits_of tree ds
 without_it tree d ds is = ap (λ v. map (hit_in tree) (cond v (d ∷ filter (λ e. accepts e.postings tree) ds) (filter (λ e. accepts e.postings tree) ds))) is
-
-pub with_it : (tree : Tree) (d : Document) (ds : List Document) → accepts d.postings tree ≡ true
-    → hits_of tree (d ∷ ds) ≡ record { docid = d.docid; offsets = offsets_of d.postings tree } ∷ hits_of tree ds
-with_it tree d ds is = ap (λ v. map (hit_in tree) (cond v (d ∷ filter (λ e. accepts e.postings tree) ds) (filter (λ e. accepts e.postings tree) ds))) is
 
 pub next_of : (tree : Tree) (documents : List Document) → AreDocuments documents → Next tree documents
 next_of tree [] are = Nothing (none_left (terms_in tree)) refl refl refl

@@ -1,7 +1,7 @@
 -- A query accepts no document that has none of its terms.
-use Rattle.std.proofs.Common.{◌≡◌, ℕ, ◌&&◌, ◌||◌, Bool, true, false, not, cond, List, [], ◌∷◌, map, refl, sym, ap, ◌∙◌, filter, flat_map, arith}
+use Rattle.std.proofs.Common.{◌≡◌, ℕ, ◌&&◌, ◌||◌, Bool, true, false, not, cond, List, [], ◌∷◌, map, refl, sym, ap, ◌∙◌, filter, arith}
 use Rattle.std.proofs.Math.Bool.{and-false}
-use Rattle.ft_query.proofs.Common.{or_parts, list_any, list_any-append, Place, Posting, is_filled, PlainTerm, PlainPhrase, PlainLink, Tree, phrase, chain, both, either, without, is_listed, takes, take_row, is_within, places_of, occurs, occurrences, begins_near, choices, accepts, terms_in, nat_tests, common_steps}
+use Rattle.ft_query.proofs.Common.{or_parts, list_any, list_any-append, Place, Posting, is_filled, PlainTerm, PlainPhrase, PlainLink, Tree, phrase, chain, both, either, without, is_listed, takes, take_row, is_within, places_of, occurs, occurrences, choices, accepts, terms_in}
 
 -- the document has a posting under the term
 abbrev pub has_term : List Posting → PlainTerm → Bool

@@ -1,6 +1,6 @@
 -- The computed parts of a text are its one reading by forms, and those that are found byte by byte.
-use Rattle.std.proofs.Common.{◌≡◌, ℕ, zero, suc, ◌+◌, ◌<◌, ◌≤◌, Bool, true, false, cond, List, [], ◌∷◌, ◌++◌, length, drop, get_or, refl, sym, ap, ◌∙◌, subst, arith, append_assoc, append-nil, length-drop, take-append-drop, ◌==◌, ◌||◌, not, All, eqb-true, ne_eqb, ltb-true, rules}
-use Rattle.ft_query.proofs.Common.{list_any, AllByRecursion, position_or_len, before_first, after_first, or_parts, nat_tests, common_steps, All-nil, All-cons, recursion_from_All, split_at_first, fails_before_first, passes_at_first, Part, open_part, close_part, quoted_part, chunk_part, unclosed_part, is_query_space, is_quote, stops_chunk, ends_chunk, IsPart, opens, closes, in_quotes, not_closed, longest_run, AreParts, no_part, white_space, next_part, parts_within, parts_of, ByteMark, quote, paren, space, plain, byte_mark, in_chunk, in_quote, begun_after, parts_ended, parts_from, begun_part, ends_begun}
+use Rattle.std.proofs.Common.{◌≡◌, ℕ, zero, suc, ◌+◌, ◌<◌, ◌≤◌, Bool, true, false, cond, List, [], ◌∷◌, ◌++◌, length, drop, get_or, refl, sym, ap, ◌∙◌, subst, arith, append_assoc, append-nil, length-drop, take-append-drop, ◌==◌, ◌||◌, not, All, eqb-true, ltb-true, rules}
+use Rattle.ft_query.proofs.Common.{list_any, AllByRecursion, position_or_len, before_first, after_first, common_steps, All-nil, All-cons, recursion_from_All, split_at_first, fails_before_first, passes_at_first, Part, open_part, close_part, quoted_part, chunk_part, unclosed_part, is_query_space, is_quote, stops_chunk, ends_chunk, IsPart, opens, closes, in_quotes, not_closed, longest_run, AreParts, no_part, white_space, next_part, parts_within, parts_of, ByteMark, quote, paren, space, plain, byte_mark, in_chunk, in_quote, begun_after, parts_ended, parts_from, begun_part, ends_begun}
 use Rattle.ft_query.proofs.Filters.{any_place}
 
 -- a byte has its mark by four tests

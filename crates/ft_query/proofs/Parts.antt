@@ -1,8 +1,7 @@
 -- How the parts of what is left of a text change by one byte.
-use Rattle.std.proofs.Common.{◌≡◌, ℕ, ◌+◌, ◌-◌, ◌<◌, ◌≤◌, Bool, true, false, List, [], ◌∷◌, ◌++◌, length, map, take, drop, get_or, refl, sym, ap, ◌∙◌, subst, arith, append_assoc, length-drop, get_or-drop, IsUtf8, IsCharBoundary, ⊎_elim, ◌==◌, ◌&&◌, not, slice_range, flat_map, ne_eqb, rules}
-use Rattle.std.specs.Int.{is_in_range}
+use Rattle.std.proofs.Common.{◌≡◌, ℕ, ◌+◌, ◌-◌, ◌<◌, ◌≤◌, Bool, true, false, List, [], ◌∷◌, ◌++◌, length, map, drop, get_or, refl, sym, ap, ◌∙◌, arith, append_assoc, length-drop, get_or-drop, IsUtf8, IsCharBoundary, ◌==◌, ◌&&◌, not, slice_range, flat_map}
 use Rattle.std.proofs.lemmas.List.Concat.{flat_map-append}
-use Rattle.ft_query.proofs.Common.{list_any, and_right, lt-leb, or_from, false≢true, map-append, take_more, list_any-append, IsCharBoundary-start, IsCharBoundary-after_ascii, order, Lexeme, Part, open_part, close_part, is_query_space, parts_of, lexemes_of_part, is_unclosed_part, capped, plain, byte_mark, chunk_parts, begun_after, parts_ended, parts_from, begun_part, ends_begun, nat_tests, common_steps}
+use Rattle.ft_query.proofs.Common.{list_any, map-append, take_more, list_any-append, IsCharBoundary-start, IsCharBoundary-after_ascii, Lexeme, Part, open_part, close_part, is_query_space, parts_of, lexemes_of_part, is_unclosed_part, capped, byte_mark, chunk_parts, begun_after, parts_ended, parts_from, begun_part, ends_begun, nat_tests}
 use Rattle.ft_query.proofs.TokenSteps.{rest_at}
 use Rattle.ft_query.proofs.PartLaw.{mark_by, inside_ends, inside_grows, parts_by_bytes}
 
@@ -61,10 +60,6 @@ closed_by false bytes false false false false = refl
 -- no part that a byte ends is an unclosed quote
 ended_closed : (q : Bool) (bytes : List ℕ) (b : ℕ) → list_any is_unclosed_part (parts_ended (begun_part q bytes) (byte_mark b)) ≡ false
 ended_closed q bytes b = closed_by q bytes (b == 34) (b == 40) (b == 41) (is_query_space b)
-
--- a byte that ends something is ASCII
-late_plain : (b : ℕ) → 128 ≤ b → byte_mark b ≡ plain
-late_plain b late = grind arith
 
 pub ends_ascii : (q : Bool) (b : ℕ) → ends_begun q (byte_mark b) ≡ true → b < 128
 ends_ascii q b ends = grind arith

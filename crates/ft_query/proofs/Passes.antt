@@ -1,6 +1,6 @@
 -- How many places the passes keep.
-use Rattle.std.proofs.Common.{◌≡◌, ℕ, ◌+◌, ◌<◌, List, [], ◌∷◌, ◌++◌, length, map, take, drop, get_or, ap, sym, ◌∙◌, arith, flat_map, append_assoc, length-append, length-drop, length-take-le, ◌*◌, ◌≤◌, Bool, true, false, cond, reverse, suc, add-zero, refl, take_at, drop_at, filter, None, Ordering, Less, Equal, Greater, rules}
-use Rattle.ft_query.proofs.Common.{length-map, drop_more, LentPlaces, Place, Offset, Link, PlainPhrase, PlainLink, chain, plain_link, plain_term, terms_in, marks_from, head_of, linked, link_marks, near_those, marks_of, numbered_offsets, plain_lists, match_ordering, map-append, take-map, drop-map, Chain, chain_tree, AreLinked, last_phrase, reverse-append, reverse-reverse, QueryTerm, Phrase, plain_phrase, place_order, seek, among, skip_behind, begin_near, may_begin, followed, offset_at, plain_starts, total, linked_cost, link_cost, visit_cost, Occurrences, nat_tests, common_steps}
+use Rattle.std.proofs.Common.{◌≡◌, ℕ, ◌+◌, ◌<◌, List, [], ◌∷◌, ◌++◌, length, map, take, drop, get_or, ap, sym, ◌∙◌, arith, flat_map, append_assoc, length-append, length-drop, length-take-le, ◌*◌, ◌≤◌, Bool, true, false, cond, reverse, suc, add-zero, refl, filter, None, Ordering, Less, Equal, Greater, rules}
+use Rattle.ft_query.proofs.Common.{length-map, drop_more, LentPlaces, Place, Offset, Link, PlainPhrase, PlainLink, chain, plain_link, plain_term, terms_in, marks_from, head_of, linked, link_marks, near_those, marks_of, numbered_offsets, plain_lists, match_ordering, map-append, take-map, drop-map, Chain, chain_tree, AreLinked, last_phrase, reverse-append, reverse-reverse, QueryTerm, Phrase, plain_phrase, place_order, seek, among, skip_behind, begin_near, may_begin, followed, plain_starts, total, linked_cost, link_cost, visit_cost, Occurrences, nat_tests, common_steps}
 
 -- what is left of a list, with the one that was found
 abbrev left_over : Bool × List Place → ℕ
@@ -32,7 +32,7 @@ among_short i j (x ∷ xs) ys =
 
 among_few : (i j : ℕ) (xs ys : List Place) → length (among i j xs ys) ≤ length ys
 among_few i j [] ys = omega arith
-among_few i j (x ∷ xs) ys = grind (arith, nat_tests, among_few i j xs (seek i x j ys).1, seek_short, among_one, nat_tests)
+among_few i j (x ∷ xs) ys = grind (arith, nat_tests, among_few i j xs (seek i x j ys).1, seek_short, among_one)
 
 pub near_short : (most k : ℕ) (near : List Place) (m : ℕ) (bs : List Place) → length (near_those most k near m bs) ≤ length bs
 near_short most k near m [] = omega arith
@@ -88,7 +88,7 @@ last_push first (l ∷ links) link = last_push l.to links link
 
 pub numbered-append : (n : ℕ) (ms more : List (List Place)) → numbered_offsets n (ms ++ more) ≡ numbered_offsets n ms ++ numbered_offsets (n + length ms) more
 numbered-append n [] more = ap (λ m. numbered_offsets m more) (sym (add-zero n))
-numbered-append n (m ∷ ms) more = grind (arith, nat_tests, numbered-append (n + 1) ms more, append_assoc, nat_tests)
+numbered-append n (m ∷ ms) more = grind (arith, nat_tests, numbered-append (n + 1) ms more, append_assoc)
 
 pub marks_length : (i : ℕ) (lists : List (List Place)) (starts : List Place) → length (marks_from i lists starts) ≡ length lists
 marks_length i [] starts = refl
@@ -112,7 +112,7 @@ link_marks_one k starts link links lists own behind others all size next is_size
 
 pub linked_length : (p : PlainPhrase) (links : List PlainLink) (lists : List (List Place)) → length (drop 1 (linked p links lists)) ≡ length links
 linked_length p [] lists = refl
-linked_length p (link ∷ links) lists = grind (arith, nat_tests, linked_length link.to links (drop (length p.terms) lists), linked_first, nat_tests)
+linked_length p (link ∷ links) lists = grind (arith, nat_tests, linked_length link.to links (drop (length p.terms) lists), linked_first)
 
 starts-reverse : (all : List Occurrences) → plain_starts (reverse all) ≡ reverse (plain_starts all)
 starts-reverse [] = refl
@@ -205,7 +205,7 @@ numbered_marks old n lists starts more = search (rules, phrase_marks_count lists
 pub count_more : (links : List Link) (i : ℕ) (d : Link) → i < length links
     → length (flat_map (λ l. l.to.terms) (map plain_link (drop i links)))
     ≡ length (get_or links i d).to.terms.items + length (flat_map (λ l. l.to.terms) (map plain_link (drop (i + 1) links)))
-count_more links i d h = grind (arith, nat_tests, drop_more, length-append, length-map, nat_tests)
+count_more links i d h = grind (arith, nat_tests, drop_more, length-append, length-map)
 
 pub chain_marks_count : (p : PlainPhrase) (links : List PlainLink) (lists : List LentPlaces) → length lists ≡ length (terms_in (chain p links))
     → length (marks_of (chain p links) (plain_lists lists)) ≡ length lists

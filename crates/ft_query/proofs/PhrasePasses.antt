@@ -1,9 +1,8 @@
 -- The passes over the lists of a phrase's terms give its occurrences, and the places of its terms
 -- in them.
-use Rattle.std.proofs.Common.{◌≡◌, ℕ, ◌+◌, ◌<◌, ◌==◌, ◌&&◌, ◌||◌, Bool, true, false, cond, List, [], ◌∷◌, ◌⊎◌, inl, inr, refl, sym, ap, ◌∙◌, arith, filter, nat_lt, nat_cmp, Ordering, Less, Equal, Greater, not, map, ⊎_elim, AllPairs, Option, subst, add-zero, rules}
+use Rattle.std.proofs.Common.{◌≡◌, ℕ, ◌+◌, ◌<◌, ◌==◌, ◌&&◌, ◌||◌, Bool, true, false, cond, List, [], ◌∷◌, ◌⊎◌, refl, sym, ap, ◌∙◌, arith, filter, Ordering, Less, Equal, Greater, not, map, AllPairs, Option, add-zero, rules}
 use Rattle.std.proofs.Math.Bool.{and-true, and-false, or-false}
-use Rattle.std.proofs.lemmas.Bool.{and_parts}
-use Rattle.ft_query.proofs.Common.{list_any, AllByRecursion, ordering_then, match_ordering, nat_tests, Place, place_order, seek, among, recursion_from_All, Posting, IsBefore, PlainTerm, listed_places, is_listed, fits, takes, take_row, is_within, places_of, occurs, occurrences, PlainPhrase, shifted, taken_in, marks_from, may_begin, followed, starts_from, common_steps}
+use Rattle.ft_query.proofs.Common.{list_any, AllByRecursion, match_ordering, nat_tests, Place, place_order, seek, among, recursion_from_All, Posting, IsBefore, PlainTerm, listed_places, is_listed, fits, takes, take_row, is_within, places_of, occurs, occurrences, PlainPhrase, shifted, taken_in, marks_from, may_begin, followed, starts_from}
 use Rattle.ft_query.proofs.TokenOnce.{pairs_head, pairs_tail}
 
 -- ---- what the passes over rising places keep
@@ -25,31 +24,10 @@ meets i j x y = y.column == x.column && y.pos + j == x.pos + i
 
 -- ---- the order of two places
 
-abbrev pub Compared : ℕ → ℕ → Ordering → Type 0
-Compared a b Less = a < b
-Compared a b Equal = a ≡ b
-Compared a b Greater = b < a
-
-compared_by : (a b : ℕ) (less same : Bool) → nat_lt a b ≡ less → (a == b) ≡ same → Compared a b (cond less Less (cond same Equal Greater))
-compared_by a b true same l s = grind (arith, nat_tests)
-compared_by a b false true l s = grind (arith, nat_tests)
-compared_by a b false false l s = grind (arith, nat_tests)
-
-pub compared : (a b : ℕ) → Compared a b (nat_cmp a b)
-compared a b = compared_by a b (nat_lt a b) (a == b) refl refl
-
 abbrev Ordered : ℕ → Place → ℕ → Place → Ordering → Type 0
 Ordered j y i x Less = Earlier j y i x
 Ordered j y i x Equal = meets i j x y ≡ true
 Ordered j y i x Greater = Earlier i x j y
-
-ordered_by : (j : ℕ) (y : Place) (i : ℕ) (x : Place) (columns places : Ordering) → Compared y.column x.column columns → Compared (y.pos + j) (x.pos + i) places
-    → Ordered j y i x (ordering_then columns places)
-ordered_by j y i x Less places c p = inl c
-ordered_by j y i x Greater places c p = inl c
-ordered_by j y i x Equal Less c p = inr (c, p)
-ordered_by j y i x Equal Equal c p = grind (arith, nat_tests)
-ordered_by j y i x Equal Greater c p = inr (sym c, p)
 
 ordered : (j : ℕ) (y : Place) (i : ℕ) (x : Place) → Ordered j y i x (place_order j y i x)
 ordered j y i x = grind arith

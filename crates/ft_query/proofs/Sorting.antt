@@ -1,13 +1,13 @@
 -- The marks of a query's terms, sorted, are the offsets of the document.
-use Rattle.std.proofs.Common.{◌≡◌, ℕ, ◌+◌, ◌<◌, ◌==◌, ◌&&◌, Bool, true, false, cond, List, [], ◌∷◌, ◌++◌, ◌⊎◌, inl, inr, length, map, drop, get_or, suc, refl, sym, ◌∙◌, subst, arith, ⊎_elim, AllPairs, Contains, Some, None, filter, filter_map, IsPermutation, IsSortedBy, nat_cmp, is_lt, Ordering, Less, Equal, Greater, rules}
+use Rattle.std.proofs.Common.{◌≡◌, ℕ, ◌+◌, ◌<◌, ◌==◌, ◌&&◌, Bool, true, false, cond, List, [], ◌∷◌, ◌++◌, ◌⊎◌, inl, inr, length, map, drop, get_or, suc, refl, sym, subst, arith, ⊎_elim, AllPairs, Contains, Some, None, filter, filter_map, IsPermutation, IsSortedBy}
 use Rattle.std.specs.List.{IsDistinct}
 use Rattle.std.proofs.lemmas.List.Sorted.{Contains-permutation, IsPermutation-sym}
 use Rattle.std.proofs.lemmas.Map.Keys.{IsDistinct-cons, IsDistinct-head, IsDistinct-tail, IsDistinct-IsPermutation}
-use Rattle.ft_query.proofs.Common.{AllByRecursion, list_any, enumerate_from, cons_option, ordering_then, nat_tests, All-nil, All-cons, All-weaker, All-contains, All-from_recursion, recursion_from_All, Contains-append_left, Contains-append_right, Contains-append_cases, AllPairs-cons, Place, Offset, Posting, IsBefore, PlainTerm, PlainLink, Tree, phrase, chain, both, either, without, is_at, offsets_at, offsets_of, taken, taken_in, taken_links, places_of, heads, choices, occurrences, offset_at, numbered_offsets, precedes, common_steps}
+use Rattle.ft_query.proofs.Common.{AllByRecursion, list_any, enumerate_from, cons_option, nat_tests, All-nil, All-cons, All-weaker, All-from_recursion, recursion_from_All, Contains-append_left, Contains-append_right, Contains-append_cases, AllPairs-cons, Place, Offset, Posting, IsBefore, PlainTerm, PlainLink, Tree, phrase, chain, both, either, without, is_at, offsets_at, offsets_of, taken, taken_in, taken_links, places_of, heads, choices, occurrences, offset_at, numbered_offsets, precedes, common_steps}
 use Rattle.ft_query.proofs.TokenOnce.{pairs_head, pairs_tail}
 use Rattle.ft_query.proofs.OffsetOrder.{Rises, contains_cases, contains_head, contains_tail, only_offsets}
 use Rattle.ft_query.proofs.Choices.{contains_nothing, map_from, map_to, filter_from, flat_from, flat_to}
-use Rattle.ft_query.proofs.PhrasePasses.{Before, Rising, Compared, compared, all_weaker, all_filter, places_rising}
+use Rattle.ft_query.proofs.PhrasePasses.{Before, Rising, all_weaker, all_filter, places_rising}
 use Rattle.ft_query.proofs.ChainPasses.{any_to, any_from}
 
 -- ---- sorted offsets that differ rise
@@ -17,17 +17,6 @@ same_key a b = a.column == b.column && a.place == b.place && a.term == b.term
 
 key_flips : (a b : Offset) → same_key a b ≡ same_key b a
 key_flips a b = grind arith
-
-rises_by : (a b : Offset) (columns places terms : Ordering) → Compared b.column a.column columns → Compared b.place a.place places
-    → Compared b.term a.term terms
-    → is_lt (ordering_then (ordering_then columns places) terms) ≡ false → same_key a b ≡ false → Rises a b
-rises_by a b Less places terms c p t not_before differ = cc
-rises_by a b Greater places terms c p t not_before differ = inl c
-rises_by a b Equal Less terms c p t not_before differ = cc
-rises_by a b Equal Greater terms c p t not_before differ = inr (inl (sym c, p))
-rises_by a b Equal Equal Less c p t not_before differ = cc
-rises_by a b Equal Equal Greater c p t not_before differ = inr (inr (sym c, sym p, t))
-rises_by a b Equal Equal Equal c p t not_before differ = grind arith
 
 -- one that doesn't precede another and has another key comes after it
 rises_after : (a b : Offset) → precedes b a ≡ false → same_key a b ≡ false → Rises a b

@@ -1,6 +1,6 @@
 -- What is joined to the first operand of a query, one joint after the other.
-use Rattle.std.proofs.Common.{◌≡◌, ◌+◌, ◌≤◌, ◌<◌, List, [], ◌∷◌, ◌++◌, length, refl, sym, ap, subst, ◌∙◌, append_assoc, arith, length-append}
-use Rattle.ft_query.proofs.Common.{By, Joint, Tree, phrase, chain, both, either, without, tree_of, terms_in, node_count, width, joined_sides, whole, AddsSpine, nat_tests, common_steps}
+use Rattle.std.proofs.Common.{◌≡◌, ◌+◌, ◌≤◌, ◌<◌, List, [], ◌∷◌, ◌++◌, length, refl, sym, ap, subst, ◌∙◌, append_assoc, arith, length-append, rules}
+use Rattle.ft_query.proofs.Common.{By, Joint, Tree, phrase, chain, both, either, without, tree_of, terms_in, node_count, width, joined_sides, whole, AddsSpine}
 use Rattle.ft_query.specs.declared.walk.joint.By.TheVariants as by
 
 -- the last joint is joined first
@@ -28,11 +28,7 @@ some_width (without p q) = omega (arith, some_width p)
 -- a left side's joint more
 pub spine_on : (old now new : List Joint) (j : Joint) (left : Tree) {query : Tree} → AddsSpine old now (joined_sides left j.by (tree_of j.right.now)) query
     → new ≡ now ++ j ∷ [] → AddsSpine old new left query
-spine_on old now new j left {query} at more = record {
-  own = at.own ++ j ∷ [];
-  added = more ∙ ap (λ l. l ++ j ∷ []) at.added ∙ append_assoc old at.own (j ∷ []);
-  all = whole_last at.own j left ∙ at.all;
-}
+spine_on old now new j left {query} at more = search (rules, append_assoc old at.own (j ∷ []), whole_last at.own j left)
 
 pub spine_alone : (js : List Joint) {part query : Tree} → AddsSpine [] js part query → whole js part ≡ query
 spine_alone js {part} {query} at = subst (λ l. whole l part ≡ query) (sym at.added) at.all
@@ -44,8 +40,7 @@ some_nodes _ = omega arith
 pub part_terms : (js : List Joint) (p : Tree) → length (terms_in p) ≤ length (terms_in (whole js p))
 part_terms [] p = omega arith
 part_terms (j ∷ js) p =
-    let q = tree_of j.right.now in
-    omega (arith, part_terms js p, ap length (joined_terms (whole js p) j.by q) ∙ length-append (terms_in (whole js p)) (terms_in q))
+    search (rules, part_terms js p, ap length (joined_terms (whole js p) j.by (tree_of j.right.now)) ∙ length-append (terms_in (whole js p)) (terms_in (tree_of j.right.now)))
 
 part_width : (js : List Joint) (p : Tree) → width p ≤ width (whole js p)
 part_width [] p = omega arith
@@ -54,5 +49,4 @@ part_width (j ∷ js) p = grind (arith, part_width js p)
 -- a right side is less wide than the whole
 pub right_width : (js : List Joint) (j : Joint) (p query : Tree) → whole (js ++ j ∷ []) p ≡ query → width (tree_of j.right.now) < width query
 right_width js j p query all =
-    let q = tree_of j.right.now in
-    omega (arith, part_width js (joined_sides p j.by q), ap width (sym (whole_last js j p) ∙ all), joined_width p j.by q, some_width p)
+    omega (arith, part_width js (joined_sides p j.by (tree_of j.right.now)), ap width (sym (whole_last js j p) ∙ all), joined_width p j.by (tree_of j.right.now), some_width p)

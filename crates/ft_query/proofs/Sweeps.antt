@@ -1,7 +1,7 @@
 -- A loop that changes each element of a list, one after the other.
-use Rattle.std.proofs.Common.{◌≡◌, ℕ, ◌≤◌, List, [], ◌∷◌, refl, length, map, sym, ap, ◌∙◌, ◌+◌, ◌<◌, zero, suc, subst, arith, slice_set, slice_index_or}
+use Rattle.std.proofs.Common.{◌≡◌, ℕ, ◌≤◌, List, [], ◌∷◌, refl, length, map, sym, ap, ◌∙◌, ◌+◌, ◌<◌, zero, suc, arith, slice_set, slice_index_or}
 use Rattle.std.proofs.lemmas.Simd.{map-map}
-use Rattle.ft_query.proofs.Common.{Cursor, PlaceList, lists_left, lists_kept, length-map, nat_tests, common_steps}
+use Rattle.ft_query.proofs.Common.{Cursor, PlaceList, lists_left, lists_kept, length-map, nat_tests}
 
 -- the first i elements changed
 abbrev pub swept : {B : Type 0} → (B → B) → ℕ → List B → List B

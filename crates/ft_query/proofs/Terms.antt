@@ -2,7 +2,7 @@
 use Rattle.std.proofs.Common.{◌≡◌, ℕ, ◌+◌, ◌<◌, ◌≤◌, List, [], ◌∷◌, length, map, refl, ap, arith, ◌==◌, All, slice_index, Option, Some, None}
 use Rattle.std.specs.Char.{is_ascii_digit}
 use Rattle.std.specs.Str.{byte}
-use Rattle.ft_query.proofs.Common.{list_all, after_first, All-head, All-tail, PlainToken, AreTokens, plain_token, PlainTerm, word, filter_on, follows_caret, terms_of, is_colon, words_after, is_digit_run, capped}
+use Rattle.ft_query.proofs.Common.{list_all, after_first, All-head, All-tail, PlainToken, AreTokens, plain_token, PlainTerm, word, filter_on, follows_caret, terms_of, is_colon, words_after, is_digit_run, capped, nat_tests}
 use Rattle.ft_query.specs.declared.text.Token.{Token}
 
 -- the term that a token of the part is
@@ -16,10 +16,8 @@ AreWithin part (t ∷ ts) = (t.start + t.size ≤ length part) × AreWithin part
 
 all_within : (part : List ℕ) (ts : List Token) → All (λ t. t.start + t.size ≤ length part) (map plain_token ts) → AreWithin part ts
 all_within part [] h = tt
-all_within part (t ∷ ts) h = (
-  All-head (λ t. t.start + t.size ≤ length part) (plain_token t) (map plain_token ts) h,
-  all_within part ts (All-tail (λ t. t.start + t.size ≤ length part) (plain_token t) (map plain_token ts) h),
-)
+all_within part (t ∷ ts) h =
+    grind (arith, nat_tests, all_within part ts (All-tail (λ t. t.start + t.size ≤ length part) (plain_token t) (map plain_token ts) h), All-head)
 
 pub within_part : (part : List ℕ) (ts : List Token) → AreTokens part (map plain_token ts) → AreWithin part ts
 within_part part ts are = all_within part ts are.within

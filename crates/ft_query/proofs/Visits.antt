@@ -1,7 +1,7 @@
 -- What the evaluation of a document answers.
 use Rattle.std.proofs.Common.{◌≡◌, Bool, true, false, cond, List, length, map, sym, ap, ◌∙◌, AllPairs, Option, Some, None, IsPermutation, IsSortedBy, arith}
 use Rattle.std.proofs.lemmas.List.Sorted.{length_permutation}
-use Rattle.ft_query.proofs.Common.{nil_from_length, Place, Offset, Wanted, Docids, Offsets, Posting, IsBefore, Tree, terms_in, accepts, offsets_of, listed_places, is_accepted, marks_of, numbered_offsets, precedes, if_wanted, nat_tests, common_steps}
+use Rattle.ft_query.proofs.Common.{nil_from_length, Place, Offset, Wanted, Docids, Offsets, Posting, IsBefore, Tree, terms_in, accepts, offsets_of, listed_places, is_accepted, marks_of, numbered_offsets, precedes, if_wanted, nat_tests}
 use Rattle.ft_query.proofs.ChainPasses.{accepted_is, marked_is}
 use Rattle.ft_query.proofs.Sorting.{sorted_are}
 

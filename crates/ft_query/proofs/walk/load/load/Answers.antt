@@ -1,5 +1,5 @@
 -- the terms are those of the query
-use Rattle.std.proofs.Common.{◌≡◌, ◌∙◌, ◌++◌, List, ap, subst, arith, IfOk, Bor}
+use Rattle.std.proofs.Common.{◌≡◌, ◌∙◌, ◌++◌, List, ap, subst, IfOk, Bor, rules}
 use Rattle.ft_query.proofs.Common.{common_steps, QueryTerm, PlainTerm, tree_of, terms_in, plain_terms, Loads}
 use Rattle.ft_query.proofs.Reaching.{no_call}
 use Rattle.ft_query.proofs.walk.load.load.Goals as goal
@@ -14,8 +14,4 @@ returns-clause-loads g c =
     subst (λ (ts : List PlainTerm). IfOk c.load_terms.result (Loads g.L.Lists ts c.args.lists.now c.load_terms.new.lists)) terms c.load_terms.ensures.loads
 
 pub returns-in_err-add_query-clause-asks : goal.returns-in_err-add_query-clause-asks
-returns-in_err-add_query-clause-asks g c = record {
-  clean = grind (arith, common_steps);
-  failed = grind (arith, common_steps);
-  becomes = no_call _ _ _;
-}
+returns-in_err-add_query-clause-asks g c = search (rules, common_steps, no_call)

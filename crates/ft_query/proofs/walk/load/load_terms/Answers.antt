@@ -1,6 +1,6 @@
 -- each term is one more call, and has one more cursor
 use Rattle.std.proofs.Common.{◌≡◌, List, length, subst, sym, ap, ◌∙◌, rules, arith, Bor}
-use Rattle.ft_query.proofs.Common.{common_steps, QueryTerm, Cursor, Document, place_count, plain_term, lists_kept, places_left, listed_for, AllAnswer, NoCall, OneMore, AreCursorsOf}
+use Rattle.ft_query.proofs.Common.{common_steps, QueryTerm, Cursor, place_count, plain_term, lists_kept, places_left, listed_for, AllAnswer, NoCall, OneMore, AreCursorsOf}
 use Rattle.ft_query.proofs.Loading.{cursors_on, cursors_all, places_on}
 use Rattle.ft_query.proofs.Reaching.{no_call, reaches_on}
 use Rattle.ft_query.proofs.walk.load.load_terms.Given.{Over}
@@ -24,15 +24,10 @@ IsNext g c = lists_kept c.in_ok-cursor.cursor ≡ listed_for (g.L.Lists.document
 
 before : (g : Over) (c : In_ok-push g) → g.L.Lists.is_clean c.ask.new.lists
     → AreCursorsOf (g.L.Lists.documents c.ask.new.lists) c.args.terms.now c.loop-term.cursors.items
-before g c clean =
-    let was = c.in_ok-answer.ensures.asks.clean clean in
-    subst (λ (ds : List Document). AreCursorsOf ds c.args.terms.now c.loop-term.cursors.items) (sym was.1) (c.loop-term.invariant.lists was.0)
+before g c clean = search rules
 
 next : (g : Over) (c : In_ok-push g) → g.L.Lists.is_clean c.ask.new.lists → IsNext g c
-next g c clean =
-    let documents = g.L.Lists.documents c.ask.new.lists in
-    c.in_ok-cursor.ensures documents (c.in_ok-answer.ensures.list clean)
-    (subst (λ (cursors : List Cursor). AreCursorsOf documents c.args.terms.now cursors) (sym c.as_slice.ensures.value) (before g c clean))
+next g c clean = search (rules, before g c clean)
 
 pub loop-term-preserved : goal.loop-term-preserved
 loop-term-preserved g c = record {

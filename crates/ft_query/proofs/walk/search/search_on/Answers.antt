@@ -1,4 +1,4 @@
-use Rattle.std.proofs.Common.{◌≡◌, ◌∙◌, ◌<◌, List, rules, arith, map, length, sum_by, sym, ap, refl, subst, to_z, of_z, w64, Some, None, Option, Vec, Global, option_map}
+use Rattle.std.proofs.Common.{◌≡◌, ◌∙◌, ◌<◌, List, rules, arith, map, length, sum_by, sym, ap, refl, to_z, of_z, w64, Some, None, Option, Vec, Global, option_map}
 use Rattle.ft_query.proofs.Common.{Offset, Document, StandsBefore, walk_at, lists_left, least_from}
 use Rattle.ft_query.proofs.Considering.{Adds, nothing_left, went_on, went_then, fewer_left}
 use Rattle.ft_query.proofs.walk.search.search_on.Goals.{After-pass}
@@ -6,9 +6,7 @@ use Rattle.ft_query.proofs.walk.search.search_on.Goals as goal
 
 -- this is the least docid left
 one : (c : After-pass) → least_from None (map lists_left c.loop-docid.cursors) ≡ Some (to_z w64 (of_z w64 c.in-Some.docid))
-one c =
-    let same : c.in-Some.docid ≡ to_z w64 (of_z w64 c.in-Some.docid) = search rules in
-    subst (λ z. least_from None (map lists_left c.loop-docid.cursors) ≡ Some z) same (sym c.least.ensures.docid ∙ c.in-Some.is)
+one c = search rules
 
 fewer : (c : After-pass) → sum_by length (map lists_left c.pass.new.cursors) < sum_by length (map lists_left c.loop-docid.cursors)
 fewer c = fewer_left _ c.loop-docid.cursors c.pass.new.cursors (one c) c.pass.ensures.go.left

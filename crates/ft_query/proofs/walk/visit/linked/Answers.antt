@@ -1,5 +1,5 @@
-use Rattle.std.proofs.Common.{◌≡◌, ℕ, ◌+◌, ◌*◌, ◌≤◌, List, [], ◌∷◌, ◌++◌, map, drop, reverse, length, refl, sym, ap, ◌∙◌, subst, append-nil, append_assoc, rules, arith, flat_map, length-append, length-drop}
-use Rattle.ft_query.proofs.Common.{nil_from_length, length-map, drop-map, drop-append-le, Link, Phrase, Steps, LentPlaces, Occurrences, PlainLink, plain_term, plain_phrase, plain_link, chain, TakesAtMost, terms_in, near_those, head_of, last_phrase, starts_of, linked, linked_cost, total, plain_lists, plain_starts}
+use Rattle.std.proofs.Common.{◌≡◌, ℕ, ◌+◌, ◌*◌, ◌≤◌, List, [], ◌∷◌, ◌++◌, map, drop, reverse, length, refl, sym, ap, ◌∙◌, append-nil, append_assoc, rules, arith, flat_map, length-append, length-drop}
+use Rattle.ft_query.proofs.Common.{nil_from_length, length-map, drop-map, drop-append-le, Link, Phrase, Steps, LentPlaces, Occurrences, PlainLink, plain_term, plain_phrase, plain_link, chain, TakesAtMost, terms_in, near_those, head_of, last_phrase, starts_of, linked, linked_cost, total, plain_lists, plain_starts, nat_tests}
 use Rattle.ft_query.proofs.Passes.{last_push, linked_push, lists_front, lists_back}
 use Rattle.ft_query.proofs.walk.visit.linked.Invariants.{IsBack}
 use Rattle.ft_query.proofs.walk.visit.linked.Goals.{After-len, After-split_at, After-len-size, After-split_at-in-Some}
@@ -13,16 +13,12 @@ count_of links = length (flat_map (λ l. l.to.terms) (map plain_link links))
 count_push : (links : List Link) (link : Link) → count_of (links ++ link ∷ []) ≡ count_of links + length link.to.terms.items
 unfolding count_of
 count_push [] link = length-append (map plain_term link.to.terms.items) [] ∙ omega (arith, length-map link.to.terms.items plain_term)
-count_push (l ∷ links) link =
-    let one = length-append (map plain_term l.to.terms.items) (flat_map (λ m. m.to.terms) (map plain_link (links ++ link ∷ []))) in
-    omega (arith, count_push links link, one, length-append (map plain_term l.to.terms.items) (flat_map (λ m. m.to.terms) (map plain_link links)))
+count_push (l ∷ links) link = search (rules, count_push links link, length-append (map plain_term l.to.terms.items))
 
 chain_count : (first : Phrase) (links : List Link)
     → length (terms_in (chain (plain_phrase first) (map plain_link links))) ≡ length first.terms.items + count_of links
 unfolding count_of
-chain_count first links =
-    length-append (map plain_term first.terms.items) (flat_map (λ l. l.to.terms) (map plain_link links))
-    ∙ ap (λ n. n + length (flat_map (λ l. l.to.terms) (map plain_link links))) (length-map first.terms.items plain_term)
+chain_count first links = search (rules, length-append (map plain_term first.terms.items), length-map first.terms.items plain_term)
 
 count_more : (link : Link) (links : List Link) → count_of (link ∷ links) ≡ length link.to.terms.items + count_of links
 unfolding count_of
@@ -31,8 +27,7 @@ count_more link links = chain_count link.to links
 -- its terms are among those of the chain
 last_short : (first : Phrase) (links : List Link) → length (last_phrase first links).terms.items ≤ length first.terms.items + count_of links
 last_short first [] = omega arith
-last_short first (l ∷ links) =
-    omega (arith, last_short l.to links, count_more l links)
+last_short first (l ∷ links) = search (rules, last_short l.to links, count_more l links)
 
 -- ---- one phrase more
 
@@ -41,8 +36,7 @@ cost_more : (phrase : Phrase) (link : PlainLink) (links : List PlainLink) (own b
     ≡ 2 * total (plain_lists own) + linked_cost link.to links (plain_lists behind) + length (head_of (linked link.to links (plain_lists behind)))
     + 3 * length (starts_of (plain_phrase phrase) (plain_lists own))
 cost_more phrase link links own behind fills =
-    let n = length phrase.terms.items in
-    simp (length-map, lists_front own behind n fills, lists_back own behind n fills)
+    search (rules, length-map, lists_front own behind (length phrase.terms.items) fills, lists_back own behind (length phrase.terms.items) fills)
 
 -- the steps from the last phrase on are among those for the whole chain
 part_cost : (first : Phrase) (left done : List Link) (front behind : List LentPlaces)
@@ -50,9 +44,7 @@ part_cost : (first : Phrase) (left done : List Link) (front behind : List LentPl
     → linked_cost (plain_phrase (last_phrase first left)) (map plain_link done) (plain_lists behind)
     ≤ linked_cost (plain_phrase first) (map plain_link (left ++ done)) (plain_lists (front ++ behind))
 unfolding count_of
-part_cost first [] done front behind each =
-    let same = ap (λ l. linked_cost (plain_phrase first) (map plain_link done) (plain_lists (l ++ behind))) (nil_from_length front (omega (arith, each))) in
-    omega (arith, same)
+part_cost first [] done front behind each = search (rules, each, nil_from_length front (omega (arith, each)))
 part_cost first (link ∷ left) done front behind each =
     let terms = first.terms.items in
     let n = length terms in
@@ -69,8 +61,7 @@ part_cost first (link ∷ left) done front behind each =
 enough : {first : Phrase} {links : List Link} (before : List Link) (link : Link) {lists front : List LentPlaces} {next : Occurrences} {rest : List Occurrences}
     {begun steps : Steps} → IsBack first links (before ++ link ∷ []) lists front next rest begun steps
     → length front ≡ length first.terms.items + count_of before
-enough {first} {links} before link {lists} {front} at =
-    omega (arith, ap (λ p. length p.terms.items) (last_push first before link), chain_count first (before ++ link ∷ []), count_push before link, at.each)
+enough {first} {links} before link {lists} {front} at = grind (arith, nat_tests, chain_count, count_push, last_push)
 
 -- the steps of one turn, with those before it, are among those for the whole chain
 turn_cost : {first : Phrase} {links : List Link} (before : List Link) (link : Link) {lists : List LentPlaces} (own front : List LentPlaces) {next : Occurrences}
@@ -133,8 +124,7 @@ turned {first} {links} before link {lists} own front {next} {rest} {begun} {step
 
 moved : {first : Phrase} {links left more : List Link} {lists front both : List LentPlaces} {next : Occurrences} {rest : List Occurrences} {begun steps : Steps}
     → left ≡ more → front ≡ both → IsBack first links left lists front next rest begun steps → IsBack first links more lists both next rest begun steps
-moved {first} {links} {left} {more} {lists} {front} {both} {next} {rest} {begun} {steps} is same at =
-    subst (λ l. IsBack first links l lists both next rest begun steps) is (subst (λ f. IsBack first links left lists f next rest begun steps) same at)
+moved {first} {links} {left} {more} {lists} {front} {both} {next} {rest} {begun} {steps} is same at = search rules
 
 -- ---- answers
 
@@ -143,29 +133,21 @@ last_is : (c : After-len) → c.last_phrase-last.result.now ≡ last_phrase c.ar
 last_is c = c.last_phrase-last.ensures ∙ ap (last_phrase c.args.near.now.first) c.as_slice-left.ensures.value
 
 last_size : (c : After-len) → c.len.result ≡ length (last_phrase c.args.near.now.first c.args.near.now.links.items).terms.items
-last_size c =
-    let size : c.len.result ≡ length c.last_phrase-last.result.now.terms.items = search rules in
-    size ∙ ap (λ p. length p.terms.items) (last_is c)
+last_size c = search (rules, last_is c)
 
 phrase_size : (c : After-len-size) → c.len-size.result ≡ length (last_phrase c.args.near.now.first c.in-Some.before.now).terms.items
-phrase_size c =
-    let size : c.len-size.result ≡ length c.last_phrase-phrase.result.now.terms.items = search rules in
-    size ∙ ap (λ p. length p.terms.items) c.last_phrase-phrase.ensures
+phrase_size c = search rules
 
 pub overflow_sub-lists : goal.overflow_sub-lists
 overflow_sub-lists c =
-    let sum = chain_count c.args.near.now.first c.args.near.now.links.items in
-    omega (arith, last_size c, last_short c.args.near.now.first c.args.near.now.links.items, sum, c.requires)
+    search (rules, last_size c, last_short c.args.near.now.first c.args.near.now.links.items, (chain_count c.args.near.now.first c.args.near.now.links.items), c.requires)
 
 pub starts_of-requires : goal.starts_of-requires
-starts_of-requires c =
-    let size : c.len.result ≡ length c.last_phrase-last.result.now.terms.items = search rules in
-    omega (arith, size, overflow_sub-lists (goal.at.starts_of-requires c).After-len, c.split_at.ensures.back_len)
+starts_of-requires c = grind (arith, nat_tests, overflow_sub-lists)
 
 begun_each : (c : After-split_at)
     → length c.split_at.result.0.now + length (last_phrase c.args.near.now.first c.args.near.now.links.items).terms.items ≡ length c.args.lists.now
-begun_each c =
-    omega (arith, last_size (goal.at.After-split_at c).After-len, overflow_sub-lists (goal.at.After-split_at c).After-len, c.split_at.ensures.front_len)
+begun_each c = grind (arith, nat_tests, last_size, overflow_sub-lists)
 
 pub returns-in_err-next-clause-steps : goal.returns-in_err-next-clause-steps
 returns-in_err-next-clause-steps c =
@@ -215,9 +197,7 @@ turn c = moved c.in-Some.ensures.cases.0 c.split_at-in-Some.ensures.by_index.0 c
 
 fills : (c : After-split_at-in-Some)
     → length c.split_at-in-Some.result.1.now ≡ length (last_phrase c.args.near.now.first c.in-Some.before.now).terms.items
-fills c =
-    let before = (goal.at.After-split_at-in-Some c).After-len-size in
-    omega (arith, phrase_size before, overflow_sub-front before, c.split_at-in-Some.ensures.back_len)
+fills c = grind (arith, nat_tests, phrase_size, overflow_sub-front)
 
 cost : (c : After-split_at-in-Some)
     → c.loop-link.steps.taken + 2 * total (plain_lists c.split_at-in-Some.result.1.now) + length c.loop-link.next.items
@@ -227,16 +207,10 @@ cost : (c : After-split_at-in-Some)
 cost c = rw c.last_phrase-phrase.ensures (turn_cost _ _ _ _ (turn c) (fills c))
 
 pub starts_of-requires-in-Some : goal.starts_of-requires-in-Some
-starts_of-requires-in-Some c =
-    let size : c.len-size.result ≡ length c.last_phrase-phrase.result.now.terms.items = search rules in
-    omega (arith, size, overflow_sub-front (goal.at.starts_of-requires-in-Some c).After-len-size, c.split_at-in-Some.ensures.back_len)
+starts_of-requires-in-Some c = grind (arith, nat_tests, overflow_sub-front)
 
 pub returns-in_err-starts-clause-steps : goal.returns-in_err-starts-clause-steps
-returns-in_err-starts-clause-steps c =
-    record {
-      at_least = omega (arith, c.loop-link.invariant.taken.at_least, c.in_err-starts.ensures.steps.at_least);
-      at_most = omega (arith, cost (goal.at.returns-in_err-starts-clause-steps c).After-split_at-in-Some, c.in_err-starts.ensures.steps.at_most);
-    }
+returns-in_err-starts-clause-steps c = search (rules, cost)
 
 pub returns-in_err-kept-clause-steps : goal.returns-in_err-kept-clause-steps
 returns-in_err-kept-clause-steps c =

@@ -1,5 +1,5 @@
-use Rattle.std.proofs.Common.{◌≡◌, ℕ, ◌+◌, ◌<◌, ◌-◌, ◌*◌, ◌≤◌, Bor, Option, Some, None, List, ◌∷◌, ◌++◌, map, take, drop, length, unwrap_or, refl, sym, ap, ◌∙◌, subst, append-nil, rules, arith, flat_map, option_map, drop-drop, length-append, length-take-le, length-drop}
-use Rattle.ft_query.proofs.Common.{take-map, drop-map, drop_more, drop_all, length-map, Link, Place, Steps, LentPlaces, Occurrences, Found, plain_term, plain_link, TakesAtMost, near_those, link_marks, link_cost, numbered_offsets, marks_from, total, plain_lists, plain_starts}
+use Rattle.std.proofs.Common.{◌≡◌, ℕ, ◌+◌, ◌-◌, ◌*◌, ◌≤◌, Option, Some, None, List, ◌∷◌, ◌++◌, map, take, drop, length, unwrap_or, refl, sym, ap, ◌∙◌, append-nil, rules, arith, flat_map, option_map, drop-drop, length-append, length-take-le, length-drop}
+use Rattle.ft_query.proofs.Common.{take-map, drop-map, drop_all, length-map, Link, Place, Steps, LentPlaces, Occurrences, Found, plain_term, plain_link, TakesAtMost, near_those, link_marks, link_cost, numbered_offsets, marks_from, total, plain_lists, plain_starts, nat_tests, common_steps}
 use Rattle.ft_query.proofs.Passes.{count_more, numbered_marks, link_marks_one}
 use Rattle.ft_query.proofs.walk.visit.mark_links.Invariants.{AreMarked}
 use Rattle.ft_query.proofs.walk.visit.mark_links.Goals.{After-len-size, After-near_those}
@@ -14,15 +14,12 @@ cost_one : (k : ℕ) (starts : List Place) (link : Link) (links : List Link) (li
     → length starts + 3 * length others.items + total (plain_lists own) + size * length next
     + link_cost size next (map plain_link links) (plain_lists behind) (plain_starts all)
     ≡ link_cost k starts (map plain_link (link ∷ links)) (plain_lists lists) (plain_starts (others ∷ all))
-cost_one k starts link links lists own behind others all size next is_size is_own is_behind is_next =
-    simp (is_next, is_own, is_behind, is_size, take-map, drop-map, length-map)
+cost_one k starts link links lists own behind others all size next is_size is_own is_behind is_next = search (rules, take-map, drop-map, length-map)
 
 terms_one : (link : Link) (links : List Link)
     → length (flat_map (λ l. l.to.terms) (map plain_link (link ∷ links)))
     ≡ length link.to.terms.items + length (flat_map (λ l. l.to.terms) (map plain_link links))
-terms_one link links =
-    length-append (map plain_term link.to.terms.items) (flat_map (λ l. l.to.terms) (map plain_link links))
-    ∙ ap (λ n. n + length (flat_map (λ l. l.to.terms) (map plain_link links))) (length-map link.to.terms.items plain_term)
+terms_one link links = search (rules, length-append (map plain_term link.to.terms.items), length-map link.to.terms.items plain_term)
 
 -- one link more
 marked_on : {marks : List (List Place)} {count cost at k : ℕ} {starts : List Place} {link : Link} {links : List Link} {lists : List LentPlaces} {others : Occurrences}
@@ -68,9 +65,7 @@ moved : {marks : List (List Place)} {count cost at k : ℕ} {starts now : List P
     → AreMarked marks count cost at k starts links lists all old new begun steps
     → AreMarked marks count cost at k now more lists rest old new begun steps
 moved {marks} {count} {cost} {at} {k} {starts} {now} {links} {more} {lists} {all} {rest} {old} {new} {begun} {steps} is_starts is_links is_all so_far =
-    subst (λ s. AreMarked marks count cost at k s more lists rest old new begun steps) (sym is_starts)
-    (subst (λ ls. AreMarked marks count cost at k starts ls lists rest old new begun steps) is_links
-    (subst (λ ss. AreMarked marks count cost at k starts links lists ss old new begun steps) is_all so_far))
+    search rules
 
 -- ---- answers
 
@@ -106,15 +101,7 @@ here : (c : After-near_those)
     c.loop-i.at c.loop-i.k c.unwrap_or-starts.result.now (c.link-item.result ∷ drop (c.loop-i.i + 1) c.args.near.now.links.items)
     (drop c.loop-i.at c.args.lists.now) (c.index-all-i.result ∷ drop (c.loop-i.i + 1) c.args.all.now) c.args.found.now c.loop-i.found c.args.steps.now
     c.loop-i.steps
-here c =
-    let i = c.loop-i.i in
-    let links = c.args.near.now.links.items in
-    let all = c.args.all.now in
-    let links_are = c.deref-link-items.ensures.value in
-    let inside : i < length links = rw links_are at c.loop-i-test.true in
-    moved (ap (λ b. b.now) c.unwrap_or-starts.ensures ∙ held c.as_deref.result _ c.args.starts c.as_deref.ensures.value)
-    (drop_more links i c.link-item.result inside ∙ ap (λ l. l ∷ drop (i + 1) links) (sym (rw links_are at c.link-item.is)))
-    (drop_more all i c.index-all-i.result (omega arith) ∙ ap (λ s. s ∷ drop (i + 1) all) (sym c.index-all-i.is)) c.loop-i.invariant
+here c = grind (arith, nat_tests, common_steps)
 
 pub returns-in_err-mark_phrase-clause-steps : goal.returns-in_err-mark_phrase-clause-steps
 returns-in_err-mark_phrase-clause-steps c =
