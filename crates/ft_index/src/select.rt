@@ -187,7 +187,7 @@ fn document_rows(
         → rows_of found ≡ answer.item_rows None (bare_content columns.now) (map item_of items.now)
         (map shown_document documents.now)) }
 {
-    let mut rows = Vec::new(alloc);
+    let mut rows = Vec::with_capacity(alloc, documents.len())?;
     for document in documents {
         let cells = document.cells.as_slice();
         rows.push(item_row(alloc, columns, items, document.docid, cells, "")?)?;
@@ -240,7 +240,7 @@ fn hit_rows<S: Alter>(
     // So the count of rows is known to be of 64 bits.
     let _read = store.rows_read();
     let reads = has_column(items);
-    let mut rows = Vec::new(alloc);
+    let mut rows = Vec::with_capacity(alloc, hits.len())?;
     for hit in hits {
         let cells = if reads {
             document(alloc, store, tab, hit.docid)?.ok_or(Fault::Store)?

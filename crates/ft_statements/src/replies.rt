@@ -37,7 +37,7 @@ fn rows_of(alloc: Global, rows: Vec<Vec<Value>>) -> Result<Vec<Vec<Cell>>, Alloc
     ensures { IfOk result (λ cells. map (λ row. map print.value_of_cell row.items) cells.items
         ≡ map (map forms.cell_value) (views.rows_of rows)) }
 {
-    let mut cells = Vec::new(alloc);
+    let mut cells = Vec::with_capacity(alloc, rows.len())?;
     for row in rows {
         cells.push(row_of(alloc, row)?)?;
     }
