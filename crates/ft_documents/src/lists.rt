@@ -80,10 +80,7 @@ fn lists_by_document(alloc: Global, postings: &[Posting]) -> Result<Vec<DocList>
     let mut lists = Vec::new(alloc);
     let mut left = postings;
     while let Some((docid, list, rest)) = split_list(left) {
-        let places = list
-            .iter()
-            .map(|posting| place_of(&posting.spot))
-            .collect(alloc)?;
+        let places = list.iter().map(|p| place_of(&p.spot)).collect(alloc)?;
         lists.push(DocList::new(docid, places))?;
         left = rest;
     }
