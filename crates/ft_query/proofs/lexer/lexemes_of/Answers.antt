@@ -1,13 +1,11 @@
-use Rattle.std.proofs.Common.{false, map, sym, ap, ◌∙◌, subst, string_bytes}
+use Rattle.std.proofs.Common.{map, sym, ap, ◌∙◌, string_bytes, rules}
 use Rattle.ft_query.proofs.Common.{plain_lexeme}
-use Rattle.ft_query.proofs.Parts.{Lexed, lexed_none, step_inside, step_ended}
+use Rattle.ft_query.proofs.Parts.{lexed_none, step_inside, step_ended}
 use Rattle.ft_query.proofs.lexer.lexemes_of.Goals.{then-ends_part+in_ok-push_part, else-ends_part}
 use Rattle.ft_query.proofs.lexer.lexemes_of.Goals as goal
 
 pub loop-place-init : goal.loop-place-init
-loop-place-init c =
-    subst (λ found. Lexed (map string_bytes c.args.columns.now) c.args.text.now (map plain_lexeme found) false 0 0) (sym c.new-found.ensures.items)
-    (lexed_none (map string_bytes c.args.columns.now) c.args.text.now c.utf8.text)
+loop-place-init c = search (rules, lexed_none (map string_bytes c.args.columns.now) c.args.text.now c.utf8.text)
 
 pub loop-place-preserved : goal.loop-place-preserved
 loop-place-preserved c =

@@ -1,4 +1,4 @@
-use Rattle.std.proofs.Common.{◌≡◌, map, string_bytes, sym, ◌∙◌, ◌≢◌, option_map, Ok, Err}
+use Rattle.std.proofs.Common.{◌≡◌, map, string_bytes, sym, ◌∙◌, ◌≢◌, option_map, Ok, Err, rules}
 use Rattle.std.proofs.lemmas.Result.{IfOk-weaker, IfErr-weaker}
 use Rattle.ft_query.proofs.Common.{Memory, tree_of, query_of, plain_lexeme, query_within}
 use Rattle.ft_query.proofs.Capped.{long_is_large, zero_is_malformed, open_is_malformed, read_within}
@@ -10,13 +10,11 @@ returns-then-text-gt-MOST_BYTES-clause-fault c _ =
 
 pub returns-then-has_zero-clause-fault : goal.returns-then-has_zero-clause-fault
 returns-then-has_zero-clause-fault c _ =
-    zero_is_malformed (map string_bytes c.args.columns.now) c.args.default c.args.text.now c.if-text-gt-MOST_BYTES.false
-    (sym c.has_zero.ensures ∙ c.if-has_zero.true)
+    cc (zero_is_malformed (map string_bytes c.args.columns.now) c.args.default c.args.text.now c.if-text-gt-MOST_BYTES.false (sym c.has_zero.ensures ∙ c.if-has_zero.true))
 
 pub returns-in-None-clause-fault : goal.returns-in-None-clause-fault
 returns-in-None-clause-fault c _ =
-    let unclosed = rw c.in-None.is at c.in_ok-lexemes_of.ensures in
-    open_is_malformed (map string_bytes c.args.columns.now) c.args.default c.args.text.now c.if-text-gt-MOST_BYTES.false unclosed
+    search (rules, open_is_malformed (map string_bytes c.args.columns.now) c.args.default c.args.text.now c.if-text-gt-MOST_BYTES.false)
 
 pub returns-in-Some-clause-ok : goal.returns-in-Some-clause-ok
 returns-in-Some-clause-ok c =

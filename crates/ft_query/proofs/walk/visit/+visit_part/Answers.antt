@@ -13,9 +13,7 @@ visit_joint-returns-then-not-accepted-clause-steps t c =
     }
 
 pub visit_part-visit_leaf-requires : goal.visit_part-visit_leaf-requires
-visit_part-visit_leaf-requires t c =
-    let spine = c.in_ok-leaf.ensures in
-    leaf_fits spine.own (leaf_tree c.in_ok-leaf.leaf) spine.all c.requires
+visit_part-visit_leaf-requires t c = omega (arith, leaf_fits c.in_ok-leaf.ensures.own (leaf_tree c.in_ok-leaf.leaf) c.in_ok-leaf.ensures.all c.requires)
 
 pub visit_part-returns-in_err-accepted-clause-steps : goal.visit_part-returns-in_err-accepted-clause-steps
 visit_part-returns-in_err-accepted-clause-steps t c =
