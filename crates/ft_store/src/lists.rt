@@ -85,9 +85,6 @@ impl Gathered for ListsOf {
     }
 }
 
-// Room for so many lists is asked for at once: those of a frequent word would else be moved four times more.
-const FIRST_LISTS: usize = 64;
-
 // The lists that a query gives, in the order of its rows. Damaged bytes are Damaged.
 fn select_lists<S: Alter>(
     conn: &mut Connection<S>,
@@ -104,8 +101,10 @@ fn select_lists<S: Alter>(
     ensures refused { RefusesRead S.Store conn.old conn.new result sql.now (bound params.now)
         IsListRow }
 {
-    let lists = Vec::with_capacity(alloc, FIRST_LISTS)?;
-    let mut found = ListsOf { alloc, lists };
+    let mut found = ListsOf {
+        alloc,
+        lists: Vec::new(alloc),
+    };
     if gather(conn, sql, params, &mut found)? {
         Ok(found.lists)
     } else {
