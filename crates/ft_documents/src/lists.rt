@@ -40,7 +40,8 @@ fn row_lists(alloc: Global, rows: Vec<ListRow>) -> Result<Vec<DocList>, AllocErr
 {
     let mut lists = Vec::with_capacity(alloc, rows.len())?;
     for row in rows {
-        let places = row.spots.iter().map(|spot| place_of(spot)).collect(alloc)?;
+        let mut places = Vec::with_capacity(alloc, row.spots.len())?;
+        places.extend(row.spots.iter().map(|spot| place_of(spot)))?;
         lists.push(DocList::new(row.docid, places))?;
     }
     Ok(lists)
