@@ -172,8 +172,7 @@ fn bare_hits(alloc: Global, docids: &[i64]) -> Result<Vec<Hit>, AllocError>
     ensures { IfOk result (λ hits. map plain_hit hits.items
         ≡ map (λ docid. record { docid = docid; offsets = [] }) docids.now) }
 {
-    let hits = docids.iter().map(|&docid| bare_hit(alloc, docid));
-    hits.collect(alloc)
+    docids.iter().map(|&d| bare_hit(alloc, d)).collect(alloc)
 }
 
 // A row for each document, without offsets.
