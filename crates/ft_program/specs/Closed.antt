@@ -39,7 +39,7 @@ TellsClose true old new ended status = (new ≡ old) × (status ≡ ended)
 TellsClose false old new ended status = AppendsUpTo old new close_line × (status ≡ 1)
 
 module _ {P S : Type 0} (g : Ghosts P) (h : Ghosts S) where
-  -- the store can't be read: nothing is run, and both are as they were
+  -- the store can't be read: nothing is run, and it was at most looked at
   pub record IsUnread (plain : Held P) (store : StoreState S) (plain_after : Held P) (after : StoreState S) (old new : Outputs) (status : ℕ) : Type 0 where
     pub told : NotOpened opening.Store old new status
     pub same : plain_after ≡ plain

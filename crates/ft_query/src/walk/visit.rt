@@ -444,8 +444,8 @@ fn lists_of<'a>(
 }
 
 /// The offsets of a document, if the query accepts it: none where they aren't wanted. The cursors
-/// are those of the query's terms, in the text's order. The joints are as they were, so that all
-/// documents of a search have one room for them.
+/// are those of the query's terms, in the text's order. The joints are room that the documents of a
+/// search share.
 pub(crate) fn visit<'q>(
     query: &'q Query,
     joints: &mut Vec<Joint<'q>>,
