@@ -20,9 +20,8 @@ loop-row-preserved c =
     let names = map string_bytes c.args.names.now in
     let line = separated settings.separator in
     let texts : Vec Cell Global → List (List ℕ) = λ row. map (λ cell. printed_cell settings (value_of_cell cell)) row.items in
-    let own : map string_bytes c.as_slice-in-loop-row.result.now ≡ texts item = ap (map string_bytes) c.as_slice-in-loop-row.ensures.value ∙ c.in_ok-texts.ensures ∙ ap (map (λ cell. printed_cell settings (value_of_cell cell))) c.as_slice.ensures.value in
     let more : with_header (shows_headers settings) names (map texts (take (i + 1) rows)) ≡ with_header (shows_headers settings) names (map texts (take i rows)) ++ texts item ∷ [] =
     ap (λ rs. with_header (shows_headers settings) names (map texts rs)) (take_more rows i item c.loop-row-test.true ∙ ap (λ x. take i rows ++ x ∷ []) (sym c.row-item.is))
     ∙ ap (with_header (shows_headers settings) names) (map-append texts (take i rows) (item ∷ [])) ∙ header_first (shows_headers settings) names (map texts (take i rows)) (texts item) in
-    c.in_ok-push_separated.ensures ∙ ap (λ t. c.loop-row.text.items ++ separated t (map string_bytes c.as_slice-in-loop-row.result.now)) c.separator.ensures ∙ (λ j. c.loop-row.invariant j ++ line (own j)) ∙ ap (λ t. flat_map line (with_header (shows_headers settings) names (map texts (take i rows))) ++ t) (sym (append-nil (line (texts item))))
+    c.in_ok-push_row.ensures ∙ (λ j. c.loop-row.invariant j ++ line (map (λ cell. printed_cell settings (value_of_cell cell)) (c.as_slice.ensures.value j))) ∙ ap (λ t. flat_map line (with_header (shows_headers settings) names (map texts (take i rows))) ++ t) (sym (append-nil (line (texts item))))
     ∙ sym (flat_map-append line (with_header (shows_headers settings) names (map texts (take i rows))) (texts item ∷ [])) ∙ ap (flat_map line) (sym more)
