@@ -3,13 +3,11 @@
 # `make install` copies the program, its manual and its manual page.
 PREFIX ?= /usr/local
 export RT ?= rt
-# How many checks `make` runs side by side: one a processor, where 7 GB of memory are free for each. `make test` hands it on only where it is
+# How many checks `make` runs side by side: one a processor, where 5 GB of memory are free for each. `make test` hands it on only where it is
 # given: by itself `rt ci` gives the processors that no other crate waits for to one proof, and looks at the memory.
 RT_JOBS ?= $(or $(shell RT='$(RT)' tests/gate/prove --jobs),1)
 # `make wrong-bodies CRATE=ft_line` tries the edits of that crate, whatever is written of it.
 CRATE ?=
-# Flags of the checks by which `make` proves, as `--jobs 1`. Without them a check takes as many processors as there are and memory is free for.
-CHECK_FLAGS ?=
 
 CRATES := $(shell sed -n 's/^\([a-z0-9_]*\):.*/\1/p' crates.txt)
 LIBRARIES := $(filter-out $(patsubst crates/%/src/main.rt,%,$(wildcard crates/*/src/main.rt)),$(CRATES))
@@ -24,14 +22,14 @@ all: demo
 # Proves the program and the crates below it, and builds it.
 build:
 	$(side_by_side) $(addprefix prove-,$(call below,ft_main))
-	cd crates/ft_main && $(RT) run --jobs $(RT_JOBS) < stdin > /dev/null
+	cd crates/ft_main && $(RT) run --jobs 1 < stdin > /dev/null
 	mkdir -p bin
 	cp crates/ft_main/out/ft_main bin/ft4sh
 
 # `prove-NAME` proves a library, after those that it stands on.
 $(foreach it,$(CRATES),$(eval prove-$(it): $(addprefix prove-,$(call below,$(it)))))
 $(LIBRARIES:%=prove-%): prove-%:
-	@tests/gate/prove $* $(CHECK_FLAGS)
+	@tests/gate/prove $*
 
 # Loads the log of a harbour, searches it and changes it: examples/search.sql.
 demo: build
