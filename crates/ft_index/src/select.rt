@@ -239,7 +239,7 @@ fn hit_rows<S: Alter>(
     // So the count of rows is known to be of 64 bits.
     let _read = store.rows_read();
     let reads = has_column(items);
-    let mut rows = Vec::with_capacity(alloc, hits.len())?;
+    let mut rows = Vec::new(alloc);
     for hit in hits {
         let cells = if reads {
             document(alloc, store, tab, hit.docid)?.ok_or(Fault::Store)?

@@ -85,16 +85,6 @@ returns-clause-told g c = λ content rows.
     c.loop-hit.invariant.found content (subst (λ (k : ℤ). HasRows g.S.Store k c.args.store.now c.loop-hit.store content) (sym (to_z-of_z c.ranges.tab)) rows)
     ∙ ap (map row) (take_all c.loop-hit.hit-index c.args.hits.now c.loop-hit-test.false)
 
-pub returns-in_err-item_row-clause-looks : goal.returns-in_err-item_row-clause-looks
-returns-in_err-item_row-clause-looks g c = record {
-  only = elim c.if-reads.branch [
-    | then-reads+in_ok-document+in_ok-cells w ↦ subst (Looks g.S.Store c.args.store.now) (sym w.store-is) (looks_then g.S.Store c.args.store.now c.loop-hit.store w.document.new.store c.loop-hit.invariant.looks w.in_ok-document.ensures.looks.only c.loop-hit.invariant.live)
-    | else-reads w ↦ subst (Looks g.S.Store c.args.store.now) (sym w.store-is) c.loop-hit.invariant.looks
-  ];
-  live = search rules;
-  cause = search rules;
-}
-
 pub returns-in_err-push-clause-looks : goal.returns-in_err-push-clause-looks
 returns-in_err-push-clause-looks g c = record {
   only = elim c.if-reads.branch [
