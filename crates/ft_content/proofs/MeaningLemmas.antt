@@ -234,18 +234,19 @@ abbrev pub TextsRise : Type 0
 TextsRise = (texts : List (List ℕ)) → AllPairs IsBefore (postings_of (map tokens_of texts))
 
 -- the indexed texts of a document
-abbrev pub document_texts : List Column → List Cell → List (List ℕ)
+abbrev document_texts : List Column → List Cell → List (List ℕ)
 document_texts [] cells = []
 document_texts (column ∷ columns) [] = []
 document_texts (column ∷ columns) (cell ∷ cells) = indexed_text column cell ∷ document_texts columns cells
 
-pub tokens_are : (columns : List Column) (cells : List Cell) → map tokens_of (document_texts columns cells) ≡ document_tokens columns cells
+tokens_are : (columns : List Column) (cells : List Cell) → map tokens_of (document_texts columns cells) ≡ document_tokens columns cells
 tokens_are [] cells = refl
 tokens_are (column ∷ columns) [] = refl
 tokens_are (column ∷ columns) (cell ∷ cells) = ap (λ ts. tokens_of (indexed_text column cell) ∷ ts) (tokens_are columns cells)
 
-postings_rise : TextsRise → (columns : List Column) (cells : List Cell) → AllPairs IsBefore (document_postings columns cells)
-postings_rise rise columns cells = subst (λ ts. AllPairs IsBefore (postings_of ts)) (tokens_are columns cells) (rise (document_texts columns cells))
+-- the postings of a document
+pub document_rises : TextsRise → (columns : List Column) (cells : List Cell) → AllPairs IsBefore (document_postings columns cells)
+document_rises rise columns cells = subst (λ ts. AllPairs IsBefore (postings_of ts)) (tokens_are columns cells) (rise (document_texts columns cells))
 
 -- ---- entries in order, by documents
 
@@ -310,12 +311,12 @@ documents_are : (content : Content) (ds : Documents) → content_documents (reco
 documents_are content [] = refl
 documents_are content (d ∷ ds) = ap (λ xs. cond (is_filled (own_postings content d)) (document_at d.0 (own_postings content d) ∷ xs) xs) (documents_are content ds)
 
-pub lists_mean_documents : TextsRise → ListsMeanDocuments
+pub lists_mean : TextsRise → ListsMeanDocuments
 unfolding documents_in index_rows entries
-lists_mean_documents rise table content h =
+lists_mean rise table content h =
     let es = flat_map (document_entries content.columns) content.documents in
     ap (λ xs. grouped (map (λ (e : Entry × Unit {0}). e.0) (entry_set xs))) (stored_flat (spot_lists es))
-    ∙ group_set (own_postings content) content.documents (flat (spot_lists es)) (λ d. postings_rise rise content.columns d.1) h.rising (λ p. any_lists p es ∙ ap (list_any p) (entries_are content content.documents))
+    ∙ group_set (own_postings content) content.documents (flat (spot_lists es)) (λ d. document_rises rise content.columns d.1) h.rising (λ p. any_lists p es ∙ ap (list_any p) (entries_are content content.documents))
     ∙ sym (documents_are content content.documents)
 
 -- ---- the lists of some terms
@@ -386,7 +387,7 @@ terms_are_their_lists rise table content test h =
     ∙ ap (map all_places) (sym (
     ap (λ xs. grouped (map (λ (e : Entry × Unit {0}). e.0) (entry_set xs))) (lists_passing test (spot_lists es))
     ∙ group_set (passing test own) content.documents (filter (has_term test) (flat (spot_lists es)))
-    (λ d. AllPairs-filter IsBefore (posting_passes test) (own d) (postings_rise rise content.columns d.1)) h.rising
+    (λ d. AllPairs-filter IsBefore (posting_passes test) (own d) (document_rises rise content.columns d.1)) h.rising
     (λ p. any-filter p (has_term test) (flat (spot_lists es)) ∙ any_lists (λ e. has_term test e && p e) es ∙ sym (any-filter p (has_term test) es)
     ∙ ap (λ xs. list_any p (filter (has_term test) xs)) (entries_are content content.documents) ∙ ap (list_any p) (all_passing test own content.documents))))
 
@@ -533,6 +534,6 @@ module _ (columns : List Column) (tree : Tree) (left_out : accepts [] tree ≡ f
 pub hits_are_chosen : TextsRise → ((tree : Tree) → accepts [] tree ≡ false) → HitsAreChosen
 unfolding chosen
 hits_are_chosen rise left_out table content name text tree h reads =
-    ap (hits_of tree) (lists_mean_documents rise table content h ∙ documents_are content content.documents)
+    ap (hits_of tree) (lists_mean rise table content h ∙ documents_are content content.documents)
     ∙ hit_all content.columns tree (left_out tree) content.documents
     ∙ ap (λ r. map (hit_in content tree) (filter (λ (d : ℤ × List Cell). option_map_or (accepts (document_postings content.columns d.1)) (query_read r) false) content.documents)) (sym reads)

@@ -1,18 +1,14 @@
 -- The rows of a table that is made.
 use Rattle.std.proofs.Common.{◌≡◌, append-nil, ℕ, ◌+◌, Bool, true, false, cond, not, List, [], ◌∷◌, ◌++◌, map, length, Some, None, ℤ, pos, refl, sym, ap, ◌∙◌, arith, filter, IsTrue, Ordering, Equal, int_cmp, int_eq}
+use Rattle.std.proofs.lemmas.List.Elements.{recursion_from_All, filter_passes}
 use Rattle.sqlite_trees.proofs.ListLemmas.{filter_none}
 use Rattle.sqlite_keyed.proofs.ListLemmas.{all_weaker}
-use Rattle.ft_rows.proofs.ListLemmas.{filter_passes}
 use Rattle.ft_content.specs.Index.{index_rows, entries, sizes, spot_lists}
-use Rattle.ft_documents.proofs.Common.{AllByRecursion, enumerate_from, eq_by_cmp, IsTotalOrder, int_cmp_total, put, find, where_key, is_sorted, is_sorted-put, is_sorted-where_key, find-put, find-where_key, same_entries, CmpEqualImpliesEq, Cell, StoreValue, AreInOrder, CellKey, ListKey, ColumnKey, column_key_cmp, AddTable, applied, without_rows, with_columns, with_skipped, Column, Content, names_of, skipped_from, content_rows, Spot, table_rows, table_index, all_put}
+use Rattle.ft_documents.proofs.Common.{AllByRecursion, enumerate_from, eq_by_cmp, IsTotalOrder, int_cmp_total, put, find, where_key, is_sorted, is_sorted-put, is_sorted-where_key, find-put, find-where_key, same_entries, CmpEqualImpliesEq, exact_signed, Cell, StoreValue, AreInOrder, CellKey, ListKey, ColumnKey, cell_key_cmp, list_key_cmp, column_key_cmp, AddTable, applied, content_with, without_rows, with_columns, with_skipped, Column, Content, names_of, skipped_from, content_rows, Spot, table_rows, table_index, all_put}
 use Rattle.ft_documents.proofs.CellSteps.{numbered_from}
 use Rattle.ft_documents.proofs.RowKinds.{under, sorted_under, passed_from, sorted_passed, sorted_numbered}
-use Rattle.ft_documents.proofs.KeyedRows.{tie, true_of, of_true, itself, put_in_order}
+use Rattle.ft_documents.proofs.KeyedRows.{tie, true_of, of_true, itself, sorted_put, put_in_order}
 use Rattle.ft_documents.proofs.StoreKeys.{column_total, column_exact}
-
--- a content without documents
-abbrev pub bare : List Column → Content
-bare columns = record { columns = columns; documents = [] }
 
 -- ---- of the rows that pass, those that are put
 
@@ -40,7 +36,7 @@ own_put_all R total exact p (e ∷ es) rows passes sorted =
 none_left : {K V : Type 0} (p : K → Bool) (rows : List (K × V)) → filter (λ (e : K × V). p e.0) (filter (λ (e : K × V). not (p e.0)) rows) ≡ []
 none_left {K} {V} p rows =
     filter_none (λ (e : K × V). p e.0) (filter (λ (e : K × V). not (p e.0)) rows)
-    (all_weaker (λ (e : K × V). not (p e.0) ≡ true) (λ (e : K × V). p e.0 ≡ false) (λ e h. fails (p e.0) h) (filter (λ (e : K × V). not (p e.0)) rows) (filter_passes (λ (e : K × V). not (p e.0)) rows))
+    (all_weaker (λ (e : K × V). not (p e.0) ≡ true) (λ (e : K × V). p e.0 ≡ false) (λ e h. fails (p e.0) h) (filter (λ (e : K × V). not (p e.0)) rows) (recursion_from_All _ _ (filter_passes (λ (e : K × V). not (p e.0)) rows)))
   where
     fails : (b : Bool) → not b ≡ true → b ≡ false
     fails true h = absurd (let no = h in cc)
@@ -89,7 +85,7 @@ skips_back : (id : ℤ) (cs : List ℤ) → map (λ (s : ColumnKey × Unit {0}).
 skips_back id [] = refl
 skips_back id (c ∷ cs) = ap (λ l. c ∷ l) (skips_back id cs)
 
-pub added_rows : (id : ℤ) (name : List ℕ) (columns : List Column) (store : StoreValue) → AreInOrder store → table_rows id (applied (AddTable id name (names_of columns) (skipped_from 0 columns)) store) ≡ content_rows (bare columns)
+pub added_rows : (id : ℤ) (name : List ℕ) (columns : List Column) (store : StoreValue) → AreInOrder store → table_rows id (applied (AddTable id name (names_of columns) (skipped_from 0 columns)) store) ≡ content_rows (content_with columns [])
 added_rows id name columns store order =
     let names = names_of columns in
     let skipped = skipped_from 0 columns in
@@ -102,7 +98,7 @@ added_rows id name columns store order =
     ∙ ap (map skip_at) (own_new id (skips skipped) store.skipped (ap (is_sorted int_cmp) (skips_are 0 columns) ∙ sorted_passed (λ (c : Column). not c.indexed) (λ _. tt) 0 columns) order.skipped) ∙ skips_back id skipped in
     λ i. record { columns = cs i; skipped = ss i; cells = map (λ (c : CellKey × Cell). record { docid = c.0.1; column = c.0.2; value = c.1 }) (none_left (λ (k : CellKey). int_eq id k.0) store.cells i) }
 
-pub added_index : (id : ℤ) (name : List ℕ) (columns : List Column) (store : StoreValue) → table_index id (applied (AddTable id name (names_of columns) (skipped_from 0 columns)) store) ≡ index_rows (bare columns)
+pub added_index : (id : ℤ) (name : List ℕ) (columns : List Column) (store : StoreValue) → table_index id (applied (AddTable id name (names_of columns) (skipped_from 0 columns)) store) ≡ index_rows (content_with columns [])
 unfolding index_rows entries sizes spot_lists
 added_index id name columns store = λ i. record {
   lists = map (λ (l : ListKey × List Spot). ((l.0.1, l.0.2), l.1)) (none_left (λ (k : ListKey). int_eq id k.0) store.lists i);
@@ -118,3 +114,27 @@ one_more_skipped k (d ∷ ds) c =
       | true ↦ rest
       | false ↦ ap (λ l. pos k ∷ l) rest
     ]
+
+-- ---- all rows stay in order
+
+others_sorted : {K V : Type 0} (R : K → K → Ordering) (p : K → Bool) (rows : List (K × V)) → is_sorted R rows ≡ true → is_sorted R (where_key R p rows) ≡ true
+others_sorted R p rows sorted = true_of _ (is_sorted-where_key R p rows (of_true _ sorted))
+
+columns_sorted : (id : ℤ) (cs : List (ℕ × List ℕ)) (rows : List (ColumnKey × List ℕ)) → is_sorted column_key_cmp rows ≡ true → is_sorted column_key_cmp (with_columns id cs rows) ≡ true
+columns_sorted id [] rows sorted = sorted
+columns_sorted id (c ∷ cs) rows sorted = columns_sorted id cs (put column_key_cmp (id, pos c.0) c.1 rows) (sorted_put column_key_cmp column_total column_exact (((id, pos c.0), c.1) ∷ []) rows sorted)
+
+skips_sorted : (id : ℤ) (cs : List ℤ) (rows : List (ColumnKey × Unit {0})) → is_sorted column_key_cmp rows ≡ true → is_sorted column_key_cmp (with_skipped id cs rows) ≡ true
+skips_sorted id [] rows sorted = sorted
+skips_sorted id (c ∷ cs) rows sorted = skips_sorted id cs (put column_key_cmp (id, c) tt rows) (sorted_put column_key_cmp column_total column_exact (((id, c), tt) ∷ []) rows sorted)
+
+pub added_in_order : (id : ℤ) (name : List ℕ) (columns : List (List ℕ)) (skipped : List ℤ) (store : StoreValue) → AreInOrder store → AreInOrder (applied (AddTable id name columns skipped) store)
+added_in_order id name columns skipped store order = record {
+  tables = sorted_put int_cmp int_cmp_total exact_signed ((id, name) ∷ []) _ (others_sorted int_cmp (λ k. not (int_eq id k)) store.tables order.tables);
+  columns = columns_sorted id (enumerate_from 0 columns) _ (others_sorted column_key_cmp (λ k. not (int_eq id k.0)) store.columns order.columns);
+  skipped = skips_sorted id skipped _ (others_sorted column_key_cmp (λ k. not (int_eq id k.0)) store.skipped order.skipped);
+  cells = others_sorted cell_key_cmp (λ k. not (int_eq id k.0)) store.cells order.cells;
+  lists = others_sorted list_key_cmp (λ k. not (int_eq id k.0)) store.lists order.lists;
+  sizes = others_sorted cell_key_cmp (λ k. not (int_eq id k.0)) store.sizes order.sizes;
+  noted = order.noted;
+}

@@ -1,18 +1,17 @@
 -- The rows that are asked for a content's terms are the lists that a walk wants.
 use Rattle.std.proofs.Common.{map-id, ◌≡◌, ℕ, ℤ, ◌+◌, Bool, true, false, cond, Some, None, List, [], ◌∷◌, ◌++◌, map, length, refl, sym, ap, ◌∙◌, suc, arith, subst, IsPermutation, int_eq, ◌≤◌, ◌<◌, ◌&&◌, inl, inr, Option, filter, is_some, AllPairs, ◌<ℤ◌, Ordering, Less, Equal, Greater, nat_cmp, is_eq, add-one, zero, get_or, pos, negsuc, is_lt, nat_lt, ◌==◌, ◌||◌, IsSorted, int_lt}
+use Rattle.std.proofs.lemmas.List.Elements.{recursion_from_All, filter_passes}
 use Rattle.std.proofs.lemmas.List.Sums.{sum_by-cons}
 use Rattle.sqlite_trees.specs.Tree.{IsAscending}
-use Rattle.sqlite_keyed.proofs.ListLemmas.{all_map, all_weaker, all-map, map-map, all-flat_map, ascending-append, ascending-map, ascending_weaker, ascending-filter, all_from_test}
+use Rattle.sqlite_keyed.proofs.ListLemmas.{all_map, all_weaker, all-map, map-map, all-flat_map, ascending-append, ascending-map, ascending_weaker, ascending-filter, all_from_test, all-filter}
 use Rattle.sqlite_keyed.proofs.SortLemmas.{sorted_unique}
 use Rattle.ft_query.specs.declared.lists.place.Place.{Place}
-use Rattle.ft_query.proofs.PhrasePasses.{all_filter}
 use Rattle.ft_values.specs.declared.rows.ListRow.{ListRow}
 use Rattle.ft_values.specs.declared.rows.Spot.{Spot}
-use Rattle.ft_rows.proofs.ListLemmas.{filter_passes, and_first, and_second}
 use Rattle.ft_content.specs.Meaning.{entries_in, entry_cmp, entry_set, posting_of, with_entry, grouped, documents_in, lists_with_terms, all_places}
-use Rattle.ft_content.proofs.MeaningLemmas.{entry_total, sorted_set}
+use Rattle.ft_content.proofs.{entry_total, sorted_set}
 use Rattle.ft_rows.specs.declared.terms.Posting.{Posting as Row}
-use Rattle.ft_documents.proofs.Common.{AllByRecursion, AllAdjacentBelow, IsAllAdjacentAnswer, length-map, IsPermutation-refl, IsPermutation-cons, IsPermutation-trans, IsPermutation-sym, IsPermutation-middle, IsPermutation-map, length_permutation, ordering_then, ordering_reverse, IsTotalOrder, nat_cmp_total, int_cmp_total, nat_cmp_is, int_cmp_is, tied_itself, on_total, then_total, by_order, put, find, length-put, where_key, recursion_from_All, nat_tests, ints, PlaceList, place_count, Posting, Document, IsBefore, AreDocuments, is_filled, has_places, places_with, lists_with, ListKey, list_key_cmp, shown_list, bare_list, spot_count, Entry, Key, joined_posting, lists_of_postings, place_of, spot_in, read_list, list_of, placed_in, all_in, posting_cmp, AreListsOf, is_before, rise, is_in_order, are_in_order}
+use Rattle.ft_documents.proofs.Common.{AllByRecursion, and_parts, AllAdjacentBelow, IsAllAdjacentAnswer, length-map, IsPermutation-refl, IsPermutation-cons, IsPermutation-trans, IsPermutation-sym, IsPermutation-middle, IsPermutation-map, length_permutation, ordering_then, ordering_reverse, IsTotalOrder, nat_cmp_total, int_cmp_total, nat_cmp_is, int_cmp_is, tied_itself, on_total, then_total, by_order, put, find, length-put, where_key, recursion_from_All, nat_tests, ints, PlaceList, place_count, Posting, Document, IsBefore, AreDocuments, is_filled, has_places, places_with, lists_with, ListKey, list_key_cmp, shown_list, bare_list, spot_count, Entry, Key, joined_posting, lists_of_postings, place_of, spot_in, read_list, list_of, placed_in, all_in, posting_cmp, AreListsOf, is_before, rise, is_in_order, are_in_order}
 use Rattle.ft_documents.proofs.KeyedRows.{same_int}
 
 -- ---- postings by document
@@ -45,7 +44,7 @@ same_postings ps = IsPermutation-refl ps
 -- ---- rows as entries
 
 -- an entry without its term
-abbrev pub bare : Entry → Row
+abbrev bare : Entry → Row
 bare e = placed_in e.docid (posting_of e).place
 
 one_list : (t : List ℕ) (d : ℤ) (ss : List Spot) (xs : List Row) (ys : List Entry) → xs ≡ map bare ys →
@@ -60,7 +59,7 @@ abbrev asked_places : List (ListKey × List Spot) → List Row
 asked_places lists = all_in (map read_list (map bare_list lists))
 
 -- the places of the lists that are asked
-pub asked_entries : (tab : ℤ) (asks : ListKey → Bool) (test : List ℕ → Bool) → ((k : ListKey) → asks k ≡ (int_eq tab k.0 && test k.1)) → (lists : List (ListKey × List Spot)) →
+asked_entries : (tab : ℤ) (asks : ListKey → Bool) (test : List ℕ → Bool) → ((k : ListKey) → asks k ≡ (int_eq tab k.0 && test k.1)) → (lists : List (ListKey × List Spot)) →
     all_in (map read_list (map bare_list (where_key list_key_cmp asks lists))) ≡ map bare (entries_in (lists_with_terms test (of_table tab lists)))
 asked_entries tab asks test same [] = refl
 asked_entries tab asks test same (l ∷ ls) =
@@ -192,7 +191,7 @@ module _ (test : List ℕ → Bool) where
   pub lists_rise : (ds : List Document) → AreDocuments ds → IsAscending Below (all_in (lists_with test ds))
   lists_rise ds order =
       let P : PlaceList → Type 0 = λ l. IsAscending Below (map (placed_in l.docid) l.places) in
-      lists_up (lists_with test ds) (docids_up ds order) (all_filter P has_places (map (places_with test) ds) (all_map P (places_with test) ds
+      lists_up (lists_with test ds) (docids_up ds order) (all-filter P has_places (map (places_with test) ds) (all_map P (places_with test) ds
       (all_weaker (λ (d : Document). AllPairs IsBefore d.postings) (λ (d : Document). P (places_with test d)) one_rises ds (recursion_from_All (λ (d : Document). AllPairs IsBefore d.postings) ds order.ordered))))
 
 -- ---- places in order, by document
@@ -235,14 +234,14 @@ pub all_groups : (ls : List PlaceList) → AllByRecursion (λ l. has_places l �
 all_groups ls filled up = ap (map read_list) (joined_groups ls filled up) ∙ lists_again ls
 
 lists_group : (test : List ℕ → Bool) (ds : List Document) → AreDocuments ds → map read_list (lists_of_postings (all_in (lists_with test ds))) ≡ lists_with test ds
-lists_group test ds order = all_groups (lists_with test ds) (filter_passes has_places (map (places_with test) ds)) (docids_up test ds order)
+lists_group test ds order = all_groups (lists_with test ds) (recursion_from_All _ _ (filter_passes has_places (map (places_with test) ds))) (docids_up test ds order)
 
 -- ---- the rows' lists
 
 module _ (ds : List Document) (order : AreDocuments ds) (test : List ℕ → Bool) (lists : List (Key × List Spot)) where
   -- rows of the lists of some terms give what a walk wants, where these mean it and none of their
   -- entries comes twice
-  pub rows_answer : lists_with test ds ≡ map all_places (documents_in (lists_with_terms test lists)) → place_count (lists_with test ds) ≡ length (entries_in (lists_with_terms test lists)) →
+  rows_answer : lists_with test ds ≡ map all_places (documents_in (lists_with_terms test lists)) → place_count (lists_with test ds) ≡ length (entries_in (lists_with_terms test lists)) →
       (rows : List ListRow) → all_in (map list_of rows) ≡ map bare (entries_in (lists_with_terms test lists)) → (found : List PlaceList) → AreListsOf rows found → found ≡ lists_with test ds
   unfolding documents_in
   rows_answer means counted rows are found shown =
@@ -258,6 +257,14 @@ module _ (ds : List Document) (order : AreDocuments ds) (test : List ℕ → Boo
       shown.lists
       ∙ ap (λ ps. map read_list (lists_of_postings ps)) (sorted_unique posting_cmp posting_total (all_in (lists_with test ds)) shown.places (lists_rise test ds order) ordered shown.sorted)
       ∙ lists_group test ds order
+
+  -- and the rows that are asked of a store are such
+  pub asked_answer : lists_with test ds ≡ map all_places (documents_in (lists_with_terms test lists)) → place_count (lists_with test ds) ≡ length (entries_in (lists_with_terms test lists)) →
+      (tab : ℤ) (asks : ListKey → Bool) → ((k : ListKey) → asks k ≡ (int_eq tab k.0 && test k.1)) → (stored : List (ListKey × List Spot)) → of_table tab stored ≡ lists →
+      (rows : List ListRow) → map shown_list rows ≡ map bare_list (where_key list_key_cmp asks stored) → (found : List PlaceList) → AreListsOf rows found → found ≡ lists_with test ds
+  asked_answer means counted tab asks same stored its rows read =
+      rows_answer means counted rows
+      (ap all_in (sym (map-map read_list shown_list rows) ∙ ap (map read_list) read) ∙ asked_entries tab asks test same stored ∙ ap (λ ls. map bare (entries_in (lists_with_terms test ls))) its)
 
 -- as many as the rows have
 pub rows_count : (rows : List ListRow) (found : List PlaceList) → AreListsOf rows found → place_count found ≡ spot_count (map shown_list rows)
@@ -298,8 +305,8 @@ ascending_from_rise : {X : Type 0} (before : X → X → Bool) (R : X → X → 
 ascending_from_rise before R says after [] up = tt
 ascending_from_rise before R says after (x ∷ []) up = (tt, tt)
 ascending_from_rise before R says after (x ∷ y ∷ xs) up =
-    let first : R x y = says x y (and_first _ _ up) in
-    let rest = ascending_from_rise before R says after (y ∷ xs) (and_second (before x y) _ up) in
+    let first : R x y = says x y (and_parts _ _ up).0 in
+    let rest = ascending_from_rise before R says after (y ∷ xs) (and_parts (before x y) _ up).1 in
     ((first, all_weaker (R y) (R x) (λ z h. after x y z first h) xs rest.0), rest)
 
 sorted_up : (ps : List Row) → IsAscending Below ps → IsSorted posting_cmp ps
@@ -314,8 +321,8 @@ before_below x p q h = go (nat_lt p.column q.column) refl h
     go : (b : Bool) → nat_lt p.column q.column ≡ b → (b || (p.column == q.column && nat_lt p.pos q.pos)) ≡ true → Below (placed_in x (place_of p)) (placed_in x (place_of q))
     go true e h = below_column x (place_of p) (place_of q) (grind (arith, nat_tests))
     go false e h =
-        let same = and_first (p.column == q.column) (nat_lt p.pos q.pos) h in
-        let less = and_second (p.column == q.column) (nat_lt p.pos q.pos) h in
+        let same = (and_parts (p.column == q.column) (nat_lt p.pos q.pos) h).0 in
+        let less = (and_parts (p.column == q.column) (nat_lt p.pos q.pos) h).1 in
         below_pos x (place_of p) (place_of q) (grind (arith, nat_tests)) (grind (arith, nat_tests))
 
 row_rises : (row : ListRow) → is_in_order row ≡ true → IsAscending Below (map (placed_in row.docid) (map place_of row.spots.items))
@@ -323,7 +330,7 @@ row_rises row h =
     ascending-map Below (placed_in row.docid) (map place_of row.spots.items)
     (ascending-map (λ p q. Below (placed_in row.docid p) (placed_in row.docid q)) place_of row.spots.items
     (ascending_from_rise is_before (λ s t. Below (placed_in row.docid (place_of s)) (placed_in row.docid (place_of t)))
-    (before_below row.docid) (λ a b c. posting_total.trans (placed_in row.docid (place_of a)) (placed_in row.docid (place_of b)) (placed_in row.docid (place_of c))) row.spots.items (and_second (is_filled row.spots.items) _ h)))
+    (before_below row.docid) (λ a b c. posting_total.trans (placed_in row.docid (place_of a)) (placed_in row.docid (place_of b)) (placed_in row.docid (place_of c))) row.spots.items (and_parts (is_filled row.spots.items) _ h).1))
 
 -- ---- rows that rise
 
@@ -340,7 +347,7 @@ later : (a b c : ℤ) → a <ℤ b → b <ℤ c → a <ℤ c
 later a b c h k = omega (arith, ints)
 
 has_some : (row : ListRow) → is_in_order row ≡ true → has_places (list_of row) ≡ true
-has_some row h = go row.spots.items (and_first _ _ h)
+has_some row h = go row.spots.items (and_parts _ _ h).0
   where
     go : (ss : List Spot) → is_filled ss ≡ true → is_filled (map place_of ss) ≡ true
     go [] some = some
@@ -348,8 +355,8 @@ has_some row h = go row.spots.items (and_first _ _ h)
 
 pub rows_in_order : (rows : List ListRow) → are_in_order rows ≡ true → AreListsOf rows (map list_of rows)
 rows_in_order rows h =
-    let each = all_from_test is_in_order rows (and_second (rise (λ (a b : ListRow). int_lt a.docid b.docid) rows) _ h) in
-    let up = ascending_from_rise (λ (a b : ListRow). int_lt a.docid b.docid) IsEarlier (λ a b e. earlier a.docid b.docid e) (λ a b c. later a.docid b.docid c.docid) rows (and_first _ _ h) in
+    let each = all_from_test is_in_order rows (and_parts (rise (λ (a b : ListRow). int_lt a.docid b.docid) rows) _ h).1 in
+    let up = ascending_from_rise (λ (a b : ListRow). int_lt a.docid b.docid) IsEarlier (λ a b e. earlier a.docid b.docid e) (λ a b c. later a.docid b.docid c.docid) rows (and_parts _ _ h).0 in
     let docids = ascending-map (λ a b. a.docid <ℤ b.docid) list_of rows up in
     let rises : PlaceList → Type 0 = λ l. IsAscending Below (map (placed_in l.docid) l.places) in
     record {

@@ -1,6 +1,6 @@
 -- What row changes do to the rows of one table.
 use Rattle.std.proofs.Common.{◌≡◌, ℕ, Bool, true, false, cond, not, ◌&&◌, List, [], ◌∷◌, map, ℤ, pos, refl, sym, ap, ◌∙◌, filter, Ordering, Less, Equal, Greater, int_eq}
-use Rattle.ft_content.proofs.IndexLemmas.{filter-within}
+use Rattle.sqlite_trees.proofs.ListLemmas.{filter-filter}
 use Rattle.ft_documents.proofs.Common.{enumerate_from, eq_by_cmp, eq_by_cmp_equiv, int_cmp_total, by_order, put, CmpEqualImpliesEq, exact_signed, Cell, TableRows, Spot, IndexRows, CellKey, ListKey, cell_key_cmp, list_key_cmp, column_key_cmp, with_columns, with_skipped, without_key, without_rows, AddTable, DropTable, PutCell, DropCells, PutEntries, DropEntries, PutSize, DropSize, ClearIndex, Note}
 use Rattle.ft_documents.specs.RowLaws.{SparesOthers}
 use Rattle.ft_documents.proofs.KeyedRows.{tie}
@@ -28,18 +28,18 @@ not_this tab other t apart is = ap (λ x. int_eq tab x) (sym (exact_signed other
 spares_drop : {K V : Type 0} (tab_of : K → ℤ) (tab other : ℤ) (more : K → Bool) (rows : List (K × V)) → int_eq other tab ≡ false →
     filter (λ (e : K × V). int_eq other (tab_of e.0)) (filter (λ (e : K × V). not (int_eq tab (tab_of e.0) && more e.0)) rows) ≡ filter (λ (e : K × V). int_eq other (tab_of e.0)) rows
 spares_drop {K} {V} tab_of tab other more rows apart =
-    filter-within (λ (e : K × V). int_eq other (tab_of e.0)) (λ (e : K × V). not (int_eq tab (tab_of e.0) && more e.0)) (λ e is. ap (λ b. not (b && more e.0)) (not_this tab other (tab_of e.0) apart is)) rows
+    filter-filter (λ (e : K × V). int_eq other (tab_of e.0)) (λ (e : K × V). not (int_eq tab (tab_of e.0) && more e.0)) (λ e is. ap (λ b. not (b && more e.0)) (not_this tab other (tab_of e.0) apart is)) rows
 
 spares_all : {K V : Type 0} (tab_of : K → ℤ) (tab other : ℤ) (rows : List (K × V)) → int_eq other tab ≡ false →
     filter (λ (e : K × V). int_eq other (tab_of e.0)) (filter (λ (e : K × V). not (int_eq tab (tab_of e.0))) rows) ≡ filter (λ (e : K × V). int_eq other (tab_of e.0)) rows
 spares_all {K} {V} tab_of tab other rows apart =
-    filter-within (λ (e : K × V). int_eq other (tab_of e.0)) (λ (e : K × V). not (int_eq tab (tab_of e.0))) (λ e is. ap not (not_this tab other (tab_of e.0) apart is)) rows
+    filter-filter (λ (e : K × V). int_eq other (tab_of e.0)) (λ (e : K × V). not (int_eq tab (tab_of e.0))) (λ e is. ap not (not_this tab other (tab_of e.0) apart is)) rows
 
 -- a row left out by its key
 spares_key : {K V : Type 0} (R : K → K → Ordering) → CmpEqualImpliesEq R → (tab_of : K → ℤ) (other : ℤ) (k : K) (rows : List (K × V)) → int_eq other (tab_of k) ≡ false →
     filter (λ (e : K × V). int_eq other (tab_of e.0)) (without_key R k rows) ≡ filter (λ (e : K × V). int_eq other (tab_of e.0)) rows
 spares_key {K} {V} R exact tab_of other k rows apart =
-    filter-within (λ (e : K × V). int_eq other (tab_of e.0)) (λ (e : K × V). not (eq_by_cmp R k e.0))
+    filter-filter (λ (e : K × V). int_eq other (tab_of e.0)) (λ (e : K × V). not (eq_by_cmp R k e.0))
     (λ e is. elim (eq_by_cmp R k e.0) as (λ b. eq_by_cmp R k e.0 ≡ b → not b ≡ true) [
       | true ↦ λ same. absurd (let one : int_eq other (tab_of k) ≡ true = ap (λ x. int_eq other (tab_of x)) (exact k e.0 (tie _ same)) ∙ is in let no = sym apart ∙ one in cc)
       | false ↦ λ _. refl

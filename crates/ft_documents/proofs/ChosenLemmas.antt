@@ -6,7 +6,7 @@ use Rattle.ft_documents.specs.Chosen.{document_at}
 use Rattle.ft_documents.proofs.KeyedRows.{tie, below_apart, none_below, each_found}
 
 -- a document is found under its docid
-abbrev pub AreFound : (ℤ → Option (List Cell)) → Documents → Type 0
+abbrev AreFound : (ℤ → Option (List Cell)) → Documents → Type 0
 AreFound look documents = AllByRecursion (λ (d : ℤ × List Cell). look d.0 ≡ Some d.1) documents
 
 pub less_apart : (a b : ℤ) → is_lt (int_cmp a b) ≡ true → int_eq b a ≡ false

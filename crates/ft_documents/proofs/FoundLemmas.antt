@@ -35,11 +35,3 @@ unplaced f q xs h = unplaced_from f q 0 xs (sym (position_from-zero (λ x. q (f 
 pub not_some : {A : Type 0} (o : Option A) → is_some o ≡ false → o ≡ None
 not_some None h = refl
 not_some (Some x) h = absurd (let no = h in cc)
-
--- one passes exactly where it has a place
-pub found_is : {A B : Type 0} (f : A → B) (q : B → Bool) (xs : List A) → is_some (find q (map f xs)) ≡ is_some (position (λ x. q (f x)) xs)
-found_is f q xs = go (position (λ x. q (f x)) xs) refl
-  where
-    go : (at : Option ℕ) → position (λ x. q (f x)) xs ≡ at → is_some (find q (map f xs)) ≡ is_some (position (λ x. q (f x)) xs)
-    go None h = ap is_some (unplaced f q xs h) ∙ sym (ap is_some h)
-    go (Some i) h = ap is_some (placed f q xs i h).found ∙ sym (ap is_some h)

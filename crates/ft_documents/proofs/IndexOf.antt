@@ -4,8 +4,7 @@ use Rattle.std.proofs.lemmas.Simd.{map-map}
 use Rattle.std.specs.Char.{to_ascii_lowercase}
 use Rattle.std.specs.BTreeMap.{insert_entry}
 use Rattle.ft_content.specs.Index.{entries, sizes, index_rows}
-use Rattle.ft_content.proofs.IndexLemmas.{lists_are_entries}
-use Rattle.ft_content.proofs.PlanLemmas.{sorted_lists}
+use Rattle.ft_content.proofs.{lists_are_entries, sorted_lists}
 use Rattle.ft_documents.proofs.Common.{enumerate_from, map-append, nat_tests, eq_by_cmp, match_ordering, put, by_order, flat_map-append, All-nil, All-append, PlainToken, Scan, is_eligible, token_of, ended, tokens_from, tokens_of, posting, Cell, column_key_cmp, Column, Documents, cell_text, Entry, entry_at, Key, Spot, Size, size_row, document_tokens, key_cmp, key_of, document_entries, spots_of_key, some_if_any, with_spots, with_entries, entry_spot, all_put, sized, cell_entries, cell_sizes, AreShortNumbers, lists_joined_by, sizes_with, index_lists_of, sizes_of, lists_in, sizes_in, HaveShortNumbers, AddsDocuments, IsIndexOf, IsTextOf}
 use Rattle.ft_documents.specs.declared.document_index.DocumentIndex.{DocumentIndex}
 use Rattle.ft_documents.proofs.TermOrder.{with_spots-append, spots_under, joined, made_of}

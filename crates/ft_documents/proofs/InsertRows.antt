@@ -127,7 +127,7 @@ row_at names f rows k row is = slice_get-map (zip names) (map f rows) k ∙ ap (
 
 -- ---- what is known of docids that are given
 
-pub given_is : (documents : Documents) (given : Option ℤ) → IfSome given (λ docid. has_docid documents docid ≡ has_given documents given)
+given_is : (documents : Documents) (given : Option ℤ) → IfSome given (λ docid. has_docid documents docid ≡ has_given documents given)
 given_is documents None = tt
 given_is documents (Some docid) = refl
 
@@ -152,7 +152,7 @@ pub sorted_new : (new : Documents) → is_sorted int_cmp (under_docids (map new_
 sorted_new [] = refl
 sorted_new (d ∷ ds) = λ i. below_new d.0 ds i && sorted_new ds i
 
-pub befores_new : (documents new : Documents) → AllByRecursion (λ (d : ℤ × List Cell). find int_cmp d.0 documents ≡ None) new → AllByRecursion (λ (r : Rewrite). r.before ≡ find int_cmp r.docid documents) (map new_rewrite new)
+befores_new : (documents new : Documents) → AllByRecursion (λ (d : ℤ × List Cell). find int_cmp d.0 documents ≡ None) new → AllByRecursion (λ (r : Rewrite). r.before ≡ find int_cmp r.docid documents) (map new_rewrite new)
 befores_new documents [] h = tt
 befores_new documents (d ∷ ds) h = (sym h.0, befores_new documents ds h.1)
 

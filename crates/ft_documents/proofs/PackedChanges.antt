@@ -1,15 +1,12 @@
 -- The row changes of documents put lists that can be packed.
-use Rattle.std.proofs.Common.{◌≡◌, ℕ, ◌+◌, ◌<◌, ◌≤◌, Bool, true, false, cond, not, List, [], ◌∷◌, map, length, Option, Some, None, ℤ, refl, sym, ap, subst, ◌∙◌, arith, inl, inr, nat_lt, ◌==◌, filter, All, AllPairs, unwrap_or, IfSome, get_or, int_cmp, int_eq}
+use Rattle.std.proofs.Common.{◌≡◌, ℕ, suc, flat_map, ◌+◌, ◌<◌, ◌≤◌, Bool, true, false, cond, not, List, [], ◌∷◌, map, length, Option, Some, None, ℤ, refl, sym, ap, subst, ◌∙◌, arith, inl, inr, nat_lt, ◌==◌, filter, All, AllPairs, unwrap_or, IfSome, get_or, int_cmp, int_eq}
 use Rattle.std.proofs.lemmas.List.Kept.{AllPairs-filter}
 use Rattle.sqlite_trees.proofs.ListLemmas.{all_of}
-use Rattle.ft_query.proofs.TokenLaw.{computed_tokens}
-use Rattle.ft_query.proofs.TokenOnce.{pairs_head, pairs_tail}
-use Rattle.ft_query.proofs.Bridge.{from_column, postings_rise}
+use Rattle.ft_query.proofs.{computed_tokens, postings_rise}
 use Rattle.ft_values.specs.declared.rows.RowChange.{RowChange}
 use Rattle.ft_rows.specs.Packed.{CanPack}
-use Rattle.ft_content.proofs.IndexLemmas.{lists_are_entries, key_cmp_total, key_cmp_exact}
-use Rattle.ft_content.proofs.MeaningLemmas.{document_texts, tokens_are}
-use Rattle.ft_documents.proofs.Common.{list_all, range_with_len, AllByRecursion, eq_by_cmp, and_parts, and_from, nat_tests, All-nil, All-cons, All-head, All-tail, All-append, All-filter, recursion_from_All, All-from_recursion, All-map, All-weaker, find, is_sorted, PlainToken, tokens_of, Posting, posting, IsBefore, postings_of, Cell, Null, Int, Text, shown_change, CanApply, PutCell, Column, cell_text, is_cell, has_nul, Documents, is_document, Spot, Entry, entry_at, Key, key_cmp, key_of, indexed_text, cell_tokens, document_tokens, document_postings, document_entries, spots_of_key, some_if_any, IsShortNumber, AreShortNumbers, same_cell, changed, numbered_cells, put_cells, index_lists_of, rewrite_changes, Rewrite, afters, document_if, under_docids, FitIfAny, IsPackable, HaveShortNumbers}
+use Rattle.ft_content.proofs.{lists_are_entries, key_cmp_total, key_cmp_exact, document_rises}
+use Rattle.ft_documents.proofs.Common.{list_all, enumerate_from, range_with_len, AllByRecursion, eq_by_cmp, and_parts, and_from, nat_tests, All-nil, All-cons, All-head, All-tail, All-append, All-filter, recursion_from_All, All-from_recursion, All-map, All-weaker, find, is_sorted, PlainToken, tokens_of, Posting, posting, IsBefore, postings_of, Cell, Null, Int, Text, shown_change, CanApply, PutCell, Column, cell_text, is_cell, has_nul, Documents, is_document, Spot, Entry, entry_at, Key, key_cmp, key_of, indexed_text, cell_tokens, document_tokens, document_postings, document_entries, spots_of_key, some_if_any, IsShortNumber, AreShortNumbers, same_cell, changed, numbered_cells, put_cells, index_lists_of, rewrite_changes, Rewrite, afters, document_if, under_docids, FitIfAny, IsPackable, HaveShortNumbers}
 use Rattle.ft_documents.proofs.RowKinds.{one_list, lists_are}
 use Rattle.ft_documents.proofs.NearLemmas.{all_changes, All-flat_map}
 use Rattle.ft_documents.proofs.KeyedRows.{each_found}
@@ -33,8 +30,8 @@ all_low n (t ∷ ts) numbered apart low =
     let rest : map (λ (u : PlainToken). u.pos) ts ≡ range_with_len (n + 1) (length ts) = cc in
     let here = low.0 in (
       omega (arith, first, here),
-      all_low (n + 1) ts rest (pairs_tail (λ a b. a.start + a.size < b.start) t ts apart)
-          (later_starts n t ts here (recursion_from_All (λ u. t.start + t.size < u.start) ts (pairs_head (λ a b. a.start + a.size < b.start) t ts apart))),
+      all_low (n + 1) ts rest (λ i j d before inside. apart (suc i) (suc j) d (omega arith) (omega arith))
+          (later_starts n t ts here (recursion_from_All (λ u. t.start + t.size < u.start) ts (λ k d inside. apart 0 (suc k) d (omega arith) (omega arith)))),
     )
 
 abbrev IsSmall : PlainToken → Type 0
@@ -80,18 +77,18 @@ short_texts (column ∷ columns) (cell ∷ cells) is numbers =
     let parts = and_parts (is_cell cell) (list_all is_cell cells) is in
     (text_short column cell parts.0 numbers.0, short_texts columns cells parts.1 numbers.1)
 
-places : (c : ℕ) (columns : List Column) (cells : List Cell) → c + length columns ≤ 100 → AreShortTexts columns cells → All IsPlace (from_column c (document_tokens columns cells))
+places : (c : ℕ) (columns : List Column) (cells : List Cell) → c + length columns ≤ 100 → AreShortTexts columns cells → All IsPlace (flat_map (λ e. map (posting e.0) e.1) (enumerate_from c (document_tokens columns cells)))
 places c [] cells few short = All-nil IsPlace
 places c (column ∷ columns) [] few short = All-nil IsPlace
 places c (column ∷ columns) (cell ∷ cells) few short =
     let here : c ≤ 99 = omega (arith, few) in
     let more : (c + 1) + length columns ≤ 100 = omega (arith, few) in
-    All-append IsPlace (map (posting c) (cell_tokens column cell)) (from_column (c + 1) (document_tokens columns cells))
+    All-append IsPlace (map (posting c) (cell_tokens column cell)) (flat_map (λ e. map (posting e.0) e.1) (enumerate_from (c + 1) (document_tokens columns cells)))
     (column_places c (cell_tokens column cell) here (small_tokens (indexed_text column cell) short.0))
     (places (c + 1) columns cells more short.1)
 
 in_order : (columns : List Column) (cells : List Cell) → AllPairs IsBefore (document_postings columns cells)
-in_order columns cells = subst (λ ts. AllPairs IsBefore (postings_of ts)) (tokens_are columns cells) (postings_rise (document_texts columns cells))
+in_order columns cells = document_rises postings_rise columns cells
 
 -- ---- spots that can be packed
 
@@ -107,7 +104,7 @@ is_behind p q (inr h) = grind (arith, nat_tests, h.0, h.1, h.2)
 
 places_rise : (p : Posting) (ps : List Posting) → All IsPlace ps → AllPairs IsBefore (p ∷ ps) → packing.rise_after (place_of p) (map place_of ps) ≡ true
 places_rise p [] are rise = refl
-places_rise p (q ∷ qs) are rise = grind (arith, is_place q (All-head IsPlace q qs are), is_behind p q (All-head (IsBefore p) q qs (pairs_head IsBefore p (q ∷ qs) rise)), places_rise q qs (All-tail IsPlace q qs are) (pairs_tail IsBefore p (q ∷ qs) rise))
+places_rise p (q ∷ qs) are rise = grind (arith, is_place q (All-head IsPlace q qs are), is_behind p q (All-head (IsBefore p) q qs (λ k d inside. rise 0 (suc k) d (omega arith) (omega arith))), places_rise q qs (All-tail IsPlace q qs are) (λ i j d before inside. rise (suc i) (suc j) d (omega arith) (omega arith)))
 
 are_places : (p : Posting) (ps : List Posting) → All IsPlace (p ∷ ps) → AllPairs IsBefore (p ∷ ps) → packing.are_spots (map place_of (p ∷ ps)) ≡ true
 are_places p ps are rise = and_from (packing.is_spot (place_of p)) (packing.rise_after (place_of p) (map place_of ps)) (is_place p (All-head IsPlace p ps are)) (places_rise p ps (All-tail IsPlace p ps are) rise)

@@ -1,11 +1,11 @@
 -- Documents out of the rows of their cells.
-use Rattle.std.proofs.Common.{◌≡◌, ℕ, suc, ◌+◌, Bool, true, false, cond, ◌&&◌, ◌==◌, List, [], ◌∷◌, ◌++◌, map, length, Option, Some, None, ℤ, pos, refl, sym, ap, ◌∙◌, arith, eqb-true, append-nil, filter, reverse, slice_get, option_map, unwrap_or, nat_lt, nat_le, not, flat_map, int_cmp, int_eq, append_assoc, is_eq}
+use Rattle.std.proofs.Common.{◌≡◌, ℕ, suc, ◌+◌, Bool, true, false, cond, ◌&&◌, ◌==◌, List, [], ◌∷◌, ◌++◌, map, length, Option, Some, None, ℤ, pos, refl, sym, ap, ◌∙◌, arith, eqb-true, append-nil, filter, reverse, slice_get, option_map, is_some, unwrap_or, nat_lt, nat_le, not, flat_map, int_cmp, int_eq, append_assoc, is_eq}
 use Rattle.sqlite_keyed.proofs.ListLemmas.{map-map}
 use Rattle.ft_content.specs.Content.{gathered}
-use Rattle.ft_content.proofs.RowLemmas.{rows_are_read}
+use Rattle.ft_content.proofs.{rows_are_read}
 use Rattle.ft_documents.proofs.Common.{list_all, enumerate_from, int_cmp_total, tied_itself, find, where_key, below_all, is_sorted, and_parts, reverse-append, map-append, filter-append, exact_signed, Decides-int_eq, Cell, shown_value, CellKey, StoreValue, cell_key_cmp, shown_cell, last_docid_of, CellRow, TableRows, Documents, Content, IsContent, is_document, is_cell, document_rows, content_rows, names_of, names_clash, is_name, with_cell, last_docid, table_rows, gathered_row, shown_document, with_last}
 use Rattle.ft_documents.specs.declared.documents.Document.{Document}
-use Rattle.ft_documents.proofs.KeyedRows.{none_below}
+use Rattle.ft_documents.proofs.KeyedRows.{none_below, same_int}
 use Rattle.ft_values.specs.declared.rows.CellRow as row
 
 -- ---- the last item
@@ -46,7 +46,7 @@ last_same k x (y ∷ ys) = last_same k y ys
 
 -- ---- documents with a cell at least
 
-abbrev pub HaveCells : Documents → Type 0
+abbrev HaveCells : Documents → Type 0
 HaveCells [] = Unit {0}
 HaveCells (d ∷ ds) = ((cell : Cell) × (cells : List Cell) × (d.1 ≡ cell ∷ cells)) × HaveCells ds
 
@@ -60,7 +60,7 @@ have_cells width (d ∷ ds) some h =
     let parts = and_parts (is_document width d) (list_all (is_document width) ds) h in
     (has_cell width d.1 some (and_parts (length d.1 == width) (list_all is_cell d.1) parts.0).0, have_cells width ds some parts.1)
 
-pub content_cells : (name : List ℕ) (content : Content) → IsContent name content → HaveCells content.documents
+content_cells : (name : List ℕ) (content : Content) → IsContent name content → HaveCells content.documents
 content_cells name content is =
     let width = length content.columns in
     let names = names_of content.columns in
@@ -110,7 +110,7 @@ is_of docid row = int_eq docid row.docid
 abbrev pub value_of_row : CellRow → Cell
 value_of_row row = row.value
 
-abbrev pub values_at : ℤ → List CellRow → List Cell
+abbrev values_at : ℤ → List CellRow → List Cell
 values_at docid rows = map value_of_row (filter (is_of docid) rows)
 
 values-append : (docid : ℤ) (xs ys : List CellRow) → values_at docid (xs ++ ys) ≡ values_at docid xs ++ values_at docid ys
@@ -123,7 +123,7 @@ values_of_document docid k b n (cell ∷ cells) is =
     ap (λ b. map value_of_row (cond b (row_of k (n, cell) ∷ rest) rest)) is
     ∙ elim b as (λ b. map value_of_row rest ≡ cond b cells [] → map value_of_row (cond b (row_of k (n, cell) ∷ rest) rest) ≡ cond b (cell ∷ cells) []) [ true ↦ λ more. ap (λ l. cell ∷ l) more | false ↦ λ more. more ] (values_of_document docid k b (n + 1) cells is)
 
-pub values_found : (docid : ℤ) (documents : Documents) → is_sorted int_cmp documents ≡ true → values_at docid (rows_in documents) ≡ unwrap_or (find int_cmp docid documents) []
+values_found : (docid : ℤ) (documents : Documents) → is_sorted int_cmp documents ≡ true → values_at docid (rows_in documents) ≡ unwrap_or (find int_cmp docid documents) []
 values_found docid [] h = refl
 values_found docid (d ∷ ds) h =
     let parts = and_parts (below_all int_cmp d.0 ds) (is_sorted int_cmp ds) h in
@@ -134,7 +134,7 @@ values_found docid (d ∷ ds) h =
       | false ↦ λ is. (λ i. values_of_document docid d.0 false 0 d.1 is i ++ rest i)
     ] refl
 
-pub asked_values : (tab docid : ℤ) (cells : List (CellKey × Cell)) →
+asked_values : (tab docid : ℤ) (cells : List (CellKey × Cell)) →
     map (λ (c : CellKey × Cell). c.1) (where_key cell_key_cmp (λ k. int_eq tab k.0 && int_eq docid k.1) cells) ≡ values_at docid (map (λ (c : CellKey × Cell). record { docid = c.0.1; column = c.0.2; value = c.1 }) (where_key cell_key_cmp (λ k. int_eq tab k.0) cells))
 asked_values tab docid [] = refl
 asked_values tab docid (e ∷ es) =
@@ -181,7 +181,78 @@ pub some_read : (tab docid : ℤ) (store : StoreValue) (name : List ℕ) (conten
 some_read tab docid store name content [] is rows same some = absurd (let no = some in cc)
 some_read tab docid store name content (r ∷ rs) is rows same some = ap if_any (cells_read tab docid store name content (r ∷ rs) is rows same) ∙ found_any docid content.documents (content_cells name content is)
 
--- all documents as a store reads them
+-- ---- whether there is a document of a docid
+
+first_of_values : {A B : Type 0} (f : A → B) (xs : List A) → is_some (slice_get xs 0) ≡ is_some (slice_get (map f xs) 0)
+first_of_values f [] = refl
+first_of_values f (x ∷ xs) = refl
+
+some_found : (docid : ℤ) (documents : Documents) → HaveCells documents → is_some (slice_get (unwrap_or (find int_cmp docid documents) []) 0) ≡ is_some (find int_cmp docid documents)
+some_found docid [] h = refl
+some_found docid (d ∷ ds) h =
+    elim (int_eq docid d.0) as (λ b. is_some (slice_get (unwrap_or (cond b (Some d.1) (find int_cmp docid ds)) []) 0) ≡ is_some (cond b (Some d.1) (find int_cmp docid ds))) [
+      | true ↦ ap (λ (cells : List Cell). is_some (slice_get cells 0)) h.0.2
+      | false ↦ some_found docid ds h.1
+    ]
+
+pub there_read : (tab docid : ℤ) (store : StoreValue) (name : List ℕ) (content : Content) → IsContent name content → table_rows tab store ≡ content_rows content →
+    is_some (slice_get (where_key cell_key_cmp (λ k. int_eq tab k.0 && int_eq docid k.1) store.cells) 0) ≡ is_some (find int_cmp docid content.documents)
+there_read tab docid store name content is rows =
+    first_of_values (λ (c : CellKey × Cell). c.1) (where_key cell_key_cmp (λ k. int_eq tab k.0 && int_eq docid k.1) store.cells)
+    ∙ ap (λ (cells : List Cell). is_some (slice_get cells 0)) (asked_values tab docid store.cells ∙ ap (λ (r : TableRows). values_at docid r.cells) rows ∙ values_found docid content.documents is.rising)
+    ∙ some_found docid content.documents (content_cells name content is)
+
+-- ---- the first cell of each document
+
+abbrev is_first : CellRow → Bool
+is_first row = int_eq (pos 0) row.column
+
+abbrev firsts : List CellRow → List ℤ
+firsts rows = map (λ (r : CellRow). r.docid) (filter is_first rows)
+
+asked_firsts : (tab : ℤ) (cells : List (CellKey × Cell)) →
+    map (λ (c : CellKey × Cell). c.0.1) (where_key cell_key_cmp (λ k. int_eq tab k.0 && int_eq (pos 0) k.2) cells) ≡ firsts (map (λ (c : CellKey × Cell). record { docid = c.0.1; column = c.0.2; value = c.1 }) (where_key cell_key_cmp (λ k. int_eq tab k.0) cells))
+asked_firsts tab [] = refl
+asked_firsts tab (e ∷ es) =
+    let one : List (CellKey × Cell) = where_key cell_key_cmp (λ k. int_eq tab k.0 && int_eq (pos 0) k.2) es in
+    let all : List (CellKey × Cell) = where_key cell_key_cmp (λ k. int_eq tab k.0) es in
+    let shown : CellKey × Cell → CellRow = λ (c : CellKey × Cell). record { docid = c.0.1; column = c.0.2; value = c.1 } in
+    let others : List CellRow = filter is_first (map shown all) in
+    let rest = asked_firsts tab es in
+    elim (int_eq tab e.0.0) as (λ b. map (λ (c : CellKey × Cell). c.0.1) (cond (b && int_eq (pos 0) e.0.2) (e ∷ one) one) ≡ firsts (map shown (cond b (e ∷ all) all))) [
+      | true ↦ elim (int_eq (pos 0) e.0.2) as (λ b. map (λ (c : CellKey × Cell). c.0.1) (cond b (e ∷ one) one) ≡ map (λ (r : CellRow). r.docid) (cond b (shown e ∷ others) others)) [
+        | true ↦ ap (λ l. e.0.1 ∷ l) rest
+        | false ↦ rest
+      ]
+      | false ↦ rest
+    ]
+
+firsts-append : (xs ys : List CellRow) → firsts (xs ++ ys) ≡ firsts xs ++ firsts ys
+firsts-append xs ys = ap (map (λ (r : CellRow). r.docid)) (filter-append is_first xs ys) ∙ map-append (λ (r : CellRow). r.docid) (filter is_first xs) (filter is_first ys)
+
+behind_first : (n : ℕ) (b : Bool) → int_eq (pos 0) (pos (n + 1)) ≡ b → b ≡ false
+behind_first n false is = refl
+behind_first n true is = absurd (let e = same_int (pos 0) (pos (n + 1)) is in let same : 0 ≡ n + 1 = cc in omega (arith, same))
+
+no_firsts : (docid : ℤ) (n : ℕ) (cells : List Cell) → firsts (map (λ (c : ℕ × Cell). record { docid = docid; column = pos c.0; value = c.1 }) (enumerate_from (n + 1) cells)) ≡ []
+no_firsts docid n [] = refl
+no_firsts docid n (cell ∷ cells) =
+    let more : List CellRow = filter is_first (map (λ (c : ℕ × Cell). record { docid = docid; column = pos c.0; value = c.1 }) (enumerate_from (n + 1 + 1) cells)) in
+    ap (λ b. map (λ (r : CellRow). r.docid) (cond b (record { docid = docid; column = pos (n + 1); value = cell } ∷ more) more)) (behind_first n (int_eq (pos 0) (pos (n + 1))) refl)
+    ∙ no_firsts docid (n + 1) cells
+
+firsts_of_documents : (documents : Documents) → HaveCells documents → firsts (flat_map document_rows documents) ≡ map (λ (d : ℤ × List Cell). d.0) documents
+firsts_of_documents [] h = refl
+firsts_of_documents (d ∷ ds) h =
+    firsts-append (document_rows d) (flat_map document_rows ds)
+    ∙ (λ i. (ap (λ (cells : List Cell). firsts (document_rows (d.0, cells))) h.0.2 ∙ ap (λ (l : List ℤ). d.0 ∷ l) (no_firsts d.0 0 h.0.1)) i ++ firsts_of_documents ds h.1 i)
+
+-- the docids of a content as a store reads them
+pub docids_read : (tab : ℤ) (store : StoreValue) (name : List ℕ) (content : Content) → IsContent name content → table_rows tab store ≡ content_rows content → map (λ (c : CellKey × Cell). c.0.1) (where_key cell_key_cmp (λ k. int_eq tab k.0 && int_eq (pos 0) k.2) store.cells) ≡ map (λ (d : ℤ × List Cell). d.0) content.documents
+docids_read tab store name content is rows =
+    asked_firsts tab store.cells ∙ ap (λ (r : TableRows). firsts r.cells) rows ∙ firsts_of_documents content.documents (content_cells name content is)
+
+-- ---- all documents as a store reads them
 pub all_read : (tab : ℤ) (store : StoreValue) (name : List ℕ) (content : Content) (read : List row.CellRow) → IsContent name content → table_rows tab store ≡ content_rows content →
     map (shown_cell tab) read ≡ where_key cell_key_cmp (λ k. int_eq tab k.0) store.cells → gathered (map gathered_row read) ≡ content.documents
 all_read tab store name content read is rows same =

@@ -2,7 +2,7 @@
 -- be.
 use Rattle.std.proofs.Common.{eqb-true, get_or, ◌≡◌, true, false, cond, not, ◌&&◌, List, [], ◌∷◌, ◌++◌, map, ℤ, refl, sym, ap, ◌∙◌, filter, unwrap_or, int_cmp, int_eq, ℕ, ◌+◌, ◌≤◌, Bool, ◌||◌, length, Option, Some, None, pos, subst, arith, is_some, All, ◌==◌, flat_map, Decides}
 use Rattle.sqlite_keyed.proofs.ListLemmas.{map-map, all_from_test}
-use Rattle.ft_content.proofs.IndexLemmas.{key_cmp_total, key_cmp_exact}
+use Rattle.ft_content.proofs.{key_cmp_total, key_cmp_exact}
 use Rattle.ft_documents.proofs.Common.{put, where_key, is_sorted, is_sorted-where_key, find, below_all, find-where_key, same_entries, map-append, list_any, list_all, int_cmp_total, and_parts, All-map, All-from_recursion, exact_signed, bytes_eq-Decides, slice_eq-Decides, Decides-eqb, Cell, Null, Int, Text, StoreValue, CellKey, cell_key_cmp, list_key_cmp, column_key_cmp, without_key, Change, PutCell, DropCells, all_applied, AreInOrder, ListKey, Key, Spot, key_cmp, index_rows, Documents, Column, Content, is_cell, is_document, content_rows, document_rows, Rewrite, under_docids, rewritten, befores, afters, rewritten_content, FitIfAny, AreOf, HasContent, AreRight, all_put, same_cell, changed, numbered_cells, goes, dropped_documents, put_documents, dropped_lists, put_lists, dropped_sizes, put_sizes, was_there, same_spot, same_spots, gone, sized, index_lists_of, sizes_of, table_rows, table_index}
 use Rattle.ft_documents.specs.RewriteRows.{rewrite_changes}
 use Rattle.ft_documents.proofs.StoreKeys.{list_exact, list_total, cell_exact, cell_total, list_keys, cell_keys, column_total, column_exact, own, joined, own_all_put, own_all_dropped}

@@ -2,7 +2,7 @@
 use Rattle.std.proofs.Common.{◌≡◌, ℕ, ◌+◌, ◌<◌, Bool, true, false, cond, List, [], ◌∷◌, ◌++◌, map, Option, Some, None, ℤ, pos, refl, ap, ◌∙◌, arith, filter, flat_map, option_and_then, Ordering, Less, Equal, Greater, int_cmp, int_eq, is_eq, is_lt, map-id, length, sym, nat_lt}
 use Rattle.std.proofs.lemmas.Simd.{map-map}
 use Rattle.ft_content.specs.Index.{sizes, index_rows}
-use Rattle.ft_content.proofs.PlanLemmas.{sorted_lists, old_found}
+use Rattle.ft_content.proofs.{sorted_lists, old_found}
 use Rattle.ft_documents.proofs.Common.{enumerate_from, ordering_then, IsTotalOrder, int_cmp_total, tied_itself, option_or, int_cmp-IsAntisymmetric, find, below_all, is_sorted, and_parts, and_from, map-append, PlainToken, Cell, column_key_cmp, Column, Documents, CellRow, document_rows, Key, key_cmp, Spot, Size, SizeRow, size_row, document_tokens, document_sizes, entries, content_with, document_lists, sized, numbered_cells, all_put, index_lists_of, sizes_of}
 use Rattle.ft_documents.proofs.KeyedRows.{none_below, true_of, of_true, put_in_order}
 use Rattle.ft_documents.proofs.CellSteps.{numbered_from, pos_less}
@@ -172,6 +172,9 @@ sized_again rows = map-map (λ (s : SizeRow). ((s.docid, s.column), s.n)) size_o
 
 pub sizes_again : (rows : List SizeRow) → map size_of (sized rows) ≡ rows
 sizes_again rows = map-map size_of (λ (s : SizeRow). ((s.docid, s.column), s.n)) rows ∙ map-id rows
+
+pub sized_once : (a b : List SizeRow) → sized a ≡ sized b → a ≡ b
+sized_once a b same = sym (sizes_again a) ∙ ap (map size_of) same ∙ sizes_again b
 
 -- how many tokens each column has, where it has any
 abbrev has_tokens : List PlainToken → Bool

@@ -1,7 +1,7 @@
 -- Rows are a content where their columns, the numbers of those that aren't indexed, and their cells
 -- are those of one.
 use Rattle.std.proofs.Common.{◌≡◌, ℕ, ◌+◌, ◌<◌, ◌≤◌, Bool, true, not, ◌&&◌, ◌||◌, List, [], ◌∷◌, map, length, ℤ, pos, refl, sym, ap, subst, ◌∙◌, lt-ltb, le-leb, IsTrue, int_eq, is_eq, ◌≢◌, ◌==◌, false, cond, ◌++◌, Option, Some, None, arith, eqb-true, eq-eqb, flat_map, int_cmp, is_lt}
-use Rattle.ft_content.proofs.RowLemmas.{rows_are_read}
+use Rattle.ft_content.proofs.{rows_are_read}
 use Rattle.ft_documents.proofs.Common.{list_any, list_all, enumerate_from, int_cmp_total, tied_itself, eq_by_cmp_equiv, pointwise, int_cmp-IsAntisymmetric, and_parts, and_from, false_from_ne_true, Decides-int_eq, slice_eq-Decides, below_all, is_sorted, Cell, Column, Content, TableRows, content_in, are_columns, skipped_from, is_name, names_of, names_clash, CellRow, Documents, document_rows, is_cell, is_document, AreContent, AreDocumentCells, columns_said, stands_after, follows}
 use Rattle.ft_documents.specs.Standing.{numbered_from}
 use Rattle.ft_documents.proofs.KeyedRows.{tie, below_lower, same_int}

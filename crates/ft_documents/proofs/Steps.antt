@@ -1,7 +1,7 @@
 -- Loops whose pieces so far, and those of what is left, are all pieces.
-use Rattle.std.proofs.Common.{◌≡◌, ℕ, ◌+◌, ◌<◌, Bool, true, false, cond, List, [], ◌∷◌, ◌++◌, map, length, drop, get_or, sym, ap, ◌∙◌, append_assoc, append-nil, filter, flat_map}
+use Rattle.std.proofs.Common.{◌≡◌, ℕ, ◌+◌, ◌<◌, Bool, true, false, cond, List, [], ◌∷◌, ◌++◌, map, length, take, drop, get_or, sym, ap, ◌∙◌, append_assoc, append-nil, filter, flat_map}
 use Rattle.ft_values.specs.declared.rows.RowChange.{RowChange}
-use Rattle.ft_documents.proofs.Common.{at_drop_more, map-append, length-map, get_or-map, filter-append, flat_map-append, shown_change}
+use Rattle.ft_documents.proofs.Common.{at_drop_more, take_more, map-append, length-map, get_or-map, filter-append, flat_map-append, shown_change}
 
 -- a piece more
 pub piece_more : {X : Type 0} (old new piece rest all : List X) → new ≡ old ++ piece → old ++ (piece ++ rest) ≡ all → new ++ rest ≡ all
@@ -27,6 +27,13 @@ kept_last {X} {Y} p f x xs old new first grown so_far =
 -- the piece of an element more
 pub piece_last : {X Y : Type 0} (f : X → List Y) (xs : List X) (x : X) (old new first : List Y) → new ≡ old ++ f x → old ≡ first ++ flat_map f xs → new ≡ first ++ flat_map f (xs ++ x ∷ [])
 piece_last f xs x old new first grown so_far = simp (grown, so_far, flat_map-append, append-nil, append_assoc)
+
+-- the piece of a row more of those that are taken
+pub one_more_list : {X Y Z : Type 0} (found : X → Y) (rows : List X) (i : ℕ) (row : X) → i < length rows → row ≡ get_or rows i row →
+    (f : Y → List Z) (old new : List Z) → new ≡ old ++ f (found row) → old ≡ flat_map f (map found (take i rows)) → new ≡ flat_map f (map found (take (i + 1) rows))
+one_more_list found rows i row inside is f old new added before =
+    piece_last f (map found (take i rows)) (found row) old new [] added before
+    ∙ ap (flat_map f) (sym (map-append found (take i rows) (row ∷ [])) ∙ ap (map found) (ap (λ r. take i rows ++ r ∷ []) is ∙ sym (take_more rows i row inside)))
 
 -- nothing is left
 pub all_taken : {X : Type 0} (made rest all : List X) → rest ≡ [] → made ++ rest ≡ all → made ≡ all

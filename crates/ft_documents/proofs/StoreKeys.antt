@@ -1,7 +1,7 @@
 -- The keys of a store's rows, whose orders decide, and the rows of one table under keys without it.
 use Rattle.std.proofs.Common.{◌≡◌, true, false, cond, not, List, [], ◌∷◌, map, Some, ℤ, refl, sym, ap, ◌∙◌, filter, Ordering, int_cmp, int_eq, is_eq, is_lt, Equal}
 use Rattle.std.proofs.lemmas.Cmp.{on_total, then_total, nat_list_cmp_total}
-use Rattle.ft_content.proofs.IndexLemmas.{key_cmp_total, key_cmp_exact}
+use Rattle.ft_content.proofs.{key_cmp_total, key_cmp_exact}
 use Rattle.ft_documents.proofs.Common.{eq_by_cmp, ordering_then, IsTotalOrder, int_cmp_total, tied_itself, put, find, below_all, is_sorted, is_sorted-put, find-put, same_entries, and_parts, and_from, CmpEqualImpliesEq, exact_signed, exact_bytes, without_key, CellKey, ListKey, cell_key_cmp, list_key_cmp, column_key_cmp, key_cmp, all_put}
 use Rattle.ft_documents.proofs.KeyedRows.{true_of, of_true, tie, then_equal, then_apart, all_dropped}
 

@@ -14,7 +14,7 @@ use denote.Param.Members.{Mut}
 use lib.ListN.{length-map}
 use Rattle.ft_rows.specs.declared.terms.Posting.{Posting}
 use Rattle.ft_rows.specs.Terms.{joined_posting as before_lists}
-use Rattle.ft_content.proofs.IndexLemmas.{key_cmp_total, key_cmp_exact}
+use Rattle.ft_content.proofs.{key_cmp_total, key_cmp_exact}
 use Rattle.ft_documents.proofs.Common.{eq_by_cmp, ordering_then, ordering_reverse, put, find, is_sorted, is_sorted-put, find-put, same_entries, below_all, map-append, get_or-map, filter-append, All-head, All-tail, IsDistinct, AllByRecursion, lookup, keys_of, slice_cmp, exact_bytes, option_or, IsStrictWeakOrder, IsTotalOrder, int_cmp_total, on_total, and_parts, and_from, always_returns_same, IsPermutation-sym, IsPermutation-map, All-permutation, Contains-permutation, ranks_by, slice_get-get_or, slice_get_within, get_or_from_slice_get, spot_of, lists_of_postings, TermLists, Key, key_cmp, Spot, with_spots, Group, group_spots, lists_in_groups, spots_of_docid, by_docids, lists_of_terms, rise}
 use Rattle.ft_documents.proofs.KeyedRows.{true_of, of_true, tie, none_found, below_lower, same_int}
 use Rattle.ft_documents.proofs.RowKinds.{find_under, below_under, sorted_under, or_none}

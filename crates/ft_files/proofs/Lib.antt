@@ -1,2 +1,2 @@
-pub mod ReadingLemmas
-pub mod HostLemmas
+mod ReadingLemmas
+mod HostLemmas

@@ -6,8 +6,7 @@ use Rattle.ft_index.proofs.Common.{without_docid, docids_of, Rewrite, under_doci
 use Rattle.std.proofs.lemmas.List.Elements.{All-contains_itself}
 use Rattle.ft_documents.specs.Rewrite.{with_cells}
 use Rattle.ft_index.proofs.OneTable.{less}
-use Rattle.ft_documents.proofs.ChosenLemmas.{AreFound, all_found}
-use Rattle.ft_documents.proofs.InsertOf.{are_of}
+use Rattle.ft_documents.proofs.{all_found, are_of}
 
 -- ---- what rewrites leave alone
 
@@ -63,7 +62,7 @@ module _ (after : ℤ × List Cell → Option (List Cell)) where
         | false ↦ rest
       ]
 
-  pub befores : (look : ℤ → Option (List Cell)) (p : ℤ × List Cell → Bool) (ds : Documents) → AreFound look ds → AllByRecursion (λ (r : Rewrite). r.before ≡ look r.docid) (map rewrite_of (filter p ds))
+  pub befores : (look : ℤ → Option (List Cell)) (p : ℤ × List Cell → Bool) (ds : Documents) → AllByRecursion (λ (d : ℤ × List Cell). look d.0 ≡ Some d.1) ds → AllByRecursion (λ (r : Rewrite). r.before ≡ look r.docid) (map rewrite_of (filter p ds))
   befores look p [] found = tt
   befores look p (d ∷ ds) found =
       let rest = befores look p ds found.1 in

@@ -6,7 +6,7 @@ use Rattle.ft_index.proofs.Common.{after, touched, reply_to, removal, LeadsTo, W
 use Rattle.ft_values.specs.declared.fault.Fault.TheVariants as faults
 use Rattle.ft_values.specs.declared.table.Column as source
 use Rattle.ft_content.specs.Deserved.{delete_fault}
-use Rattle.ft_content.proofs.ContentLemmas.{delete_keeps_content}
+use Rattle.ft_content.proofs.{delete_keeps_content}
 use Rattle.ft_index.proofs.SelectAnswers.{unnamed_bare, query_bare}
 use Rattle.ft_index.proofs.ChosenWrites.{each_rewritten, chosen_lead, own_docids}
 use Rattle.ft_index.proofs.Writing.{IsWrite, memory_or}

@@ -13,7 +13,7 @@ use Rattle.ft_index.proofs.Common.{ListKey, list_key_cmp, IsBlamed, Cell, chosen
 use Rattle.ft_index.proofs.Common.{as_wanted, AreThere, AreRewrites, BlamesMade, Key, Spot, IndexRows, index_rows, HasContent, table_index}
 use Rattle.ft_index.proofs.Common.{IsSoundNamed, info_named, held_columns, PlansTo, BlamesDone}
 use Rattle.ft_query.specs.Lists.{Reaches, Stays, Goes, Ends}
-use Rattle.ft_store.proofs.ChainLemmas.{kept_then}
+use Rattle.ft_store.proofs.{kept_then}
 use Rattle.ft_content.specs.Command.{Reply}
 use Rattle.ft_index.specs.Changed.{Changed, DoesAsked, LooksAsked, MakesAsked}
 use Rattle.ft_index.proofs.NameLemmas.{apart_after}
@@ -33,8 +33,8 @@ use Rattle.ft_store.specs.Blame.{Blames}
 use Rattle.ft_store.specs.Parts.{CanMake}
 use Rattle.ft_store.specs.Puts.{BlamesPuts}
 use Rattle.ft_store.specs.Calls.{IsReadFault}
-use Rattle.ft_content.proofs.AnswerLemmas.{cut_of_map}
-use Rattle.ft_documents.proofs.ChosenLemmas.{all_found}
+use Rattle.ft_content.proofs.{cut_of_map}
+use Rattle.ft_documents.proofs.{all_found}
 use Rattle.ft_content.specs.Index.{Entry, entries, spot_lists, spots_at, key_cmp, key_of}
 use Rattle.ft_index.specs.Kept.{BlamesStore, puts_rows}
 use Rattle.ft_index.specs.Walked.{Fails, FailsIf}

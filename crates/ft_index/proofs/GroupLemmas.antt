@@ -7,7 +7,7 @@ use Rattle.sqlite_keyed.proofs.ListLemmas.{flat_map-map, map-flat_map}
 use Rattle.ft_values.specs.declared.fault.Fault.TheVariants as faults
 use Rattle.ft_documents.specs.declared.rewrite.Rewrite as source
 use Rattle.ft_documents.specs.RewriteRows.{rewrite_changes}
-use Rattle.ft_documents.proofs.GroupsRight.{groups_right, groups_near}
+use Rattle.ft_documents.proofs.{groups_right, groups_near}
 use Rattle.ft_index.specs.Written.{AreOfWritten, IsOfContent}
 use Rattle.ft_index.proofs.Doing.{no_rewrites, nothing_done}
 

@@ -7,13 +7,11 @@ use Rattle.ft_index.proofs.Common.{shown_rewrite, under_docids, rewritten, Write
 use Rattle.std.proofs.lemmas.List.Elements.{Contains-append_right}
 use Rattle.ft_values.specs.declared.table.Column.{Column}
 use Rattle.ft_content.specs.Deserved.{insert_tests, insert_fault, fault_if_any}
-use Rattle.ft_content.specs.Step.{new_docids}
-use Rattle.ft_content.proofs.ContentLemmas.{insert_keeps_content}
+use Rattle.ft_content.specs.Step.{inserted_into, new_docids}
+use Rattle.ft_content.proofs.{insert_keeps_content}
 use Rattle.ft_documents.specs.declared.rewrite.Rewrite as source
 use Rattle.ft_documents.specs.Inserted.{IsNewIn, MakesDocuments}
-use Rattle.ft_documents.proofs.RewriteLemmas.{written, find_rewritten}
-use Rattle.ft_documents.proofs.InsertDue.{once, inserted_is}
-use Rattle.ft_documents.proofs.InsertOf.{each_found, are_of}
+use Rattle.ft_documents.proofs.{insert_deserves, all_written, are_of}
 use Rattle.ft_index.proofs.Writing.{IsWrite}
 
 -- a document that was not there has a new docid
@@ -38,14 +36,14 @@ new_in old (d ∷ ds) docid cells found apart = go (int_eq docid d.0) refl found
         subst (λ b. Contains (map docid_of (cond b (d ∷ rest) rest)) docid) (sym fresh) (subst (Contains (d.0 ∷ map docid_of rest)) (sym same) (Contains-append_left (d.0 ∷ []) (map docid_of rest) d.0 (Contains-push [] d.0)))
     go false is h behind = more (not (has_docid old d.0)) (behind h)
 
-all_new : (documents after : Documents) (all rs : List Rewrite) → is_sorted int_cmp (under_docids all) ≡ true → rewritten all documents ≡ after → AllByRecursion (λ (r : Rewrite). find int_cmp r.docid (under_docids all) ≡ Some r) rs → AllByRecursion (IsNewIn documents) rs →
+all_new : (documents after : Documents) (all rs : List Rewrite) → rewritten all documents ≡ after → AllByRecursion (λ (r : Rewrite). find int_cmp r.docid (rewritten all documents) ≡ r.after) rs → AllByRecursion (IsNewIn documents) rs →
     AllByRecursion (λ (r : Rewrite). Contains (new_docids documents after) r.docid) rs
-all_new documents after all [] sorted made found new = tt
-all_new documents after all (r ∷ rs) sorted made found new = (
+all_new documents after all [] made found new = tt
+all_new documents after all (r ∷ rs) made found new = (
   new_in documents after r.docid new.0.1.0
-      (ap (find int_cmp r.docid) (sym made) ∙ find_rewritten r.docid all documents sorted ∙ ap (λ o. written o (find int_cmp r.docid documents)) found.0 ∙ new.0.1.1)
+      (ap (find int_cmp r.docid) (sym made) ∙ found.0 ∙ new.0.1.1)
       (ap is_some new.0.0),
-  all_new documents after all rs sorted made found.1 new.1,
+  all_new documents after all rs made found.1 new.1,
 )
 
 module _ (columns : Option (List (List ℕ))) (rows : List (List Cell)) where
@@ -72,7 +70,7 @@ module _ (columns : Option (List (List ℕ))) (rows : List (List Cell)) where
   pub is_write : (name : List ℕ) → repeats_name (unwrap_or columns []) ≡ false → IsWrite (Insert name columns rows) name (λ table content. due content) made news
   unfolding touched
   is_write name apart = record {
-    deserves = λ contents. once contents name columns rows apart;
+    deserves = λ contents. insert_deserves contents name columns rows false apart;
     leaves = leaves name;
     touches = λ contents. refl;
     near = λ contents changes h. h;
@@ -88,12 +86,12 @@ module _ (columns : Option (List (List ℕ))) (rows : List (List Cell)) where
   writes name content (Ok rewrites) is tested h =
       let rs = map shown_rewrite rewrites.items in
       let fine : due content ≡ None = ap (λ o. or_else o (fault_if_any (Made content))) tested ∙ ap fault_if_any h.made in
-      let leads : rewritten rs content.documents ≡ made content = sym (inserted_is content columns rows (rewritten rs content.documents) h.made) in (
+      let leads : rewritten rs content.documents ≡ made content = sym (ap (inserted_into content.documents) h.made) in (
         fine,
         record {
           are_of = are_of name content rs h.rising h.befores (subst (λ ds. IsContent name (record content { documents = ds })) (sym leads) (insert_keeps_content name content columns rows is fine));
           made = leads;
-          near = all_new content.documents (made content) rs rs h.rising leads (each_found rs h.rising) h.news;
+          near = all_new content.documents (made content) rs rs leads (all_written content.documents rs h.rising) h.news;
         },
       )
   writes name content (Err fault) is tested (inl memory) = inl (inr memory)

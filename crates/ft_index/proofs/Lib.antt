@@ -1,18 +1,21 @@
-pub mod Common
-pub mod Calls
-pub mod GroupLemmas
-pub mod NameLemmas
-pub mod OneTable
-pub mod TablePlans
-pub mod WalkedLemmas
-pub mod OpenedTables
-pub mod RebuildPlans
-pub mod Writing
-pub mod InsertWrites
-pub mod NoStore
-pub mod ChosenWrites
-pub mod DeleteWrites
-pub mod UpdateWrites
-pub mod SelectAnswers
-pub mod AskedRows
-pub mod Doing
+mod Common
+mod Calls
+mod FaultLemmas
+mod GroupLemmas
+mod NameLemmas
+mod OneTable
+mod TablePlans
+mod WalkedLemmas
+mod OpenedTables
+mod RebuildPlans
+mod Writing
+mod InsertWrites
+mod NoStore
+mod ChosenWrites
+mod DeleteWrites
+mod UpdateWrites
+mod SelectAnswers
+mod AskedRows
+mod Doing
+-- a clean disk at the end of calls was clean at their start
+pub use Rattle.ft_index.proofs.Calls.{clean_before}

@@ -16,8 +16,8 @@ use Rattle.ft_content.specs.Deserved.{on_held}
 use Rattle.ft_values.specs.declared.fault.Fault.TheVariants as faults
 use Rattle.std.specs.Cmp.{int_cmp_is}
 use Rattle.std.proofs.lemmas.Int.{ints}
-use Rattle.ft_documents.proofs.AddLemmas.{added_rows, added_index, bare}
-use Rattle.ft_documents.proofs.ChangeLemmas.{spares_others}
+use Rattle.ft_documents.proofs.{added_rows, added_index, spares_others}
+use Rattle.ft_content.specs.Laws.{content_with}
 use Rattle.ft_documents.specs.RowLaws.{changed_table}
 use Rattle.ft_index.specs.Kept.{has_table_id, no_index}
 
@@ -375,13 +375,13 @@ joins id name table new (n ∷ ns) (c ∷ cs) own free h =
 joins id name table new _ _ own free h = absurd h
 
 -- So the store holds a table that is made.
-pub adds_one : (id : ℤ) (name : List ℕ) (columns : List Column) (old : StoreValue) (contents : Contents) → AreInOrder old → IsContent name (bare columns) → AllByRecursion (λ (c : ℤ × Table). int_eq id c.0 ≡ false) contents → AreHeldIn old old.tables contents →
-    StoreHolds (applied (AddTable id name (names_of columns) (skipped_from 0 columns)) old) (put int_cmp id (record { name = name; held = Sound (bare columns) }) contents)
+pub adds_one : (id : ℤ) (name : List ℕ) (columns : List Column) (old : StoreValue) (contents : Contents) → AreInOrder old → IsContent name (content_with columns []) → AllByRecursion (λ (c : ℤ × Table). int_eq id c.0 ≡ false) contents → AreHeldIn old old.tables contents →
+    StoreHolds (applied (AddTable id name (names_of columns) (skipped_from 0 columns)) old) (put int_cmp id (record { name = name; held = Sound (content_with columns []) }) contents)
 adds_one id name columns old contents order is free h =
     let new = applied (AddTable id name (names_of columns) (skipped_from 0 columns)) old in
     let apart = not_in_store id old old.tables contents free h in
-    subst (λ tables. AreHeldIn new (put int_cmp id name tables) (put int_cmp id (record { name = name; held = Sound (bare columns) }) contents)) (sym (none_without id old.tables apart))
-    (joins id name (record { name = name; held = Sound (bare columns) }) new old.tables contents
+    subst (λ tables. AreHeldIn new (put int_cmp id name tables) (put int_cmp id (record { name = name; held = Sound (content_with columns []) }) contents)) (sym (none_without id old.tables apart))
+    (joins id name (record { name = name; held = Sound (content_with columns []) }) new old.tables contents
     (record { id = refl; name = refl; stands = (is, added_rows id name columns old order, added_index id name columns old) })
     apart (all_spared id old new old.tables contents (one_spares id (AddTable id name (names_of columns) (skipped_from 0 columns)) old refl) apart h))
 

@@ -8,8 +8,8 @@ use Rattle.ft_index.proofs.Common.{state_of, IsListed, HasTableMark, shown_table
 use Rattle.ft_index.proofs.Common.{AreMarked, AllByRecursion, list_all, AreInOrder, Fault, RustTableInfo, Check, Done, shown_info, table_named}
 use Rattle.ft_index.proofs.Common.{on_found, deserved, step, step_by, reply_to, after, info_named, AreSound, IsNamed}
 use Rattle.ft_index.specs.Called.{HoldsOneContents}
-use Rattle.ft_content.proofs.RowLemmas.{contents_are_one, rows_are_read}
-use Rattle.ft_store.proofs.BlameLemmas.{blamed_then}
+use Rattle.ft_content.proofs.{contents_are_one, rows_are_read}
+use Rattle.ft_store.proofs.{blamed_then}
 use Rattle.ft_values.specs.declared.rows.CellRow as stored_cell
 use Rattle.ft_values.specs.declared.rows.SizeRow as stored_size
 use Rattle.ft_rows.specs.Shown as shown
@@ -23,7 +23,7 @@ use Rattle.ft_documents.specs.Standing.{size_under_key, shown_row, listed_rows, 
 use Rattle.ft_documents.specs.Terms.{under_term, lists_of_terms}
 use Rattle.ft_rows.specs.Terms.{lists_of_postings, lists_under, lists_by_terms}
 use Rattle.ft_rows.specs.declared.terms.TermLists.{TermLists}
-use Rattle.ft_documents.proofs.RowKinds.{size_of, sizes_again}
+use Rattle.ft_documents.proofs.{sized_once}
 use Rattle.ft_rows.specs.Shown.{table_listed, AreNamedApart}
 use Rattle.ft_index.specs.Kept.{HoldsSome}
 use Rattle.std.specs.List.{find}
@@ -114,7 +114,7 @@ pub rows_same : (tab : ℤ) (store : StoreValue) (content : Content) (ss : List 
     lists_asked tab store ≡ lists_by_terms tab terms → table_index tab store ≡ index_rows content
 rows_same tab store content ss terms read theirs same =
     let lists : (table_index tab store).lists ≡ (index_rows content).lists = ap (map own_list) same ∙ terms_own tab terms ∙ theirs.1 in
-    let sizes : (table_index tab store).sizes ≡ (index_rows content).sizes = sym (sizes_again (table_index tab store).sizes) ∙ ap (map size_of) (sym (sizes_read tab store ss read) ∙ theirs.0) ∙ sizes_again (index_rows content).sizes in
+    let sizes : (table_index tab store).sizes ≡ (index_rows content).sizes = sized_once _ _ (sym (sizes_read tab store ss read) ∙ theirs.0) in
     λ i. record { lists = lists i; sizes = sizes i }
 
 pub lists_same : (tab : ℤ) (store : StoreValue) (content : Content) (terms : List TermLists) → lists_of_terms terms ≡ (index_rows content).lists → table_index tab store ≡ index_rows content → lists_asked tab store ≡ lists_by_terms tab terms

@@ -11,11 +11,9 @@ use Rattle.ft_index.proofs.Common.{Cell, Fault, same_name, Rebuild, Done, Stale,
 use Rattle.ft_index.proofs.Common.{reply_to, info_named, with_sound, PlansFrom, state_of}
 use Rattle.std.proofs.lemmas.Float.{T_from_true}
 use Rattle.std.specs.List.{find as first_of}
-use Rattle.ft_rows.specs.Store.{with_columns, with_skipped}
 use Rattle.ft_content.specs.Command as plain
-use Rattle.ft_documents.proofs.AddLemmas.{bare, added_rows, added_index}
-use Rattle.ft_documents.proofs.KeyedRows.{true_of, sorted_put, put_in_order}
-use Rattle.ft_documents.proofs.StoreKeys.{column_total, column_exact}
+use Rattle.ft_documents.proofs.{added_rows, added_index, added_in_order, put_anew}
+use Rattle.ft_content.specs.Laws.{content_with}
 use Rattle.ft_index.specs.Written.{MakeTable}
 use Rattle.ft_index.proofs.OpenedTables.{IsTold, told_here}
 use Rattle.ft_index.proofs.DeleteWrites.{due, made, leaves, is_write}
@@ -23,8 +21,6 @@ use Rattle.ft_index.proofs.OneTable.{sound_held, sound_is, LeavesRest, leaves_re
 use Rattle.ft_values.specs.declared.fault.Fault.TheVariants as faults
 use Rattle.ft_content.specs.Deserved.{rebuild_fault}
 use Rattle.ft_documents.specs.NewDocuments.{new_rewrite}
-use Rattle.ft_documents.proofs.InsertOf.{are_of}
-use Rattle.ft_documents.proofs.InsertRows.{befores_new, rewritten_new, sorted_new}
 use Rattle.ft_index.specs.declared.row_state.RowState.TheVariants as states
 
 -- ---- the tables that the store names stay
@@ -52,22 +48,9 @@ named_again id name tables sorted found =
     go q true e = ap (λ b. cond b (Some name) (cond (not (int_eq id q)) (find int_cmp q tables) None)) e ∙ sym (ap (λ k. find int_cmp k tables) (same_int q id e) ∙ found)
     go q false e = ap (λ b. cond b (Some name) (cond (not (int_eq id q)) (find int_cmp q tables) None)) e ∙ ap (λ b. cond (not b) (find int_cmp q tables) None) ((eq_by_cmp_equiv int_cmp_total).symm id q ∙ e)
 
--- ---- and all rows are in order
-
-others_sorted : {K V : Type 0} (R : K → K → Ordering) (p : K → Bool) (rows : List (K × V)) → is_sorted R rows ≡ true → is_sorted R (where_key R p rows) ≡ true
-others_sorted R p rows sorted = true_of _ (is_sorted-where_key R p rows (T_from_true _ sorted))
-
-columns_sorted : (id : ℤ) (cs : List (ℕ × List ℕ)) (rows : List (ColumnKey × List ℕ)) → is_sorted column_key_cmp rows ≡ true → is_sorted column_key_cmp (with_columns id cs rows) ≡ true
-columns_sorted id [] rows sorted = sorted
-columns_sorted id (c ∷ cs) rows sorted = columns_sorted id cs (put column_key_cmp (id, pos c.0) c.1 rows) (sorted_put column_key_cmp column_total column_exact (((id, pos c.0), c.1) ∷ []) rows sorted)
-
-skips_sorted : (id : ℤ) (cs : List ℤ) (rows : List (ColumnKey × Unit {0})) → is_sorted column_key_cmp rows ≡ true → is_sorted column_key_cmp (with_skipped id cs rows) ≡ true
-skips_sorted id [] rows sorted = sorted
-skips_sorted id (c ∷ cs) rows sorted = skips_sorted id cs (put column_key_cmp (id, c) tt rows) (sorted_put column_key_cmp column_total column_exact (((id, c), tt) ∷ []) rows sorted)
-
 -- ---- what the store holds of it
 
-bare_content : (name : List ℕ) (content : Content) → IsContent name content → IsContent name (bare content.columns)
+bare_content : (name : List ℕ) (content : Content) → IsContent name content → IsContent name (content_with content.columns [])
 bare_content name content is = record { columns = is.columns; documents = refl; rising = refl }
 
 module _ (name : List ℕ) (columns : List Column) (id : ℤ) (store : StoreValue) (order : AreInOrder store) (named : IsNamed store id (id, name)) where
@@ -77,23 +60,12 @@ module _ (name : List ℕ) (columns : List Column) (id : ℤ) (store : StoreValu
   same_tables : first.tables ≡ store.tables
   same_tables = named_again id name store.tables order.tables (key_found id name store.tables named)
 
-  first_order : AreInOrder first
-  first_order = record {
-    tables = ap (is_sorted int_cmp) same_tables ∙ order.tables;
-    columns = columns_sorted id (enumerate_from 0 (names_of columns)) _ (others_sorted column_key_cmp (λ k. not (int_eq id k.0)) store.columns order.columns);
-    skipped = skips_sorted id (skipped_from 0 columns) _ (others_sorted column_key_cmp (λ k. not (int_eq id k.0)) store.skipped order.skipped);
-    cells = others_sorted cell_key_cmp (λ k. not (int_eq id k.0)) store.cells order.cells;
-    lists = others_sorted list_key_cmp (λ k. not (int_eq id k.0)) store.lists order.lists;
-    sizes = others_sorted cell_key_cmp (λ k. not (int_eq id k.0)) store.sizes order.sizes;
-    noted = order.noted;
-  }
-
   -- what documents make of it that are put into it
-  anew_right : (rewrites : List Rewrite) (changes : List Change) → IsContent name (bare columns) → AreOf (bare columns) rewrites → AreRight id columns rewrites changes → All (IsOfDocids id (rewritten_docids rewrites)) changes →
-      LeavesRest id store (all_applied changes first) × (table_rows id (all_applied changes first) ≡ content_rows (rewritten_content rewrites (bare columns))) × (table_index id (all_applied changes first) ≡ index_rows (rewritten_content rewrites (bare columns)))
+  anew_right : (rewrites : List Rewrite) (changes : List Change) → IsContent name (content_with columns []) → AreOf (content_with columns []) rewrites → AreRight id columns rewrites changes → All (IsOfDocids id (rewritten_docids rewrites)) changes →
+      LeavesRest id store (all_applied changes first) × (table_rows id (all_applied changes first) ≡ content_rows (rewritten_content rewrites (content_with columns []))) × (table_index id (all_applied changes first) ≡ index_rows (rewritten_content rewrites (content_with columns [])))
   anew_right rewrites changes is are right near =
-      let has : HasContent name (bare columns) id first = record { order = first_order; is_content = is; rows = added_rows id name columns store order; index = added_index id name columns store } in
-      let done = right name (bare columns) first has refl are in
+      let has : HasContent name (content_with columns []) id first = record { order = added_in_order id name (names_of columns) (skipped_from 0 columns) store order; is_content = is; rows = added_rows id name columns store order; index = added_index id name columns store } in
+      let done = right name (content_with columns []) first has refl are in
       let spares = one_spares id (AddTable id name (names_of columns) (skipped_from 0 columns)) store refl in
       let rest = leaves_rest id (rewritten_docids rewrites) changes first (recursion_from_All (IsOfDocids id (rewritten_docids rewrites)) changes near) in (
         record {
@@ -111,7 +83,7 @@ anew_change known = AddTable known.id known.name (names_of known.columns) (skipp
 
 module _ (store : StoreValue) (tables : List TableInfo) (contents : Contents) (name : List ℕ) (known : TableInfo) (order : AreInOrder store) (held : AreHeld store tables contents) (t : IsTold store contents name known) where
   -- So a table that is told and is made anew with the documents of a content holds the content.
-  pub anew_holds : (content : Content) (rewrites : List Rewrite) (changes : List Change) (change : TableState → TableState) → IsContent t.table.1.name content → held_columns t.table.1.held ≡ content.columns → AreOf (bare content.columns) rewrites → rewritten rewrites [] ≡ content.documents → change t.table.1.held ≡ Sound content →
+  pub anew_holds : (content : Content) (rewrites : List Rewrite) (changes : List Change) (change : TableState → TableState) → IsContent t.table.1.name content → held_columns t.table.1.held ≡ content.columns → AreOf (content_with content.columns []) rewrites → rewritten rewrites [] ≡ content.documents → change t.table.1.held ≡ Sound content →
       AreRight known.id known.columns rewrites changes → All (IsOfDocids known.id (rewritten_docids rewrites)) changes → StoreHolds (all_applied (anew_change known ∷ changes) store) (on_table contents name change) × KeepsOthers store (all_applied (anew_change known ∷ changes) store)
   anew_holds content rewrites changes change is columns_are are made changed = subst Holds t.told (subst (λ cs. Holds (record (table_info t.table) { columns = cs })) (sym columns_are) here)
     where
@@ -126,7 +98,7 @@ module _ (store : StoreValue) (tables : List TableInfo) (contents : Contents) (n
           let id = t.table.0 in
           let new = all_applied (AddTable id t.table.1.name (names_of content.columns) (skipped_from 0 content.columns) ∷ changes) store in
           let done = anew_right t.table.1.name content.columns id store order named rewrites changes (bare_content t.table.1.name content is) are right near in
-          let same : rewritten_content rewrites (bare content.columns) ≡ content = λ i. record content { documents = made i } in
+          let same : rewritten_content rewrites (content_with content.columns []) ≡ content = λ i. record content { documents = made i } in
           let stands = subst (Stands t.table.1.name (table_rows id new) (table_index id new)) (sym changed) (is, done.1 ∙ ap content_rows same, done.2 ∙ ap index_rows same) in (
             subst (λ ts. AreHeldIn new ts (on_table contents name change)) (sym done.0.tables) (changes_one name t.table store new change store.tables contents done.0.others stands t.one held.held),
             keeps_changed id store new done.0 (ap is_some (key_found id t.table.1.name store.tables named)),
@@ -147,8 +119,8 @@ delete_reaches {written} store tables contents name changes makes order held nam
     let sound = sound_held t.table.1.held (ap (λ (k : TableInfo). k.sound) t.told ∙ named.1) in
     let content = sound.0 in
     let stands = subst (Stands t.table.1.name (table_rows t.table.0 store) (table_index t.table.0 store)) sound.1 t.stands in
-    let fits : AreOf (bare content.columns) [] = record { rising = refl; befores = All-nil _; afters = All-nil _ } in
-    let done = anew_holds store tables contents name known order held t (bare content.columns) [] makes.rest (with_documents (made f)) (bare_content t.table.1.name content stands.0) (ap held_columns sound.1) fits refl
+    let fits : AreOf (content_with content.columns []) [] = record { rising = refl; befores = All-nil _; afters = All-nil _ } in
+    let done = anew_holds store tables contents name known order held t (content_with content.columns []) [] makes.rest (with_documents (made f)) (bare_content t.table.1.name content stands.0) (ap held_columns sound.1) fits refl
     (ap (with_documents (made f)) sound.1 ∙ ap (λ ds. Sound (record content { documents = ds })) (none_stay content.documents))
     (subst (λ rs. AreRight known.id known.columns rs makes.rest) none makes.of_written.0) (subst (λ rs. All (IsOfDocids known.id (rewritten_docids rs)) makes.rest) none makes.of_written.1) in
     subst (ReachesStep contents (Delete name f) store) (sym makes.are) (
@@ -173,15 +145,6 @@ plan_missing store tables contents name fault held missing =
 rebuild_after : (contents : Contents) (name : List ℕ) → after contents (Rebuild name) ≡ on_table contents name rebuilt
 unfolding after
 rebuild_after contents name = refl
-
--- ---- documents of a table without any
-
-none_there : (documents new : Documents) → documents ≡ [] → AllByRecursion (λ (d : ℤ × List Cell). find int_cmp d.0 documents ≡ None) new
-none_there documents [] none = tt
-none_there documents (d ∷ ds) none = (ap (find int_cmp d.0) none, none_there documents ds none)
-
-all_put_back : (name : List ℕ) (content : Content) → IsContent name content → rewritten (map new_rewrite content.documents) [] ≡ content.documents
-all_put_back name content is = rewritten_new content.documents [] ∙ put_in_order int_cmp int_cmp_total exact_signed content.documents is.rising
 
 -- rewrites make all documents that the rows of a table are of
 abbrev pub IsAll : {store : StoreValue} {contents : Contents} {name : List ℕ} {known : TableInfo} → IsTold store contents name known → List Rewrite → Type 0
@@ -216,23 +179,13 @@ module _ (store : StoreValue) (tables : List TableInfo) (contents : Contents) (n
       )
       go _ e is = absurd (let no = is in cc)
 
-  -- the documents of rows that are others, as they are put into a table without any
-  put_anew : (content : Content) (rewrites : List Rewrite) → t.table.1.held ≡ Stale content → IsAll t rewrites → (map new_rewrite content.documents ≡ rewrites) × AreOf (bare content.columns) (map new_rewrite content.documents)
-  put_anew content rewrites e all =
-      let stands = stands_at (Stale content) e in
-      let made = all_put_back t.table.1.name content stands.0 in (
-        sym (all content stands.0 stands.1),
-        are_of t.table.1.name (bare content.columns) (map new_rewrite content.documents) (sorted_new content.documents ∙ stands.0.rising) (befores_new [] content.documents (none_there [] content.documents refl))
-            (subst (λ ds. IsContent t.table.1.name (record content { documents = ds })) (sym made) stands.0),
-      )
-
   pub stale_content : (rewrites : List Rewrite) → states.Stale ≡ state_of t.table.1.held → IsAll t rewrites → (content : Content) × (content.columns ≡ known.columns) × AreOf content rewrites
   stale_content rewrites is all = go t.table.1.held refl is
     where
       go : (state : TableState) → t.table.1.held ≡ state → states.Stale ≡ state_of state → (content : Content) × (content.columns ≡ known.columns) × AreOf content rewrites
       go (Stale content) e is =
-          let put = put_anew content rewrites e all in
-          (bare content.columns, ap held_columns (sym e) ∙ ap (λ (k : TableInfo). k.columns) t.told, subst (AreOf (bare content.columns)) put.0 put.1)
+          let stands = stands_at (Stale content) e in
+          (content_with content.columns [], ap held_columns (sym e) ∙ ap (λ (k : TableInfo). k.columns) t.told, subst (AreOf (content_with content.columns [])) (sym (all content stands.0 stands.1)) (put_anew t.table.1.name content stands.0).1)
       go _ e is = absurd (let no = is in cc)
 
   -- others are put into the table anew
@@ -243,12 +196,10 @@ module _ (store : StoreValue) (tables : List TableInfo) (contents : Contents) (n
       go : (state : TableState) → t.table.1.held ≡ state → states.Stale ≡ state_of state → PlansFrom contents (Rebuild name) store (Ok (anew_change known ∷ changes))
       go (Stale content) e is =
           let stands = stands_at (Stale content) e in
-          let made = all_put_back t.table.1.name content stands.0 in
-          let put = put_anew content rewrites e all in
-          let same = put.0 in
-          let are = put.1 in
-          let done = anew_holds store tables contents name known order held t content (map new_rewrite content.documents) changes rebuilt stands.0 (ap held_columns e) are made (ap rebuilt e)
-          (subst (λ rs. AreRight known.id known.columns rs changes) (sym same) right) (subst (λ rs. All (IsOfDocids known.id (rewritten_docids rs)) changes) (sym same) near) in (
+          let put = put_anew t.table.1.name content stands.0 in
+          let same = all content stands.0 stands.1 in
+          let done = anew_holds store tables contents name known order held t content (map new_rewrite content.documents) changes rebuilt stands.0 (ap held_columns e) put.1 put.0 (ap rebuilt e)
+          (subst (λ rs. AreRight known.id known.columns rs changes) same right) (subst (λ rs. All (IsOfDocids known.id (rewritten_docids rs)) changes) same near) in (
             due_at (Stale content) e,
             subst (StoreHolds (all_applied (anew_change known ∷ changes) store)) (sym (rebuild_after contents name)) done.0,
             done.1,

@@ -18,15 +18,14 @@ use Rattle.ft_values.specs.Cells.{Null, Int}
 use Rattle.ft_content.specs.Content.{is_cell, is_document}
 use Rattle.ft_content.specs.Command.{All, Grid}
 use Rattle.ft_content.specs.Answer.{named_cell, item_cells, offsets_cell, item_headers}
-use Rattle.ft_content.proofs.AnswerLemmas.{item_cells_are, cut_of_map}
+use Rattle.ft_content.proofs.{item_cells_are, cut_of_map}
 use Rattle.ft_index.specs.RowsRead.{docids_asked}
-use Rattle.ft_documents.proofs.ChosenLemmas.{chosen_again, chosen_all, chosen_one}
+use Rattle.ft_documents.proofs.{chosen_again, chosen_all, chosen_one}
 use Rattle.std.proofs.lemmas.List.FromFn.{length-enumerate_from}
 use Rattle.ft_rows.specs.Shown.{shown_cell}
 use Rattle.ft_values.specs.declared.rows.CellRow as row
 use Rattle.std.proofs.lemmas.List.Elements.{filter-append}
-use Rattle.ft_documents.proofs.ReadRows.{HaveCells, content_cells, values_at, asked_values, values_found}
-use Rattle.ft_store.specs.Docids.{docids_in, cut_to}
+use Rattle.ft_store.specs.Docids.{cut_to}
 use Rattle.ft_values.specs.declared.fault.Fault.TheVariants as faults
 use Rattle.ft_content.specs.Deserved.{item_unknown, names_unknown, reading_fault, select_fault}
 use Rattle.ft_content.specs.Step.{answer_of_held, answer_of_found}
@@ -35,7 +34,11 @@ use Rattle.ft_query.specs.Reads.{query_of}
 use Rattle.ft_index.proofs.Doing.{executes_read, rows_in, index_in}
 use Rattle.ft_index.proofs.TablePlans.{plans_nothing}
 use Rattle.ft_index.proofs.OneTable.{IsSoundTable, sound_table, sound_is, unfit_is, sound_rows}
-use Rattle.ft_documents.proofs.AddLemmas.{bare}
+use Rattle.ft_content.specs.Laws.{content_with}
+
+pub any_of_map : {X Y : Type 0} (p : Y → Bool) (h : X → Y) (xs : List X) → list_any p (map h xs) ≡ list_any (λ x. p (h x)) xs
+any_of_map p h [] = refl
+any_of_map p h (x ∷ xs) = ap (λ b. p (h x) || b) (any_of_map p h xs)
 
 -- ---- enough hits
 
@@ -314,78 +317,7 @@ asked_whole content items All limit offset plainly whole =
 asked_whole content items (Docid docid) limit offset plainly whole = refl
 asked_whole content items (Match name text) limit offset plainly whole = absurd (let no = plainly in cc)
 
--- ==== docids as a store reads them, and rows of documents without their cells
-
--- ---- the first cell of each document
-
-abbrev is_first : CellRow → Bool
-is_first row = int_eq (pos 0) row.column
-
-abbrev firsts : List CellRow → List ℤ
-firsts rows = map (λ (r : CellRow). r.docid) (filter is_first rows)
-
-asked_firsts : (tab : ℤ) (cells : List (CellKey × Cell)) →
-    docids_in tab cells ≡ firsts (map (λ (c : CellKey × Cell). record { docid = c.0.1; column = c.0.2; value = c.1 }) (where_key cell_key_cmp (λ k. int_eq tab k.0) cells))
-asked_firsts tab [] = refl
-asked_firsts tab (e ∷ es) =
-    let one : List (CellKey × Cell) = where_key cell_key_cmp (λ k. int_eq tab k.0 && int_eq (pos 0) k.2) es in
-    let all : List (CellKey × Cell) = where_key cell_key_cmp (λ k. int_eq tab k.0) es in
-    let shown : CellKey × Cell → CellRow = λ (c : CellKey × Cell). record { docid = c.0.1; column = c.0.2; value = c.1 } in
-    let others : List CellRow = filter is_first (map shown all) in
-    let rest = asked_firsts tab es in
-    elim (int_eq tab e.0.0) as (λ b. map (λ (c : CellKey × Cell). c.0.1) (cond (b && int_eq (pos 0) e.0.2) (e ∷ one) one) ≡ firsts (map shown (cond b (e ∷ all) all))) [
-      | true ↦ elim (int_eq (pos 0) e.0.2) as (λ b. map (λ (c : CellKey × Cell). c.0.1) (cond b (e ∷ one) one) ≡ map (λ (r : CellRow). r.docid) (cond b (shown e ∷ others) others)) [
-        | true ↦ ap (λ l. e.0.1 ∷ l) rest
-        | false ↦ rest
-      ]
-      | false ↦ rest
-    ]
-
-firsts-append : (xs ys : List CellRow) → firsts (xs ++ ys) ≡ firsts xs ++ firsts ys
-firsts-append xs ys = ap (map (λ (r : CellRow). r.docid)) (filter-append is_first xs ys) ∙ map-append (λ (r : CellRow). r.docid) (filter is_first xs) (filter is_first ys)
-
-behind_first : (n : ℕ) (b : Bool) → int_eq (pos 0) (pos (n + 1)) ≡ b → b ≡ false
-behind_first n false is = refl
-behind_first n true is = absurd (let e = same_int (pos 0) (pos (n + 1)) is in let same : 0 ≡ n + 1 = cc in omega (arith, same))
-
-no_firsts : (docid : ℤ) (n : ℕ) (cells : List Cell) → firsts (map (λ (c : ℕ × Cell). record { docid = docid; column = pos c.0; value = c.1 }) (enumerate_from (n + 1) cells)) ≡ []
-no_firsts docid n [] = refl
-no_firsts docid n (cell ∷ cells) =
-    let more : List CellRow = filter is_first (map (λ (c : ℕ × Cell). record { docid = docid; column = pos c.0; value = c.1 }) (enumerate_from (n + 1 + 1) cells)) in
-    ap (λ b. map (λ (r : CellRow). r.docid) (cond b (record { docid = docid; column = pos (n + 1); value = cell } ∷ more) more)) (behind_first n (int_eq (pos 0) (pos (n + 1))) refl)
-    ∙ no_firsts docid (n + 1) cells
-
-firsts_of_documents : (documents : Documents) → HaveCells documents → firsts (flat_map document_rows documents) ≡ map (λ (d : ℤ × List Cell). d.0) documents
-firsts_of_documents [] h = refl
-firsts_of_documents (d ∷ ds) h =
-    firsts-append (document_rows d) (flat_map document_rows ds)
-    ∙ (λ i. (ap (λ (cells : List Cell). firsts (document_rows (d.0, cells))) h.0.2 ∙ ap (λ (l : List ℤ). d.0 ∷ l) (no_firsts d.0 0 h.0.1)) i ++ firsts_of_documents ds h.1 i)
-
--- the docids of a content as a store reads them
-pub docids_read : (tab : ℤ) (store : StoreValue) (name : List ℕ) (content : Content) → IsContent name content → table_rows tab store ≡ content_rows content → docids_in tab store.cells ≡ map (λ (d : ℤ × List Cell). d.0) content.documents
-docids_read tab store name content is rows =
-    asked_firsts tab store.cells ∙ ap (λ (r : TableRows). firsts r.cells) rows ∙ firsts_of_documents content.documents (content_cells name content is)
-
--- ---- whether there is a document of a docid
-
-first_of_values : {A B : Type 0} (f : A → B) (xs : List A) → is_some (slice_get xs 0) ≡ is_some (slice_get (map f xs) 0)
-first_of_values f [] = refl
-first_of_values f (x ∷ xs) = refl
-
-some_found : (docid : ℤ) (documents : Documents) → HaveCells documents → is_some (slice_get (unwrap_or (find int_cmp docid documents) []) 0) ≡ is_some (find int_cmp docid documents)
-some_found docid [] h = refl
-some_found docid (d ∷ ds) h =
-    elim (int_eq docid d.0) as (λ b. is_some (slice_get (unwrap_or (cond b (Some d.1) (find int_cmp docid ds)) []) 0) ≡ is_some (cond b (Some d.1) (find int_cmp docid ds))) [
-      | true ↦ ap (λ (cells : List Cell). is_some (slice_get cells 0)) h.0.2
-      | false ↦ some_found docid ds h.1
-    ]
-
-pub there_read : (tab docid : ℤ) (store : StoreValue) (name : List ℕ) (content : Content) → IsContent name content → table_rows tab store ≡ content_rows content →
-    is_some (slice_get (where_key cell_key_cmp (λ k. int_eq tab k.0 && int_eq docid k.1) store.cells) 0) ≡ is_some (find int_cmp docid content.documents)
-there_read tab docid store name content is rows =
-    first_of_values (λ (c : CellKey × Cell). c.1) (where_key cell_key_cmp (λ k. int_eq tab k.0 && int_eq docid k.1) store.cells)
-    ∙ ap (λ (cells : List Cell). is_some (slice_get cells 0)) (asked_values tab docid store.cells ∙ ap (λ (r : TableRows). values_at docid r.cells) rows ∙ values_found docid content.documents is.rising)
-    ∙ some_found docid content.documents (content_cells name content is)
+-- ==== limits of docids, and rows of documents without their cells
 
 -- a limit and an offset as the store takes them
 pub cut_is : {A : Type 0} (most limit : Option ℕ) (first offset : ℕ) (xs : List A) → most ≡ limit → first ≡ offset → cut_to most first xs ≡ cut limit offset xs
@@ -396,31 +328,31 @@ cut_is (Some n) limit first offset xs m o = λ i. cut (m i) (o i) xs
 
 -- ---- only the columns of a content matter before it is read
 
-pub names_bare : (table : List ℕ) (columns : List Column) (content : Content) (items : Items) → content.columns ≡ columns → answer_names table (bare columns) items ≡ answer_names table content items
+pub names_bare : (table : List ℕ) (columns : List Column) (content : Content) (items : Items) → content.columns ≡ columns → answer_names table (content_with columns []) items ≡ answer_names table content items
 names_bare table columns content Counted same = refl
 names_bare table columns content (Listed items) same = go items
   where
-    go : (is : List Item) → flat_map (item_headers table (bare columns)) is ≡ flat_map (item_headers table content) is
+    go : (is : List Item) → flat_map (item_headers table (content_with columns [])) is ≡ flat_map (item_headers table content) is
     go [] = refl
     go (AllColumns ∷ is) = λ i. names_of (sym same i) ++ go is i
-    go (Named name ∷ is) = λ i. item_headers table (bare (sym same i)) (Named name) ++ go is i
+    go (Named name ∷ is) = λ i. item_headers table (content_with (sym same i) []) (Named name) ++ go is i
     go (OffsetsOf name ∷ is) = ap (λ l. item_headers table content (OffsetsOf name) ++ l) (go is)
 
-unknown_bare : (table : List ℕ) (columns : List Column) (content : Content) (items : List Item) → content.columns ≡ columns → list_any (item_unknown table (bare columns)) items ≡ list_any (item_unknown table content) items
+unknown_bare : (table : List ℕ) (columns : List Column) (content : Content) (items : List Item) → content.columns ≡ columns → list_any (item_unknown table (content_with columns [])) items ≡ list_any (item_unknown table content) items
 unknown_bare table columns content [] same = refl
 unknown_bare table columns content (AllColumns ∷ items) same = unknown_bare table columns content items same
-unknown_bare table columns content (Named name ∷ items) same = λ i. not (has_column (bare (sym same i)) name) || unknown_bare table columns content items same i
+unknown_bare table columns content (Named name ∷ items) same = λ i. not (has_column (content_with (sym same i) []) name) || unknown_bare table columns content items same i
 unknown_bare table columns content (OffsetsOf name ∷ items) same = ap (λ b. not (same_name table name) || b) (unknown_bare table columns content items same)
 
-pub unnamed_bare : (table : List ℕ) (columns : List Column) (content : Content) (f : Filter) → content.columns ≡ columns → names_unknown table (bare columns) f ≡ names_unknown table content f
+pub unnamed_bare : (table : List ℕ) (columns : List Column) (content : Content) (f : Filter) → content.columns ≡ columns → names_unknown table (content_with columns []) f ≡ names_unknown table content f
 unnamed_bare table columns content (Match name text) same = λ i. not (same_name table name || list_any (same_name name) (names_of (sym same i)))
 unnamed_bare table columns content _ same = refl
 
-reading_bare : (columns : List Column) (content : Content) (name text : List ℕ) → content.columns ≡ columns → reading (bare columns) name text ≡ reading content name text
+reading_bare : (columns : List Column) (content : Content) (name text : List ℕ) → content.columns ≡ columns → reading (content_with columns []) name text ≡ reading content name text
 unfolding reading
-reading_bare columns content name text same = λ i. query_of (names_of (sym same i)) (column_place (bare (sym same i)) name) text
+reading_bare columns content name text same = λ i. query_of (names_of (sym same i)) (column_place (content_with (sym same i) []) name) text
 
-pub reads_bare : (columns : List Column) (content : Content) (f : Filter) (query : Option Tree) → content.columns ≡ columns → ReadsFilterAs (bare columns) f query → ReadsFilterAs content f query
+pub reads_bare : (columns : List Column) (content : Content) (f : Filter) (query : Option Tree) → content.columns ≡ columns → ReadsFilterAs (content_with columns []) f query → ReadsFilterAs content f query
 reads_bare columns content (Match name text) query same h = sym (reading_bare columns content name text same) ∙ h
 reads_bare columns content _ query same h = tt
 
@@ -433,11 +365,11 @@ pub reads_passed : {A : Type 0} (tree : A → Tree) (cols : List source.Column) 
     ReadsFilterAs content f (option_map (λ q. tree q.now) passed)
 reads_passed tree cols content f passed query is same reads = subst (ReadsFilterAs content f) (sym (passed_tree tree passed query is)) (reads_bare (map column_of cols) content f (option_map tree query) same reads)
 
-pub query_bare : (columns : List Column) (content : Content) (f : Filter) → content.columns ≡ columns → query_fault (bare columns) f ≡ query_fault content f
+pub query_bare : (columns : List Column) (content : Content) (f : Filter) → content.columns ≡ columns → query_fault (content_with columns []) f ≡ query_fault content f
 query_bare columns content (Match name text) same = ap reading_fault (reading_bare columns content name text same)
 query_bare columns content _ same = refl
 
-pub fault_bare : (table : List ℕ) (columns : List Column) (content : Content) (items : Items) (f : Filter) → content.columns ≡ columns → select_fault table (bare columns) items f ≡ select_fault table content items f
+pub fault_bare : (table : List ℕ) (columns : List Column) (content : Content) (items : Items) (f : Filter) → content.columns ≡ columns → select_fault table (content_with columns []) items f ≡ select_fault table content items f
 fault_bare table columns content items f same =
     λ i. or_else (first_of ((unknown_bare table columns content (items_in items) same i || unnamed_bare table columns content f same i, faults.NoSuchColumn) ∷ (list_any is_offsets (items_in items) && not (is_match f), faults.Context) ∷ [])) (query_bare columns content f same i)
 
@@ -475,7 +407,7 @@ module _ (contents : Contents) (name : List ℕ) (items : Items) (f : Filter) (l
   select_unplanned fault unfit = inr (unfit_is contents name fault (λ table content. select_fault table content items f) (subst (λ ts. IsUnfit ts name fault) held.told unfit))
 
   module _ (known : TableInfo) (named : IsSoundNamed tables name known) where
-    due : deserved contents command ≡ select_fault known.name (bare known.columns) items f
+    due : deserved contents command ≡ select_fault known.name (content_with known.columns []) items f
     unfolding deserved
     due =
         let t = sound_table contents name known (ap (λ ts. info_named ts name) (sym held.told) ∙ named.0) named.1 in
@@ -483,11 +415,11 @@ module _ (contents : Contents) (name : List ℕ) (items : Items) (f : Filter) (l
         ∙ ap (λ (k : TableInfo). select_fault k.name t.content items f) t.told
         ∙ sym (fault_bare known.name known.columns t.content items f (told_columns contents name known t))
 
-    pub select_fails : (fault : Fault) → (fault ≡ faults.Memory) ⊎ (select_fault known.name (bare known.columns) items f ≡ Some fault) → PlansFrom contents command store (Err fault)
+    pub select_fails : (fault : Fault) → (fault ≡ faults.Memory) ⊎ (select_fault known.name (content_with known.columns []) items f ≡ Some fault) → PlansFrom contents command store (Err fault)
     select_fails fault (inl memory) = inl (ap (λ f. is_outside (Err f)) memory)
     select_fails fault (inr is) = inr (due ∙ is)
 
-    pub select_plans : select_fault known.name (bare known.columns) items f ≡ None → PlansFrom contents command store (Ok [])
+    pub select_plans : select_fault known.name (content_with known.columns []) items f ≡ None → PlansFrom contents command store (Ok [])
     unfolding after
     select_plans fine = plans_nothing contents command store tables held refl refl (due ∙ fine)
 
@@ -510,7 +442,7 @@ module _ {S : Type 0} (g : Ghosts S) (old new : StoreState S) (tables : List Tab
         ∙ ap (λ (k : TableInfo). (Ok (Rows (answer k.name t.content items f limit offset)), first)) t.told
         ∙ ap (λ grid. (Ok (Rows grid), first)) (sym is)
 
-    module _ (order : AreInOrder (value_in g old)) (query : Option Tree) (grid : Grid) (fine : select_fault known.name (bare known.columns) items f ≡ None) (reads : ReadsFilterAs (bare known.columns) f query) where
+    module _ (order : AreInOrder (value_in g old)) (query : Option Tree) (grid : Grid) (fine : select_fault known.name (content_with known.columns []) items f ≡ None) (reads : ReadsFilterAs (content_with known.columns []) f query) where
       asked : (up : IsUp g (with_tables new tables)) (first : Contents) (holds : AreHeld (value_in g old) tables first) → IsAsked g known.id known.columns items f query old new (table_of first holds).content
       asked up first holds =
           let t = table_of first holds in
@@ -520,7 +452,7 @@ module _ {S : Type 0} (g : Ghosts S) (old new : StoreState S) (tables : List Tab
             held = record { rows = rows_in g known.id t.table.0 (sym id) old new t.table.1.name t.content has up.clean up.is_open; index = index_in g known.id t.table.0 (sym id) old new t.table.1.name t.content has up.clean up.is_open };
             columns = told_columns first name known t;
             reads = reads_bare known.columns t.content f query (told_columns first name known t) reads;
-            offsets = fine_offsets known.name (bare known.columns) items f fine;
+            offsets = fine_offsets known.name (content_with known.columns []) items f fine;
           }
 
       pub select_done : ((content : Content) → IsAsked g known.id known.columns items f query old new content → grid ≡ answer known.name content items f limit offset) → Executes g (with_tables old tables) asked_so (Ok (Rows grid)) (with_tables new tables)

@@ -9,9 +9,9 @@ use Rattle.ft_index.proofs.Common.{StaysNear, Answers, is_outside}
 use Rattle.ft_content.specs.declared.command.Creation.{Creation}
 use Rattle.ft_content.specs.Step.{created}
 use Rattle.ft_index.proofs.OneTable.{ids_sorted, free_is_free, adds_one, IsOne, one_named, held_named, one_spares, drops_one, none_named, some_named, keeps_dropped, keeps_same, makes_table}
-use Rattle.ft_documents.proofs.AddLemmas.{bare}
+use Rattle.ft_content.specs.Laws.{content_with}
 use Rattle.ft_index.proofs.NameLemmas.{apart_after}
-use Rattle.ft_content.proofs.ContentLemmas.{create_makes_content}
+use Rattle.ft_content.proofs.{create_makes_content}
 use Rattle.ft_values.specs.declared.fault.Fault.TheVariants as faults
 use Rattle.ft_content.specs.Command.{Reply}
 use Rattle.ft_content.specs.Views.{reply_of}
@@ -33,7 +33,7 @@ some_columns (n ∷ ns) = lt-ltb 0 (length (n ∷ ns)) (omega arith)
 
 -- the columns that a Create without a fault makes are those of a content
 makes_content : (contents : Contents) (creation : Creation) → deserved contents (creation_of creation) ≡ None →
-    IsContent (string_bytes creation.table) (bare (map (made_column (map option_of creation.options.items)) (made_columns (names_in creation.columns))))
+    IsContent (string_bytes creation.table) (content_with (map (made_column (map option_of creation.options.items)) (made_columns (names_in creation.columns))) [])
 unfolding deserved
 makes_content contents creation fine =
     let names = names_in creation.columns in

@@ -9,17 +9,15 @@ use Rattle.ft_index.proofs.Common.{same_entries, exact_signed, Contains-push, Co
 use Rattle.ft_content.specs.Content.{is_too_long, has_nul}
 use Rattle.ft_content.specs.Deserved.{is_text, is_null, update_fault, with_values}
 use Rattle.ft_content.specs.Step.{docid_if_any, moved}
-use Rattle.ft_content.proofs.ContentLemmas.{update_keeps_content}
+use Rattle.ft_content.proofs.{update_keeps_content}
 use Rattle.ft_documents.specs.Updated.{update_touches, changing, leaving, coming, moved_from, MayMove}
 use Rattle.ft_index.proofs.OneTable.{not_some}
 use Rattle.ft_index.proofs.SelectAnswers.{unnamed_bare, query_bare}
 use Rattle.ft_index.proofs.Writing.{IsWrite, memory_or}
 use Rattle.std.proofs.lemmas.Float.{T_from_true}
-use Rattle.ft_store.proofs.KeyedLemmas.{put-without_key}
-use Rattle.ft_documents.proofs.AddLemmas.{own_put}
-use Rattle.ft_documents.proofs.ChosenLemmas.{all_found}
+use Rattle.ft_store.proofs.{put-without_key}
+use Rattle.ft_documents.proofs.{own_put, all_found, are_of}
 use Rattle.ft_index.proofs.ChosenWrites.{each_rewritten, befores, all_rewritten, chosen_lead, own_docids}
-use Rattle.ft_documents.proofs.InsertOf.{are_of}
 use Rattle.ft_values.specs.declared.fault.Fault.TheVariants as faults
 use Rattle.ft_values.specs.declared.table.Column as source
 

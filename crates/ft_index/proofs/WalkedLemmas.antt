@@ -6,16 +6,15 @@ use Rattle.ft_index.proofs.Common.{content_documents, table_index, table_documen
 use Rattle.std.specs.Cmp.Lexicographic.{nat_list_cmp_total}
 use Rattle.std.proofs.lemmas.Map.Text.{is_eq-slice_cmp}
 use Rattle.ft_query.specs.Documents.{AreDocuments, PlaceList}
-use Rattle.ft_query.proofs.Bridge.{postings_rise}
-use Rattle.ft_query.proofs.BridgeDocuments.{documents_are}
+use Rattle.ft_query.proofs.{postings_rise, documents_are}
 use Rattle.ft_values.specs.declared.rows.ListRow.{ListRow}
 use Rattle.ft_rows.specs.Shown.{shown_list, bare_list}
 use Rattle.ft_store.specs.Calls.{Keeps}
 use Rattle.ft_content.specs.Meaning.{documents_in, entries_in, lists_with_terms, DocumentsAreInOrder}
-use Rattle.ft_content.proofs.MeaningLemmas.{lists_mean_documents, terms_are_their_lists, terms_are_counted, documents_are_in_order}
+use Rattle.ft_content.proofs.{lists_mean, terms_are_their_lists, terms_are_counted, documents_are_in_order}
 use Rattle.ft_documents.specs.Placed.{read_list, list_of, all_in, AreListsOf}
 use Rattle.ft_index.specs.Walked.{AreReliable}
-use Rattle.ft_documents.proofs.AskedLemmas.{bare, asked_entries, rows_answer}
+use Rattle.ft_documents.proofs.{asked_answer}
 
 in_order : DocumentsAreInOrder
 in_order = documents_are_in_order documents_are
@@ -23,7 +22,7 @@ in_order = documents_are_in_order documents_are
 -- what lists of a content's index rows mean
 pub indexed_means : {S : Type 0} (g : Ghosts S) (tab : ℤ) (store : StoreState S) (name : List ℕ) (content : Content) → IsContent name content → table_index tab (value_in g store) ≡ index_rows content → table_documents g tab store ≡ content_documents content
 unfolding table_documents
-indexed_means g tab store name content is index = ap (λ (rows : IndexRows). documents_in rows.lists) index ∙ lists_mean_documents postings_rise name content is
+indexed_means g tab store name content is index = ap (λ (rows : IndexRows). documents_in rows.lists) index ∙ lists_mean postings_rise name content is
 
 -- the lists of a table whose index rows are those of a content
 pub reliable_of : {S : Type 0} (g : Ghosts S) (tab : ℤ) (store : StoreState S) (name : List ℕ) (content : Content) → HasCleanDisk (shows g store) → IsTrue (shows g store).is_open → IsContent name content →
@@ -64,12 +63,8 @@ module _ {S : Type 0} (g : Ghosts S) (tab : ℤ) (old new : StoreState S) (kept 
   walk_answer asks test same rows read found shown h =
       let order = in_order h.name h.content h.is_content in
       let lists = (index_rows h.content).lists in
-      let are : all_in (map list_of rows) ≡ map bare (entries_in (lists_with_terms test lists)) =
-      ap all_in (sym (map-map read_list shown_list rows) ∙ ap (map read_list) (read h.clean))
-      ∙ ap (λ (v : StoreValue). all_in (map read_list (map bare_list (where_key list_key_cmp asks v.lists)))) (sym (same_value h))
-      ∙ asked_entries tab asks test same (value_in g new).lists
-      ∙ ap (λ (r : IndexRows). map bare (entries_in (lists_with_terms test r.lists))) h.index in
-      rows_answer (content_documents h.content) order test lists (terms_are_their_lists postings_rise h.name h.content test h.is_content) (terms_are_counted h.name h.content test h.is_content) rows are found shown
+      asked_answer (content_documents h.content) order test lists (terms_are_their_lists postings_rise h.name h.content test h.is_content) (terms_are_counted h.name h.content test h.is_content)
+      tab asks same (value_in g new).lists (ap (λ (r : IndexRows). r.lists) h.index) rows (read h.clean ∙ ap (λ (v : StoreValue). map bare_list (where_key list_key_cmp asks v.lists)) (sym (same_value h))) found shown
       ∙ ap (lists_with test) (sym (indexed_means g tab new h.name h.content h.is_content h.index))
 
 -- the test of a term

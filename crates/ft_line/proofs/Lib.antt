@@ -1,2 +1,2 @@
-pub mod LineLemmas
-pub mod LineRows
+mod LineLemmas
+mod LineRows

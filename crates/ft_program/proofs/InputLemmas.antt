@@ -1,8 +1,8 @@
 -- Inputs that are run in turn.
-use Rattle.std.proofs.Common.{◌≡◌, ◌<◌, ◌≤◌, ◌+◌, ◌-◌, ◌^◌, ◌∙◌, ℕ, Bool, true, false, List, [], ◌∷◌, map, drop, get_or, length, Option, Some, None, Result, Ok, Err, min, refl, ap, sym, subst, arith, string_bytes, String, Global, zero, suc}
+use Rattle.std.proofs.Common.{◌≡◌, ◌<◌, ◌≤◌, ◌+◌, ◌-◌, ◌^◌, ◌∙◌, ℕ, Bool, true, false, List, [], ◌∷◌, map, take, drop, get_or, length, Option, Some, None, Result, Ok, Err, min, refl, ap, sym, subst, arith, string_bytes, String, Global, zero, suc}
 use Rattle.std.specs.Prelude.{MatchBool, MatchResult, if◌then◌else◌, ◌==◌}
 use Rattle.std.proofs.lemmas.Bool.Decides.{nat_tests}
-use Rattle.std.proofs.lemmas.List.{drop_all, drop_more}
+use Rattle.std.proofs.lemmas.List.{drop_all, drop_more, append-nil, take-append-drop}
 use Rattle.sqlite.specs.Store.{Ghosts}
 use Rattle.shell_io.specs.declared.run.Status.{Status}
 use Rattle.shell_io.specs.declared.run.RunFault.{RunFault}
@@ -10,8 +10,7 @@ use Rattle.ft_shell.specs.Shell.{Parts}
 use Rattle.ft_shell.specs.Effects.{Effects, idle, and_then}
 use Rattle.ft_shell.specs.Promise.{IsClean, Ran, AllRan, PromiseKept, KeptByRuns, none_ran, last_ran, first_ran, read_by}
 use Rattle.ft_shell.specs.Runs.{Console}
-use Rattle.ft_shell.proofs.TurnsLemmas.{assoc_then, idle_then, then_idle}
-use Rattle.ft_shell.proofs.PromiseLemmas.{all_made}
+use Rattle.ft_shell.proofs.{assoc_then, idle_then, then_idle, all_made}
 use Rattle.std.specs.Prelude.{OnOk, OnErr, ◌≢◌}
 use Rattle.std.specs.Io.KnownBytes.{Appends, Consumes}
 use Rattle.sqlite.specs.Held.{Held}
@@ -19,10 +18,9 @@ use Rattle.shell_text.specs.Print.{AppendsFront, Settings}
 use Rattle.ft_store.specs.Kept.{StoreState}
 use Rattle.ft_index.specs.Kept.{FullText, Holds, IsUp}
 use Rattle.ft_index.specs.Crashes.{SurvivesCrash}
-use Rattle.ft_index.proofs.Calls.{clean_before}
+use Rattle.ft_index.proofs.{clean_before}
 use Rattle.ft_index.specs.Opened.{OpensStore}
 use Rattle.shell_io.specs.Writing.{AppendsUpTo, Sends}
-use Rattle.shell_io.proofs.WriteLemmas.{up_to_part, up_to_whole}
 use Rattle.ft_program.specs.Inputs.{AreRead, Closes, EndsAs, InTurn, Outputs, RunsAndKeeps, RunsInTurn, RunsOne, RunsOver, Stage, WritesOwn, console, due, exit_status}
 
 module _ {P S : Type 0} (g : Ghosts P) (h : Ghosts S) where
@@ -174,10 +172,10 @@ due_some (text ∷ texts) standard some = refl
 -- a text, whole or a front of it
 pub text_sent : {T E : Type 0} (r : Result T E) (a b : Option (List ℕ)) (x : List ℕ) → OnOk r (Appends a b x) → OnErr r (AppendsFront a b x) → Sends r a b x
 text_sent (Ok t) a b x whole part = whole
-text_sent (Err e) a b x whole part = up_to_part a b x part
+text_sent (Err e) a b x whole part = (take part.0 x, drop part.0 x, sym (take-append-drop part.0 x), part.2)
 
 pub up_to_sent : {T E : Type 0} (r : Result T E) (a b : Option (List ℕ)) (x : List ℕ) → Sends r a b x → AppendsUpTo a b x
-up_to_sent (Ok t) a b x whole = up_to_whole a b x whole
+up_to_sent (Ok t) a b x whole = (x, [], sym (append-nil x), whole)
 up_to_sent (Err e) a b x front = front
 
 abbrev pub code_if : Bool → ℕ

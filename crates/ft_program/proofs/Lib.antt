@@ -1,3 +1,3 @@
-pub mod InputLemmas
-pub mod MemoryLemmas
-pub mod Reopening
+mod InputLemmas
+mod MemoryLemmas
+mod Reopening

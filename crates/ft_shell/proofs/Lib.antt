@@ -1,13 +1,16 @@
-pub mod Common
-pub mod PlainTurnLemmas
-pub mod ClassLemmas
-pub mod RanLemmas
-pub mod RunLemmas
-pub mod PieceLemmas
-pub mod CallsLemmas
-pub mod Spelled
-pub mod PromiseLemmas
-pub mod TurnsLemmas
-pub mod ImportTurnLemmas
-pub mod HoldsLemmas
-pub mod DotLemmas
+mod Common
+mod PlainTurnLemmas
+mod ClassLemmas
+mod RanLemmas
+mod RunLemmas
+mod PieceLemmas
+mod CallsLemmas
+mod Spelled
+mod PromiseLemmas
+mod TurnsLemmas
+mod ImportTurnLemmas
+mod HoldsLemmas
+mod DotLemmas
+-- the effects of turns and runs, one after the other
+pub use Rattle.ft_shell.proofs.PromiseLemmas.{all_made}
+pub use Rattle.ft_shell.proofs.TurnsLemmas.{assoc_then, idle_then, then_idle}

@@ -7,7 +7,7 @@ use Rattle.shell_io.specs.declared.run.RunFault.{RunFault}
 use Rattle.shell_io.specs.Outcomes.{Answer, echo_text, echoed, outcome_of}
 use Rattle.shell_text.specs.Print.{Settings}
 use Rattle.shell_io.specs.Writing.{AppendsUpTo, Sends}
-use Rattle.shell_io.proofs.WriteLemmas.{appends_then, appends_same}
+use Rattle.shell_io.proofs.{appends_then, appends_same}
 use Rattle.ft_shell.proofs.Common.{Appends, Ghosts, Shell, Effects, effects_of, idle, and_then, Body, Turn, calls_in, echo_of, Broken, not_begun, not_echoed, not_told, Moment, Did, Cut, Passes, Breaks, Runs}
 use Rattle.ft_shell.proofs.TurnsLemmas.{assoc_then, turns_then, turns_one}
 use Rattle.shell_text.specs.declared.units.UnitKind.TheVariants as kinds

@@ -6,8 +6,7 @@ use Rattle.shell_text.specs.Splitting.{given_by}
 use Rattle.shell_io.specs.declared.run.Status.{Status}
 use Rattle.shell_io.specs.declared.run.RunFault.{RunFault}
 use Rattle.shell_io.specs.LinesRead.{HasNoEnd, LinesRead, Way, at_end, behind, members_left}
-use Rattle.shell_io.proofs.LineReaderLemmas.{none_left}
-use Rattle.shell_io.proofs.WriteLemmas.{appends_kept}
+use Rattle.shell_io.proofs.{none_left, appends_kept}
 use Rattle.ft_shell.proofs.Common.{Consumes, IsAtEnd, Keeps, take_all, take-append-drop, Ghosts, Shell, Effects, Turns, Session, Begins, Moment, Did, Passes, Breaks, Ends, IsInside, Console, EndedDone, IsWhole, IsFront, Completes, Stops}
 use Rattle.ft_shell.proofs.TurnsLemmas.{turns_ended}
 use Rattle.ft_shell.proofs.RanLemmas.{breaks_after, breaks_none, breaks_then, passes_as, passes_none, passes_then}

@@ -1,12 +1,12 @@
-pub mod Common
-pub mod FormLaw
-pub mod ReadingLemmas
-pub mod CreateLemmas
-pub mod WordLemmas
-pub mod StatementLemmas
-pub mod StatementRows
-pub mod DotRows
-pub mod TableLemmas
-pub mod GrammarClass
-pub mod DotLaw
-pub mod PlainLaw
+mod Common
+mod FormLaw
+mod ReadingLemmas
+mod CreateLemmas
+mod WordLemmas
+mod StatementLemmas
+mod StatementRows
+mod DotRows
+mod TableLemmas
+mod GrammarClass
+mod DotLaw
+mod PlainLaw

@@ -5,11 +5,11 @@ use Rattle.ft_store.proofs.Common.{Value, Null, Int, Text, Blob, Row, column, va
 use Rattle.ft_store.proofs.Common.{binary, is_true, Compare, Ge, Lt, Key, value_cmp_total, value_cmp-Int, value_cmp-Text, Trees, Term, holds, Output}
 use Rattle.ft_store.proofs.Common.{output, output_cmp, IsAnswer, overlay, State, Shown, IsSound, reads_as, at_texts, same_bytes, then_key, last_key}
 use Rattle.ft_store.proofs.Common.{then_term, last_term, map-map, filter-map, Cell, ListKey, cell_key_cmp, list_key_cmp, column_key_cmp, name_cmp}
-use Rattle.ft_store.proofs.Common.{id_in, bare_list, lists_under_term, lists_of_prefix, and_first, get_or_append_left, get_or_push}
+use Rattle.ft_store.proofs.Common.{id_in, bare_list, lists_under_term, lists_of_prefix, and_parts, get_or_append_left, get_or_push}
 use Rattle.ft_store.proofs.Common.{All-from_recursion, All-take, All-drop, All-map, All-weaker, recursion_from_All, All-permutation, Schema, Query}
 use Rattle.ft_store.proofs.Common.{as_count, limited, page, inner, end, Select, Database, RefusesToRead, RefusesQuery, understood, reads_listing}
 use Rattle.ft_store.proofs.Common.{IsSourceOf, IsNoStatement, IsNotRun, IsPlain, command_of, begins_as, Error, SqliteFailure, all_map, all-filter}
-use Rattle.ft_store.proofs.Common.{all_weaker, all_both, all_unmap, IsPermutation-sort_by, and_second, everything, IsInt}
+use Rattle.ft_store.proofs.Common.{all_weaker, all_both, all_unmap, IsPermutation-sort_by, everything, IsInt}
 use Rattle.ft_values.specs.Cells as cells
 use Rattle.sqlite.specs.declared.error.ErrorCode.TheVariants as code
 use Rattle.ft_store.proofs.TypedLemmas as stored
@@ -175,7 +175,7 @@ document_shown tab docid old new rows if_open h =
     let sound = sound_of old kept in
     keyed_found cell_key_cmp cell_key_total tied_cell_keys cell_cmp cell_total tied_cells cell_entry IsCellRow (overlay old.now.trees []) 5 (are_cells old.now.trees sound) (cells_apart old.now.trees sound kept.numbered.1.1.1.0) document_query.filter (2 ∷ 3 ∷ 4 ∷ 5 ∷ []) (rising cell_order) (Int tab ∷ Int docid ∷ []) (λ k. int_eq tab k.0 && int_eq docid k.1) (found_cell tab)
     (λ r h. then_term (turned _ _ _ _ h.tab refl) (last_term (turned _ _ _ _ h.docid refl)))
-    (λ r h passed. ap (λ t. ((t, (cell_entry r).0.1, (cell_entry r).0.2), (cell_entry r).1)) (same_int tab (cell_entry r).0.0 (and_first _ _ passed)))
+    (λ r h passed. ap (λ t. ((t, (cell_entry r).0.1, (cell_entry r).0.2), (cell_entry r).1)) (same_int tab (cell_entry r).0.0 (and_parts _ _ passed).0))
     (λ a b p q. then_key (cmp_ints _ _ _ _ p.tab q.tab) (then_key (cmp_ints _ _ _ _ p.docid q.docid) (last_key (cmp_ints _ _ _ _ p.at q.at))))
     rows ((reads_as document_text (Int tab ∷ Int docid ∷ []) old new store_schema kept.schema _ document_means.is document_means.plain document_means.unlisted rows h).answer Null)
 
@@ -242,7 +242,7 @@ prefix_stored_shown tab from old new rows if_open h =
     let params = Int tab ∷ Text from ∷ limit_of (after_last from) ∷ [] in
     keyed_found list_key_cmp list_key_total tied_list_keys name_cmp name_total tied_names stored_entry stored.IsListRow (overlay old.now.trees []) 7 (are_lists old.now.trees sound) (lists_apart old.now.trees sound kept.numbered.1.1.1.1.0) prefix_query.filter list_shown (rising list_order) params (λ k. int_eq tab k.0 && starts_with nat_eq k.1 from) (found_list tab)
     (λ r h. then_term (turned _ _ _ _ h.tab refl) (then_term (test_texts Ge _ _ _ _ h.term refl) (last_term (test_limit _ _ from h.term))) ∙ ap (λ t. int_eq tab (stored_entry r).0.0 && t) (in_range from (stored_entry r).0.1))
-    (λ r h passed. ap (λ t. ((t, (stored_entry r).0.1, (stored_entry r).0.2), (stored_entry r).1)) (same_int tab (stored_entry r).0.0 (and_first _ _ passed)))
+    (λ r h passed. ap (λ t. ((t, (stored_entry r).0.1, (stored_entry r).0.2), (stored_entry r).1)) (same_int tab (stored_entry r).0.0 (and_parts _ _ passed).0))
     (λ a b p q. then_key (cmp_ints _ _ _ _ p.tab q.tab) (then_key (cmp_texts _ _ _ _ p.term q.term) (last_key (cmp_ints _ _ _ _ p.docid q.docid))))
     rows ((reads_as prefix_text params old new store_schema kept.schema _ prefix_means.is prefix_means.plain prefix_means.unlisted rows h).answer Null)
 
@@ -307,7 +307,7 @@ term_shown tab term old new rows if_open h =
     let kept = if_open (shown_open _ _ old new rows h) in
     bare_found tab old kept term_query.filter (Int tab ∷ Text term ∷ []) (λ k. int_eq tab k.0 && is_eq (name_cmp term k.1))
     (λ r h. then_term (turned _ _ _ _ h.tab refl) (last_term (turned_text _ _ _ _ h.term refl)))
-    (λ k passed. and_first _ _ passed)
+    (λ k passed. (and_parts _ _ passed).0)
     rows ((reads_as term_text (Int tab ∷ Text term ∷ []) old new store_schema kept.schema _ term_means.is term_means.plain term_means.unlisted rows h).answer Null)
 
 pub bare_prefix_shown : (tab : ℤ) (from : List ℕ) (old new : State) (rows : List Row) → (IsTrue old.is_open → IsStore old.now) → Shown bare_prefix_text (Int tab ∷ Text from ∷ limit_of (after_last from) ∷ []) old new rows
@@ -317,7 +317,7 @@ bare_prefix_shown tab from old new rows if_open h =
     let params = Int tab ∷ Text from ∷ limit_of (after_last from) ∷ [] in
     bare_found tab old kept bare_prefix_query.filter params (λ k. int_eq tab k.0 && starts_with nat_eq k.1 from)
     (λ r h. then_term (turned _ _ _ _ h.tab refl) (then_term (test_texts Ge _ _ _ _ h.term refl) (last_term (test_limit _ _ from h.term))) ∙ ap (λ t. int_eq tab (stored_entry r).0.0 && t) (in_range from (stored_entry r).0.1))
-    (λ k passed. and_first _ _ passed)
+    (λ k passed. (and_parts _ _ passed).0)
     rows ((reads_as bare_prefix_text params old new store_schema kept.schema _ bare_prefix_means.is bare_prefix_means.plain bare_prefix_means.unlisted rows h).answer Null)
 
 -- ---- why a query is refused
@@ -330,8 +330,8 @@ is_statement old sql params has plain whole e (inr (c, known, why)) =
     let here = sym (ap (λ s. understood s sql) has) ∙ known in
     let tells = subst (λ r. is_whole sql (length params) r ≡ true) here whole in
     elim why [
-      | inl tail ↦ let long = ltb-false c.tail (length sql) (stored.not_null _ (and_first _ _ tells)) in tail.0 (omega (arith, long))
-      | inr (inl given) ↦ given.0 (eqb-true _ _ (and_second _ _ tells))
+      | inl tail ↦ let long = ltb-false c.tail (length sql) (stored.not_null _ (and_parts _ _ tells).0) in tail.0 (omega (arith, long))
+      | inr (inl given) ↦ given.0 (eqb-true _ _ (and_parts _ _ tells).1)
       | inr (inr clock) ↦ clock.0 (subst IsPlain here plain).1
     ]
 

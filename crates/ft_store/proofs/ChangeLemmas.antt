@@ -2,7 +2,7 @@
 use Rattle.std.proofs.Common.{◌≡◌, ℕ, ◌+◌, ◌<◌, Bool, true, false, cond, List, [], ◌∷◌, ◌++◌, map, filter, length, refl, sym, ap, ap₂, ◌∙◌, subst, arith, Ordering, Equal, is_lt, IsPermutation, IsSorted, All, ◌≢◌, ◌⊎◌, inl, inr, ◌/◌, ℤ, not, ◌&&◌, ◌||◌, slice_get, Some, None, Ok, Err, Result, is_eq, IsTrue, nat_le, ◌^◌, unwrap_or, ◌-◌}
 use Rattle.ft_store.proofs.Common.{AllByRecursion, list_all, IsTotalOrder, get_or-map, length-map, All-from_recursion, All-permutation}
 use Rattle.ft_store.proofs.Common.{IsPermutation-map, Row, Trees, Term, holds, Query, Output, output, output_cmp, inner, end, matches, IsAnswer}
-use Rattle.ft_store.proofs.Common.{sort_by, map-map, filter-map, all_map, all-filter, all_weaker, all_both, Key, filter_passes, list_any, tied_itself}
+use Rattle.ft_store.proofs.Common.{sort_by, map-map, filter-map, all_map, all-filter, all_weaker, all_both, Key, filter_passes, recursion_from_All, list_any, tied_itself}
 use Rattle.ft_store.proofs.Common.{list_any-IsPermutation, Value, Null, Int, value_cmp, value_cmp_total, IsAscending, rowid, has_rowid, without_rowid}
 use Rattle.ft_store.proofs.Common.{put_row, is_int, edit_of, id_in, is_taken, are_fresh, put_all, unary, Chosen, Given, Table, overlay, Values}
 use Rattle.ft_store.proofs.Common.{Delete, Insert, understood, Database, IsDatabase, value_rows, Written, Task, stamped, Tally, Does, AtPlace, OnRows}
@@ -67,7 +67,7 @@ module _ {X : Type 0} (cmp : X → X → Ordering) (total : IsTotalOrder cmp) (o
     IsPassed r = P r × (passes r ≡ true)
 
     all_passed : AllByRecursion IsPassed (filter passes (db tree))
-    all_passed = all_both P (λ r. passes r ≡ true) IsPassed (λ r h k. (h, k)) _ (all-filter P passes (db tree) each) (filter_passes passes (db tree))
+    all_passed = all_both P (λ r. passes r ≡ true) IsPassed (λ r h k. (h, k)) _ (all-filter P passes (db tree) each) (recursion_from_All _ _ (filter_passes passes (db tree)))
 
     kept_of : map (λ r. back (out r)) (filter passes (db tree)) ≡ filter test (map of (db tree))
     kept_of =

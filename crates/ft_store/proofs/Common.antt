@@ -6,7 +6,7 @@ pub use Rattle.std.proofs.lemmas.Int.{ints}
 pub use Rattle.std.proofs.lemmas.List.{append_cancel_left, append_cancel_right, drop-map, drop_more, get_or-map, get_or_append_left, get_or_push}
 pub use Rattle.std.proofs.lemmas.List.{length-map, map-append, map_push, nil_from_length, take-map, take_more}
 pub use Rattle.std.proofs.lemmas.List.Elements.{All-append, All-cons, All-drop, All-from_recursion, All-map, All-more, All-nil, All-take, All-weaker}
-pub use Rattle.std.proofs.lemmas.List.Elements.{recursion_from_All}
+pub use Rattle.std.proofs.lemmas.List.Elements.{filter_passes, recursion_from_All}
 pub use Rattle.std.proofs.lemmas.List.Sorted.{All-permutation, IsPermutation-map, IsPermutation-reverse, IsPermutation-sym, length_permutation}
 pub use Rattle.std.proofs.lemmas.List.Sorted.{list_any-IsPermutation}
 pub use Rattle.std.proofs.lemmas.List.Sums.{fold_push, sum_by-append, sum_by-cons}
@@ -21,7 +21,6 @@ pub use Rattle.std.specs.Str.{all_scalars, is_utf8, str_eq_ignore_ascii_case, st
 pub use Rattle.std.specs.declared.alloc.Global.{Global}
 pub use Rattle.ft_values.specs.Cells.{Cell, shown_value}
 pub use Rattle.ft_values.specs.declared.rows.RowChange.{RowChange}
-pub use Rattle.ft_rows.proofs.ListLemmas.{and_first, and_second, filter_passes, flat_more}
 pub use Rattle.ft_rows.specs.Changes.{CanApply, shown_change}
 pub use Rattle.ft_rows.specs.Shown.{AreNamedApart, AreWhole, StoredEntry, bare_list, entries_of, entries_of_list, entries_with, last_docid_of}
 pub use Rattle.ft_rows.specs.Shown.{lists_of_prefix, lists_under_term, shown_column, shown_entry, shown_list, shown_skip, shown_table, spot_count}

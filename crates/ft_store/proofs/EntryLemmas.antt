@@ -1,7 +1,8 @@
 -- How lists become entries.
-use Rattle.std.proofs.Common.{◌≡◌, ℕ, ℤ, Bool, true, false, ◌&&◌, cond, List, [], ◌∷◌, ◌++◌, map, refl, sym, ap, ap₂, ◌∙◌, is_eq, flat_map, int_eq}
+use Rattle.std.proofs.Common.{◌≡◌, ℕ, ℤ, Bool, true, false, ◌&&◌, cond, List, [], ◌∷◌, ◌++◌, map, append-nil, refl, sym, ap, ap₂, ◌∙◌, is_eq, flat_map, int_eq}
 use Rattle.ft_store.proofs.Common.{AllByRecursion, where_key, map-append, Row, same_bytes, ListKey, list_key_cmp, name_cmp, StoredEntry, bare_list}
-use Rattle.ft_store.proofs.Common.{entries_with, entries_of, AreWhole, and_second, flat_more}
+use Rattle.ft_store.proofs.Common.{entries_with, entries_of, AreWhole, and_parts}
+use Rattle.std.proofs.lemmas.List.Concat.{flat_map-append}
 use Rattle.ft_values.specs.declared.rows.Spot.{Spot}
 
 -- rows of lists, each with such a property, and one row more
@@ -22,7 +23,7 @@ module _ {X : Type 0} (Is : X → Type 0) (found : Row → X) (row : Row) where
 
 module _ {K : Type 0} (found : Row → K × List Spot) (row : Row) where
   pub entries_more : (f : K × List Spot → List StoredEntry) (rows : List Row) (old new : List StoredEntry) → new ≡ old ++ f (found row) → old ≡ flat_map f (map found rows) → new ≡ flat_map f (map found (rows ++ row ∷ []))
-  entries_more f rows old new added before = added ∙ ap (λ es. es ++ f (found row)) before ∙ sym (flat_more f (map found rows) (found row)) ∙ ap (flat_map f) (sym (map-append found rows (row ∷ [])))
+  entries_more f rows old new added before = simp (added, before, map-append, flat_map-append, append-nil)
 
 -- ---- lists without their tables and terms
 
@@ -48,5 +49,5 @@ term_entries tab term (l ∷ lists) = go (asks tab term l.0) refl (term_entries 
   where
     go : (b : Bool) → asks tab term l.0 ≡ b → flat_map (entries_with term) (map bare_list (asked tab term lists)) ≡ entries_of (asked tab term lists)
         → flat_map (entries_with term) (map bare_list (cond b (l ∷ asked tab term lists) (asked tab term lists))) ≡ entries_of (cond b (l ∷ asked tab term lists) (asked tab term lists))
-    go true passed rest = ap₂ (λ xs ys. xs ++ ys) (ap (λ t. entries_with t (bare_list l)) (same_bytes term l.0.1 (and_second _ _ passed))) rest
+    go true passed rest = ap₂ (λ xs ys. xs ++ ys) (ap (λ t. entries_with t (bare_list l)) (same_bytes term l.0.1 (and_parts _ _ passed).1)) rest
     go false passed rest = rest

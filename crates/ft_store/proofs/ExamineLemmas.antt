@@ -4,7 +4,7 @@ use Rattle.ft_store.proofs.Common.{ints, AllByRecursion, length-map, IsPermutati
 use Rattle.ft_store.proofs.Common.{Select, Row, column, Trees, Query, Output, output, IsAnswer, overlay, State, Shown, understood, reads_listing}
 use Rattle.ft_store.proofs.Common.{everything, reads_as, command_of, one_permutation, IsPlain, IsAscending, rowid, is_int, map-map, filter_all}
 use Rattle.ft_store.proofs.Common.{all_of, all_weaker, all-append, along_permutation, Schema, int_cmp_total, Database, HasCleanDisk, Survives, id_in}
-use Rattle.ft_store.proofs.Common.{Has, all_has, Datatype, NotNull, passes, IsSound, sort_by, all_both, last_key, and_first, and_second}
+use Rattle.ft_store.proofs.Common.{Has, all_has, Datatype, NotNull, passes, IsSound, sort_by, all_both, last_key, and_parts}
 use Rattle.sqlite.specs.Values as values
 use Rattle.ft_store.specs.declared.same.Layout.{Layout}
 use Rattle.ft_store.specs.declared.same.Layout.TheVariants.{Older, Present}
@@ -212,7 +212,7 @@ mark_typed : (schema : Schema) (db : Trees) (row : Row) → passes Datatype sche
 mark_typed schema db [] typed there = absurd (true≢false (sym there))
 mark_typed schema db (r ∷ []) typed there = absurd (true≢false (sym there))
 mark_typed schema db (r ∷ v ∷ []) typed there = absurd (true≢false (sym there))
-mark_typed schema db (r ∷ v ∷ w ∷ more) typed there = is_integer w (and_first _ _ (and_second _ _ (and_first _ _ typed))) (not_null _ (and_first _ _ there))
+mark_typed schema db (r ∷ v ∷ w ∷ more) typed there = is_integer w (and_parts _ _ (and_parts _ _ (and_parts _ _ typed).0).1).0 (not_null _ (and_parts _ _ there).0)
 
 are_marks : (layout : Layout) (db : Trees) → IsSound (schema_of layout) db → AllByRecursion IsMarkRow (db 0)
 are_marks Older db sound = all_both _ _ IsMarkRow (mark_typed (schema_of Older) db) (db 0) (sound.obeys.rules Datatype).0 (sound.obeys.rules NotNull).0

@@ -1,30 +1,39 @@
-pub mod AddNameLemmas
-pub mod AddedLemmas
-pub mod AdoptLemmas
-pub mod AnewLemmas
-pub mod AnswerLemmas
-pub mod BlameLemmas
-pub mod CantLemmas
-pub mod ChainLemmas
-pub mod ChangeLemmas
-pub mod ClearLemmas
-pub mod Common
-pub mod EntryLemmas
-pub mod ExamineLemmas
-pub mod ExpectedLemmas
-pub mod FoundLemmas
-pub mod GroupLemmas
-pub mod InsideLemmas
-pub mod KeyedLemmas
-pub mod LastLemmas
-pub mod MadeLemmas
-pub mod MakeLemmas
-pub mod NamedLemmas
-pub mod PutLemmas
-pub mod RangeLemmas
-pub mod RefusedLemmas
-pub mod SameLemmas
-pub mod StoreTables
-pub mod TableLemmas
-pub mod Texts
-pub mod TypedLemmas
+mod AddNameLemmas
+mod AddedLemmas
+mod AdoptLemmas
+mod AnewLemmas
+mod AnswerLemmas
+mod BlameLemmas
+mod CantLemmas
+mod ChainLemmas
+mod ChangeLemmas
+mod ClearLemmas
+mod Common
+mod EntryLemmas
+mod ExamineLemmas
+mod ExpectedLemmas
+mod FoundLemmas
+mod GroupLemmas
+mod InsideLemmas
+mod KeyedLemmas
+mod LastLemmas
+mod MadeLemmas
+mod MakeLemmas
+mod NamedLemmas
+mod PutLemmas
+mod RangeLemmas
+mod RefusedLemmas
+mod SameLemmas
+mod StoreTables
+mod TableLemmas
+mod Texts
+mod TypedLemmas
+-- what stands after one call and another
+pub use Rattle.ft_store.proofs.BlameLemmas.{blamed_then}
+pub use Rattle.ft_store.proofs.ChainLemmas.{kept_then}
+-- changes that no store refuses
+pub use Rattle.ft_store.proofs.CantLemmas.{nothing_put}
+-- a store that is opened has its own rowids
+pub use Rattle.ft_store.proofs.FoundLemmas.{found_numbered}
+-- a row that is put under its key
+pub use Rattle.ft_store.proofs.KeyedLemmas.{put-without_key}

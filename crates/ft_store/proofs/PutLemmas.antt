@@ -6,7 +6,7 @@ use Rattle.ft_values.specs.declared.rows.Spot.{Spot}
 use Rattle.ft_rows.specs.Packed.{CanPack, packed, unpacked}
 use Rattle.ft_store.specs.Rows.{value_of}
 use Rattle.ft_store.specs.Calls.{IsStore, Steps}
-use Rattle.ft_rows.proofs.PackedLemmas.{packed_is_read}
+use Rattle.ft_rows.proofs.{packed_is_read}
 use Rattle.ft_store.proofs.KeyedLemmas.{respects}
 use Rattle.ft_store.proofs.TypedLemmas.{tied_ints}
 

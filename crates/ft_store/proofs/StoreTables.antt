@@ -3,7 +3,7 @@ use Rattle.std.proofs.Common.{ℕ, List, ◌≡◌, ◌≢◌, ℤ, Bool, true, 
 use Rattle.ft_store.proofs.Common.{Row, column, bytes, ListKey, AllByRecursion, eq_by_cmp, tied_itself, find, or_parts, int_cmp_total}
 use Rattle.ft_store.proofs.Common.{nat_list_cmp_total, Value, Int, Text, first_key, without_case, Order, value_cmp-Text, binary, is_true, Compare, Eq}
 use Rattle.ft_store.proofs.Common.{Ne, Binary, NoCase, Trees, IsAscending, rowid, Unique, agree, clashes, differ, IsSound, at_ints, at_texts}
-use Rattle.ft_store.proofs.Common.{all_weaker, cell_key_cmp, list_key_cmp, column_key_cmp, name_cmp, and_first, IsTotalOrder, Table, with_tree, Has}
+use Rattle.ft_store.proofs.Common.{all_weaker, cell_key_cmp, list_key_cmp, column_key_cmp, name_cmp, and_parts, IsTotalOrder, Table, with_tree, Has}
 use Rattle.ft_store.proofs.Common.{are_unique, Cell, CellKey, ColumnKey, StoreValue, list_all, put, where_key, eqb-false, put_row, is_int, is_taken}
 use Rattle.ft_store.proofs.Common.{are_fresh, put_all, Term, holds, State, Shows, filter-map, ordering_then, ordering_reverse, Null, from_truth}
 use Rattle.ft_store.proofs.Common.{numbered, Chosen, Executes, bound_value}
@@ -122,7 +122,7 @@ cases_agree r s p q e = then_true (same_cases _ _ _ _ q.name p.name (sym (tied_n
 -- ---- each table
 
 not_first : (b : Bool) → (not b && true) ≡ true → b ≡ false
-not_first b h = not_null b (and_first _ _ h)
+not_first b h = not_null b (and_parts _ _ h).0
 
 pub names_apart : (db : Trees) → HasOwnRowids (db 1) → AreApart int_cmp (map table_entry (db 1))
 names_apart db shaped = go (db 1) shaped.0 shaped.1

@@ -3,7 +3,7 @@ use Rattle.std.proofs.Common.{◌≡◌, ℕ, ℤ, List, refl, sym, ap, Ordering
 use Rattle.ft_store.proofs.Common.{IsTotalOrder, ordering_then, int_ranked, on_total, then_total, int_cmp_total, nat_list_cmp_total, same_bytes}
 use Rattle.ft_store.proofs.Common.{CellKey, ListKey, ColumnKey, cell_key_cmp, list_key_cmp, column_key_cmp, name_cmp, AllByRecursion, Value, Null}
 use Rattle.ft_store.proofs.Common.{Int, Real, Text, Blob, Row, column, bytes, Trees, id_in, rowid, is_int, is_null, Datatype, NotNull, are_typed}
-use Rattle.ft_store.proofs.Common.{is_of, suits, passes, IsSound, all_both, and_first, and_second, match_ordering, tied_itself, value_cmp}
+use Rattle.ft_store.proofs.Common.{is_of, suits, passes, IsSound, all_both, and_parts, match_ordering, tied_itself, value_cmp}
 use Rattle.ft_store.proofs.Common.{value_cmp_total, value_cmp-Int, IsAscending, put_row, is_taken, are_fresh, put_all, all-filter, ascending-filter}
 use Rattle.sqlite_schema.specs.declared.schema.Kind.TheVariants as kind
 use Rattle.ft_store.specs.Calls.{HasOwnRowids}
@@ -73,8 +73,8 @@ typed_at : (at : ℕ) (columns : List Column) (values : Row) → are_typed Rattl
     → is_of c.kind (slice_index_or values i Null) ≡ true
 typed_at at [] values h i c found strict = cc
 typed_at at (d ∷ columns) [] h i c found strict = refl
-typed_at at (d ∷ columns) (v ∷ values) h zero c found strict = let same : d ≡ c = cc in let first : suits d v ≡ true = and_first _ _ h in rw (same, strict) at first
-typed_at at (d ∷ columns) (v ∷ values) h (suc i) c found strict = typed_at (at + 1) columns values (and_second _ _ h) i c found strict
+typed_at at (d ∷ columns) (v ∷ values) h zero c found strict = let same : d ≡ c = cc in let first : suits d v ≡ true = (and_parts _ _ h).0 in rw (same, strict) at first
+typed_at at (d ∷ columns) (v ∷ values) h (suc i) c found strict = typed_at (at + 1) columns values (and_parts _ _ h).1 i c found strict
 
 pub is_integer : (v : Value) → is_of kind.Integer v ≡ true → is_null v ≡ false → v ≡ Int (id_in v)
 is_integer Null h n = absurd (true≢false n)
@@ -116,7 +116,7 @@ name_typed db (r ∷ []) typed id = absurd (true≢false (sym typed.1))
 name_typed db (r ∷ v ∷ []) typed id = absurd (true≢false (sym typed.1))
 name_typed db (r ∷ v ∷ w ∷ values) typed id = record {
   id = int_is r id;
-  name = is_text w (and_first _ _ (and_second _ _ (and_first _ _ typed.0))) (not_null _ (and_first _ _ typed.1));
+  name = is_text w (and_parts _ _ (and_parts _ _ (and_parts _ _ typed.0).0).1).0 (not_null _ (and_parts _ _ typed.1).0);
 }
 
 pub are_names : (db : Trees) → IsSound store_schema db → HasOwnRowids (db 1) → AllByRecursion IsNameRow (db 1)
@@ -134,13 +134,13 @@ pub record IsCellRow (row : Row) : Type 0 where
 cell_typed : (db : Trees) (row : Row) → passes Datatype store_schema db (cell_table 5) row ≡ true → passes NotNull store_schema db (cell_table 5) row ≡ true → IsCellRow row
 cell_typed db [] typed there = absurd (true≢false (sym there))
 cell_typed db (r ∷ values) typed there =
-    let kinds = typed_at 0 (cell_table 5).columns values (and_first _ _ typed) in
-    let n1 = and_second _ _ there in
-    let n2 = and_second _ _ n1 in
+    let kinds = typed_at 0 (cell_table 5).columns values (and_parts _ _ typed).0 in
+    let n1 = (and_parts _ _ there).1 in
+    let n2 = (and_parts _ _ n1).1 in
     record {
-      tab = is_integer _ (kinds 0 _ refl refl) (not_null _ (and_first _ _ there));
-      docid = is_integer _ (kinds 1 _ refl refl) (not_null _ (and_first _ _ n1));
-      at = is_integer _ (kinds 2 _ refl refl) (not_null _ (and_first _ _ n2));
+      tab = is_integer _ (kinds 0 _ refl refl) (not_null _ (and_parts _ _ there).0);
+      docid = is_integer _ (kinds 1 _ refl refl) (not_null _ (and_parts _ _ n1).0);
+      at = is_integer _ (kinds 2 _ refl refl) (not_null _ (and_parts _ _ n2).0);
     }
 
 pub are_cells : (db : Trees) → IsSound store_schema db → AllByRecursion IsCellRow (db 5)
@@ -156,12 +156,12 @@ pub record IsColumnRow (row : Row) : Type 0 where
 column_typed : (db : Trees) (row : Row) → passes Datatype store_schema db (col_table 3) row ≡ true → passes NotNull store_schema db (col_table 3) row ≡ true → IsColumnRow row
 column_typed db [] typed there = absurd (true≢false (sym there))
 column_typed db (r ∷ values) typed there =
-    let kinds = typed_at 0 (col_table 3).columns values (and_first _ _ typed) in
-    let n1 = and_second _ _ there in
+    let kinds = typed_at 0 (col_table 3).columns values (and_parts _ _ typed).0 in
+    let n1 = (and_parts _ _ there).1 in
     record {
-      tab = is_integer _ (kinds 0 _ refl refl) (not_null _ (and_first _ _ there));
-      at = is_integer _ (kinds 1 _ refl refl) (not_null _ (and_first _ _ n1));
-      name = is_text _ (kinds 2 _ refl refl) (not_null _ (and_first _ _ (and_second _ _ n1)));
+      tab = is_integer _ (kinds 0 _ refl refl) (not_null _ (and_parts _ _ there).0);
+      at = is_integer _ (kinds 1 _ refl refl) (not_null _ (and_parts _ _ n1).0);
+      name = is_text _ (kinds 2 _ refl refl) (not_null _ (and_parts _ _ (and_parts _ _ n1).1).0);
     }
 
 pub are_columns : (db : Trees) → IsSound store_schema db → AllByRecursion IsColumnRow (db 3)
@@ -178,15 +178,15 @@ pub record IsListRow (row : Row) : Type 0 where
 list_typed : (db : Trees) (row : Row) → passes Datatype store_schema db (posting_table 7) row ≡ true → passes NotNull store_schema db (posting_table 7) row ≡ true → IsListRow row
 list_typed db [] typed there = absurd (true≢false (sym there))
 list_typed db (r ∷ values) typed there =
-    let kinds = typed_at 0 (posting_table 7).columns values (and_first _ _ typed) in
-    let n1 = and_second _ _ there in
-    let n2 = and_second _ _ n1 in
-    let n3 = and_second _ _ n2 in
+    let kinds = typed_at 0 (posting_table 7).columns values (and_parts _ _ typed).0 in
+    let n1 = (and_parts _ _ there).1 in
+    let n2 = (and_parts _ _ n1).1 in
+    let n3 = (and_parts _ _ n2).1 in
     record {
-      tab = is_integer _ (kinds 0 _ refl refl) (not_null _ (and_first _ _ there));
-      term = is_text _ (kinds 1 _ refl refl) (not_null _ (and_first _ _ n1));
-      docid = is_integer _ (kinds 2 _ refl refl) (not_null _ (and_first _ _ n2));
-      list = is_blob _ (kinds 3 _ refl refl) (not_null _ (and_first _ _ n3));
+      tab = is_integer _ (kinds 0 _ refl refl) (not_null _ (and_parts _ _ there).0);
+      term = is_text _ (kinds 1 _ refl refl) (not_null _ (and_parts _ _ n1).0);
+      docid = is_integer _ (kinds 2 _ refl refl) (not_null _ (and_parts _ _ n2).0);
+      list = is_blob _ (kinds 3 _ refl refl) (not_null _ (and_parts _ _ n3).0);
     }
 
 pub are_lists : (db : Trees) → IsSound store_schema db → AllByRecursion IsListRow (db 7)
@@ -203,15 +203,15 @@ pub record IsSizeRow (row : Row) : Type 0 where
 size_typed : (db : Trees) (row : Row) → passes Datatype store_schema db (sizes_table 9) row ≡ true → passes NotNull store_schema db (sizes_table 9) row ≡ true → IsSizeRow row
 size_typed db [] typed there = absurd (true≢false (sym there))
 size_typed db (r ∷ values) typed there =
-    let kinds = typed_at 0 (sizes_table 9).columns values (and_first _ _ typed) in
-    let n1 = and_second _ _ there in
-    let n2 = and_second _ _ n1 in
-    let n3 = and_second _ _ n2 in
+    let kinds = typed_at 0 (sizes_table 9).columns values (and_parts _ _ typed).0 in
+    let n1 = (and_parts _ _ there).1 in
+    let n2 = (and_parts _ _ n1).1 in
+    let n3 = (and_parts _ _ n2).1 in
     record {
-      tab = is_integer _ (kinds 0 _ refl refl) (not_null _ (and_first _ _ there));
-      docid = is_integer _ (kinds 1 _ refl refl) (not_null _ (and_first _ _ n1));
-      at = is_integer _ (kinds 2 _ refl refl) (not_null _ (and_first _ _ n2));
-      n = is_integer _ (kinds 3 _ refl refl) (not_null _ (and_first _ _ n3));
+      tab = is_integer _ (kinds 0 _ refl refl) (not_null _ (and_parts _ _ there).0);
+      docid = is_integer _ (kinds 1 _ refl refl) (not_null _ (and_parts _ _ n1).0);
+      at = is_integer _ (kinds 2 _ refl refl) (not_null _ (and_parts _ _ n2).0);
+      n = is_integer _ (kinds 3 _ refl refl) (not_null _ (and_parts _ _ n3).0);
     }
 
 pub are_sizes : (db : Trees) → IsSound store_schema db → AllByRecursion IsSizeRow (db 9)
@@ -225,9 +225,9 @@ pub record IsNoteRow (row : Row) : Type 0 where
 note_typed : (db : Trees) (row : Row) → passes Datatype store_schema db (noted_table 11) row ≡ true → passes NotNull store_schema db (noted_table 11) row ≡ true → IsNoteRow row
 note_typed db [] typed there = absurd (true≢false (sym there))
 note_typed db (r ∷ values) typed there =
-    let kinds = typed_at 0 (noted_table 11).columns values (and_first _ _ typed) in
+    let kinds = typed_at 0 (noted_table 11).columns values (and_parts _ _ typed).0 in
     record {
-      name = is_text _ (kinds 0 _ refl refl) (not_null _ (and_first _ _ there));
+      name = is_text _ (kinds 0 _ refl refl) (not_null _ (and_parts _ _ there).0);
     }
 
 pub are_notes : (db : Trees) → IsSound store_schema db → AllByRecursion IsNoteRow (db 11)
@@ -242,11 +242,11 @@ pub record IsSkipRow (row : Row) : Type 0 where
 skip_typed : (db : Trees) (row : Row) → passes Datatype store_schema db (skip_table 13) row ≡ true → passes NotNull store_schema db (skip_table 13) row ≡ true → IsSkipRow row
 skip_typed db [] typed there = absurd (true≢false (sym there))
 skip_typed db (r ∷ values) typed there =
-    let kinds = typed_at 0 (skip_table 13).columns values (and_first _ _ typed) in
-    let n1 = and_second _ _ there in
+    let kinds = typed_at 0 (skip_table 13).columns values (and_parts _ _ typed).0 in
+    let n1 = (and_parts _ _ there).1 in
     record {
-      tab = is_integer _ (kinds 0 _ refl refl) (not_null _ (and_first _ _ there));
-      at = is_integer _ (kinds 1 _ refl refl) (not_null _ (and_first _ _ n1));
+      tab = is_integer _ (kinds 0 _ refl refl) (not_null _ (and_parts _ _ there).0);
+      at = is_integer _ (kinds 1 _ refl refl) (not_null _ (and_parts _ _ n1).0);
     }
 
 pub are_skips : (db : Trees) → IsSound store_schema db → AllByRecursion IsSkipRow (db 13)

@@ -69,10 +69,6 @@ same_steps names table_a table_b n m found from tables counts = λ j. import_ste
 
 -- ---- rows of a file
 
-pub no_rows : (first : ℕ) (records : List (Vec (String Global) Global)) → length records < 1 → enumerate_from first (map texts_of records) ≡ nothing
-no_rows first [] h = refl
-no_rows first (record_at ∷ records) h = absurd (omega (arith, h))
-
 pub split_rows : (first : ℕ) (records : List (Vec (String Global) Global)) (d : Vec (String Global) Global) (row : List (List ℕ)) → 1 ≤ length records → row ≡ texts_of (get_or records 0 d) →
     enumerate_from first (map texts_of records) ≡ (first, row) ∷ enumerate_from (first + 1) (map texts_of (take (length records - 1) (drop 1 records)))
 split_rows first [] d row h is = absurd (omega (arith, h))

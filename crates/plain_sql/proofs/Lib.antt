@@ -1,8 +1,12 @@
-pub mod Common
-pub mod ImportLemmas
-pub mod AnswerLemmas
-pub mod QueryLemmas
-pub mod TablesLemmas
-pub mod CountLemmas
-pub mod PlainImportLemmas
-pub mod ImportTurnLemmas
+mod Common
+mod ImportLemmas
+mod AnswerLemmas
+mod QueryLemmas
+mod TablesLemmas
+mod CountLemmas
+mod PlainImportLemmas
+mod ImportTurnLemmas
+-- the records of an import as steps
+pub use Rattle.plain_sql.proofs.ImportTurnLemmas.{left_rows, records_numbered, split_rows}
+-- a plain statement over a clean disk
+pub use Rattle.plain_sql.proofs.QueryLemmas.{if_clean}

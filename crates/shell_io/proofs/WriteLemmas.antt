@@ -27,9 +27,6 @@ appends_kept (Some p) (Some q) (Some r) x h k = k ∙ h
 
 -- ---- a front of a text
 
-pub up_to_whole : (a b : Option (List ℕ)) (x : List ℕ) → Appends a b x → AppendsUpTo a b x
-up_to_whole a b x h = (x, [], sym (append-nil x), h)
-
 pub up_to_part : (a b : Option (List ℕ)) (x : List ℕ) → AppendsFront a b x → AppendsUpTo a b x
 up_to_part a b x (k, within, h) = (take k x, drop k x, sym (take-append-drop k x), h)
 

@@ -1,25 +1,25 @@
 mod Rows
 mod Prints
-pub mod DotLines
-pub mod Restart
-pub mod Blocks
-pub mod Rising
-pub mod Lexing
-pub mod WordLoop
-pub mod Scanning
-pub mod Boundaries
-pub mod Keeping
-pub mod ReadOn
-pub mod Splitters
-pub mod WordBounds
-pub mod Quoting
-pub mod Writing
-pub mod Columns
-pub mod Grids
-pub mod Listing
-pub mod FieldLemmas
-pub mod FormRuns
-pub mod FormSplits
-pub mod FormLaw
-pub mod DotFormLaw
+mod DotLines
+mod Restart
+mod Blocks
+mod Rising
+mod Lexing
+mod WordLoop
+mod Scanning
+mod Boundaries
+mod Keeping
+mod ReadOn
+mod Splitters
+mod WordBounds
+mod Quoting
+mod Writing
+mod Columns
+mod Grids
+mod Listing
+mod FieldLemmas
+mod FormRuns
+mod FormSplits
+mod FormLaw
+mod DotFormLaw
 mod WordRows

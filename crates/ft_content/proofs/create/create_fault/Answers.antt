@@ -1,7 +1,8 @@
 -- the tests one after the other: options as pairs of texts, and tables by their names
 use Rattle.std.proofs.Common.{◌≡◌, ℕ, Bool, true, false, List, [], ◌∷◌, map, not, ◌&&◌, ◌||◌, codes, is_some, refl, ap, sym, ◌∙◌, rules, tests, string_bytes}
 use Rattle.ft_content.proofs.Common.{list_any, list_all, YieldsList-from_slice, same_name, is_name, Contents, is_tokenize, is_notindexed, table_named, option_of, table_names, info_names}
-use Rattle.ft_content.proofs.Lists.{any_of_map, any_shown, all_of_map, all_shown, length_of_map}
+use Rattle.std.proofs.lemmas.List.Folds.{list_all-map}
+use Rattle.ft_content.proofs.Lists.{any_of_map, any_shown, all_shown, length_of_map}
 use Rattle.ft_content.proofs.TableLemmas.{is_named, as_many}
 use Rattle.ft_content.proofs.create.create_fault.Goals.{After-any, After-all, Joined-is_name, then-is_name, else-is_name, After-has_table-is_there, After-any-else-tables-ge1000}
 use Rattle.ft_content.proofs.create.create_fault.Goals as goal
@@ -22,7 +23,7 @@ known c =
 named : (c : Joined-is_name) → c.if-is_name.value ≡ (is_name (string_bytes c.args.creation.now.table) && list_all is_name (map string_bytes c.args.names.now))
 named c =
     elim c.if-is_name.branch as (λ _. c.if-is_name.value ≡ (is_name (string_bytes c.args.creation.now.table) && list_all is_name (map string_bytes c.args.names.now))) [
-      | then-is_name w ↦ search (rules, all_of_map)
+      | then-is_name w ↦ search (rules, list_all-map)
       | else-is_name w ↦ search rules
     ]
 

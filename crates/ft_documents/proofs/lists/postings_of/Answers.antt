@@ -1,8 +1,8 @@
 -- one row more
 use Rattle.std.proofs.Common.{◌≡◌, ◌++◌, map, ap, sym, ◌∙◌, rules, to_z, of_z, w64}
 use Rattle.sqlite_keyed.proofs.ListLemmas.{map-map}
-use Rattle.ft_rows.proofs.ListLemmas.{one_more_list}
 use Rattle.ft_documents.proofs.Common.{YieldsList-from_slice, YieldsList-from_map, items_from_extend, YieldsList-at, IfOk-at_ok, PlaceList, place_of, list_of, placed_in}
+use Rattle.ft_documents.proofs.Steps.{one_more_list}
 use Rattle.ft_documents.proofs.lists.postings_of.Goals as goal
 
 pub loop-row-preserved : goal.loop-row-preserved

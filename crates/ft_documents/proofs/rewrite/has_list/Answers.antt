@@ -1,6 +1,6 @@
 -- by a search among lists in order
 use Rattle.std.proofs.Common.{◌≡◌, Some, map, sym, ap, subst, ◌∙◌, rules}
-use Rattle.ft_content.proofs.IndexLemmas.{key_cmp_total}
+use Rattle.ft_content.proofs.{key_cmp_total}
 use Rattle.ft_documents.proofs.Common.{find, IsBinarySearchResult, always_returns_same, key_cmp, kept_list, same_spots, was_there}
 use Rattle.ft_documents.proofs.ListSearch.{row_is, no_row}
 use Rattle.ft_documents.proofs.rewrite.has_list.Goals as goal

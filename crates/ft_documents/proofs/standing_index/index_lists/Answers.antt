@@ -1,6 +1,6 @@
 -- one document more, and the index of all
 use Rattle.std.proofs.Common.{◌≡◌, [], ◌∷◌, List, ℤ, map, sym, ap, subst, ◌∙◌, rules, to_z, of_z, w64, map-id}
-use Rattle.ft_content.proofs.RowLemmas.{rows_are_read}
+use Rattle.ft_content.proofs.{rows_are_read}
 use Rattle.ft_documents.proofs.Common.{YieldsList-from_vec, YieldsList-end, map-append, Content, CellRow, Column, Documents, gathered, index_rows, content_with, column_of, shown_document, AddsDocuments, lists_joined_by, sizes_with, index_lists_of, sized, HaveContent, shown_row}
 use Rattle.ft_documents.proofs.IndexOf.{lists_with-append, sizes_with-append, lists_made, sizes_made}
 use Rattle.ft_documents.proofs.RowKinds.{stored_sizes}

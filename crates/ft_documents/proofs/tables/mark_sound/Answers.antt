@@ -1,6 +1,6 @@
 -- one table more, and all of them
 use Rattle.std.proofs.Common.{◌≡◌, ◌+◌, ◌<◌, true, false, cond, map, length, drop, get_or, sym, ap, ◌∙◌, arith, rules, to_z, of_z, w64, to_z-of_z, int_eq, take_all}
-use Rattle.ft_query.proofs.Sweeps.{swept, sweep_next, sweep_end}
+use Rattle.ft_query.proofs.{swept, sweep_next, sweep_end}
 use Rattle.ft_documents.proofs.Common.{take-append-le, TableInfo, shown_info, sound_if, with_sound}
 use Rattle.ft_documents.proofs.tables.mark_sound.Goals.{then-table-id, else-table-id}
 use Rattle.ft_documents.proofs.tables.mark_sound.Goals as goal

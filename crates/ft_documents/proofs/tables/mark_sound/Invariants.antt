@@ -1,6 +1,6 @@
 -- the tables so far have their marks
 use Rattle.std.proofs.Common.{◌≡◌, map}
-use Rattle.ft_query.proofs.Sweeps.{swept}
+use Rattle.ft_query.proofs.{swept}
 use Rattle.ft_documents.proofs.Common.{shown_info, sound_if}
 use Rattle.ft_documents.proofs.tables.mark_sound.Given as goal
 

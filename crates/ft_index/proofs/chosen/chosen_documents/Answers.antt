@@ -5,7 +5,7 @@ use Rattle.ft_index.proofs.Common.{IfOk-weaker, map-map, Hit, Tree, tree_of, pla
 use Rattle.ft_index.proofs.Common.{ReadsFilterAs, document_at, chosen_hits, as_wanted, more_rows, AreThere}
 use Rattle.std.specs.declared.alloc.AllocError.{AllocError}
 use Rattle.ft_content.specs.declared.command.Filter.{Filter}
-use Rattle.ft_documents.proofs.ChosenLemmas.{chosen_all, chosen_one, of_hits}
+use Rattle.ft_documents.proofs.{chosen_all, chosen_one, of_hits}
 use Rattle.ft_index.proofs.Doing.{rows_then, index_first, on_ok_from, then_blamed, has_at, index_in, hits_there}
 use Rattle.ft_index.proofs.SelectAnswers.{one_rows}
 use Rattle.ft_index.proofs.chosen.chosen_documents.Goals as goal

@@ -1,7 +1,7 @@
 -- the documents that the rows are of
 use Rattle.std.proofs.Common.{rules, ℕ, ap, ◌∙◌, to_z-of_z}
 use Rattle.ft_store.specs.Kept.{value_in, more_rows, shows}
-use Rattle.ft_documents.proofs.ReadRows.{all_read}
+use Rattle.ft_documents.proofs.{all_read}
 use Rattle.ft_index.proofs.SelectAnswers.{all_rows}
 use Rattle.ft_index.proofs.Doing.{store_blamed}
 use Rattle.ft_index.proofs.documents.all_documents.Goals as goal

@@ -2,9 +2,10 @@
 use Rattle.std.proofs.Common.{rules, ℕ, ℤ, true, false, cond, List, map, length, ap, sym, ◌∙◌, to_z-of_z, ◌≡◌}
 use Rattle.ft_index.proofs.Common.{length-map, Cell, value_in, more_rows, shows, cut}
 use Rattle.ft_store.specs.Docids.{docids_in}
-use Rattle.ft_content.proofs.AnswerLemmas.{cut_of_map}
+use Rattle.ft_content.proofs.{cut_of_map}
+use Rattle.ft_documents.proofs.{docids_read}
 use Rattle.ft_index.specs.RowsRead.{are_short}
-use Rattle.ft_index.proofs.SelectAnswers.{docids_read, cut_is}
+use Rattle.ft_index.proofs.SelectAnswers.{cut_is}
 use Rattle.ft_index.proofs.Doing.{store_blamed}
 use Rattle.ft_index.proofs.documents.docids.Goals as goal
 

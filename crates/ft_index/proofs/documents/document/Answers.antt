@@ -5,7 +5,7 @@ use Rattle.ft_index.proofs.Common.{more_rows, shows}
 use Rattle.std.specs.declared.alloc.AllocError.{AllocError}
 use Rattle.std.proofs.lemmas.Iterator.Adapters.{YieldsList-from_vec}
 use Rattle.ft_values.specs.declared.rows.CellRow.{CellRow}
-use Rattle.ft_documents.proofs.ReadRows.{none_read, some_read}
+use Rattle.ft_documents.proofs.{none_read, some_read}
 use Rattle.ft_index.proofs.Doing.{store_blamed}
 use Rattle.ft_index.proofs.documents.document.Goals as goal
 use Rattle.ft_index.proofs.documents.document.Goals.{After-collect}

@@ -1,7 +1,7 @@
 -- by the cells of the docid
 use Rattle.std.proofs.Common.{rules, sym, ap, ◌∙◌, to_z-of_z, w64, FitsSigned}
 use Rattle.ft_index.proofs.Common.{value_in, shows, has_given}
-use Rattle.ft_index.proofs.SelectAnswers.{there_read}
+use Rattle.ft_documents.proofs.{there_read}
 use Rattle.ft_index.proofs.Doing.{store_blamed}
 use Rattle.ft_index.proofs.documents.has_document.Goals as goal
 

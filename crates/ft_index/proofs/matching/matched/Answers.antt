@@ -1,6 +1,6 @@
 -- what the walk finds, said of the store that the lists were lent, is what the query's text chooses
-use Rattle.std.proofs.Common.{◌≡◌, ◌∙◌, ◌+◌, ◌-◌, ◌<◌, ◌^◌, ◌||◌, true, ℕ, List, None, Ok, Err, Result, inl, inr, min, map, option_map, sym, ap, ap₂, subst, subst₂, arith, rules, is_ok, IsTrue, IfErr}
-use Rattle.ft_index.proofs.Common.{HasCleanDisk, IsBlamed, shows, value_in, tree_of, plain_hit, StoreState, Fault, Content, cut, content_documents}
+use Rattle.std.proofs.Common.{◌≡◌, ◌∙◌, ◌+◌, ◌-◌, ◌<◌, ◌^◌, ◌||◌, true, ℕ, zero, suc, List, [], Option, Some, None, refl, Ok, Err, Result, inl, inr, min, map, option_map, sym, ap, ap₂, subst, subst₂, arith, rules, is_ok, IsTrue, IfErr}
+use Rattle.ft_index.proofs.Common.{HasCleanDisk, IsBlamed, shows, value_in, tree_of, plain_hit, PlainHit, StoreState, Fault, Content, cut, content_documents}
 use Rattle.ft_index.proofs.Common.{HasContent, table_index, as_wanted, entries_asked, IsOutside, table_documents, IsIndexed}
 use Rattle.ft_query.specs.Work.{entry_count}
 use Rattle.ft_query.specs.Occurs.{hits_of}
@@ -8,7 +8,7 @@ use Rattle.ft_query.specs.Walk.{StandsBefore}
 use Rattle.ft_query.specs.Lists.{is_failed}
 use Rattle.ft_query.specs.declared.lists.ListFault.TheVariants as refusals
 use Rattle.ft_content.specs.Answer.{query_read}
-use Rattle.ft_documents.proofs.MatchedLemmas.{hits_chosen, none_chosen, cut_none}
+use Rattle.ft_documents.proofs.{hits_chosen, none_chosen}
 use Rattle.ft_index.specs.DocumentsRead.{LooksFor}
 use Rattle.ft_index.specs.Walked.{AreReliable}
 use Rattle.ft_index.proofs.Doing.{Read, Grows, all_read, all_same, all_fails, rows_of_walk, on_ok_if}
@@ -79,7 +79,7 @@ pub returns-in_default-clause-told : goal.returns-in_default-clause-told
 returns-in_default-clause-told g c = λ content name text read indexed.
     let none : c.args.query ≡ None = search rules in
     ap (map plain_hit) c.new.ensures.items
-    ∙ sym (ap (λ hs. cut c.args.most 0 (map (as_wanted c.args.wants_offsets) hs)) (none_chosen content name text (read ∙ ap (λ q. Ok (option_map (λ q. tree_of q.now) q)) none)) ∙ cut_none c.args.most)
+    ∙ sym (ap (λ hs. cut c.args.most 0 (map (as_wanted c.args.wants_offsets) hs)) (none_chosen content name text (read ∙ ap (λ q. Ok (option_map (λ q. tree_of q.now) q)) none)) ∙ elim c.args.most as (λ (most : Option ℕ). cut {A = PlainHit} most 0 [] ≡ []) [ None ↦ refl | Some n ↦ elim n as (λ n. cut {A = PlainHit} (Some n) 0 [] ≡ []) [ zero ↦ refl | suc m ↦ refl ] ])
 
 pub returns-in_ok-taken-in-Ok-clause-looks : goal.returns-in_ok-taken-in-Ok-clause-looks
 returns-in_ok-taken-in-Ok-clause-looks g c =

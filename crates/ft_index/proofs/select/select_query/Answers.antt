@@ -2,7 +2,7 @@
 use Rattle.std.proofs.Common.{◌≡◌, inr, ◌∙◌, Option, Some, string_bytes, sym, ap}
 use Rattle.ft_index.proofs.Common.{Fault, or_else, query_fault, bare_content, items_of, filter_of}
 use Rattle.ft_content.specs.Deserved.{select_tests}
-use Rattle.ft_documents.proofs.FaultLemmas.{if_err_memory}
+use Rattle.ft_index.proofs.FaultLemmas.{if_err_memory}
 use Rattle.ft_index.proofs.select.select_query.Goals as goal
 
 pub returns-in-Some-clause-fault : goal.returns-in-Some-clause-fault

@@ -3,7 +3,7 @@ use Rattle.std.proofs.Common.{inr, ◌≡◌, ◌∷◌, [], List, Ok, refl, sym
 use Rattle.ft_index.proofs.Common.{shown_change, Change, DropTable, RowChange, RustTableInfo, same_name, Drop, TableInfo, shown_info, info_named}
 use Rattle.ft_index.proofs.Common.{PlansFrom}
 use Rattle.std.proofs.lemmas.Option.{slice_get_read, slice_get_within, same_Some}
-use Rattle.ft_documents.proofs.FoundLemmas.{placed, unplaced}
+use Rattle.ft_documents.proofs.{placed, unplaced}
 use Rattle.ft_index.proofs.OneTable.{none_named}
 use Rattle.ft_index.proofs.TablePlans.{drop_missing, drop_spared, drop_planned}
 use Rattle.ft_index.proofs.tables.drop_changes.Goals as goal

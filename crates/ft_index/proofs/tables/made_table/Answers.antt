@@ -1,13 +1,21 @@
 -- the names of the tables are those of the contents
-use Rattle.std.proofs.Common.{◌≡◌, inr, List, Option, String, Global, refl, sym, ap, ◌∙◌, map, string_bytes, Some, FitsSigned, w64, to_z-of_z, rules, is_some, position}
+use Rattle.std.proofs.Common.{◌≡◌, inr, List, Option, String, Global, refl, sym, ap, ◌∙◌, map, string_bytes, Some, FitsSigned, w64, to_z-of_z, rules, is_some, position, Bool, None, find, ℕ}
 use Rattle.ft_index.proofs.Common.{table_info, Fault, RustTableInfo, same_name, Contents, create_fault, deserved, made_columns, made_column}
 use Rattle.ft_index.proofs.Common.{TableInfo, shown_info, option_of, names_in, creation_of, info_named}
-use Rattle.ft_documents.proofs.FoundLemmas.{found_is, unplaced}
+use Rattle.ft_documents.proofs.{placed, unplaced}
 use Rattle.ft_index.proofs.OneTable.{not_some, same_names, same_ids, create_due, is_named, none_named}
 use Rattle.ft_index.proofs.Doing.{err_of}
 use Rattle.ft_index.proofs.NoStore.{created_other, names_as, some_contents}
 use Rattle.ft_index.proofs.tables.made_table.Goals as goal
 use Rattle.ft_index.proofs.tables.made_table.Goals.{After-create_fault}
+
+-- one passes exactly where it has a place
+found_is : {A B : Type 0} (f : A → B) (q : B → Bool) (xs : List A) → is_some (find q (map f xs)) ≡ is_some (position (λ x. q (f x)) xs)
+found_is f q xs = go (position (λ x. q (f x)) xs) refl
+  where
+    go : (at : Option ℕ) → position (λ x. q (f x)) xs ≡ at → is_some (find q (map f xs)) ≡ is_some (position (λ x. q (f x)) xs)
+    go None h = ap is_some (unplaced f q xs h) ∙ sym (ap is_some h)
+    go (Some i) h = ap is_some (placed f q xs i h).found ∙ sym (ap is_some h)
 
 -- what the tests tell, as the definitions have it
 due_in : (c : After-create_fault) (due : Option Fault) → c.create_fault.result ≡ due → (contents : Contents) → map shown_info c.args.tables.now ≡ map table_info contents → deserved contents (creation_of c.args.creation.now) ≡ due

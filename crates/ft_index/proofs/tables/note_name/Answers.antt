@@ -4,7 +4,7 @@ use Rattle.ft_index.proofs.Common.{Change, Note, shown_change, fault_of_read, Ma
 use Rattle.ft_values.specs.declared.fault.Fault.TheVariants as faults
 use Rattle.ft_index.proofs.Doing.{makes_nothing, makes_then, outside_of, unasked, is_refused, clean_before, note_can}
 use Rattle.ft_store.specs.declared.fault.StoreFault.TheVariants as causes
-use Rattle.ft_store.proofs.BlameLemmas.{blamed_then}
+use Rattle.ft_store.proofs.{blamed_then}
 use Rattle.ft_index.proofs.tables.note_name.Goals as goal
 
 pub returns-in_err-from_str-clause-makes : goal.returns-in_err-from_str-clause-makes

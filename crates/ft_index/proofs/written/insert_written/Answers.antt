@@ -1,5 +1,5 @@
 -- by the table, the tests, and what the rows make where docids are read
-use Rattle.std.proofs.Common.{rules, ℕ, false, zip, ◌≡◌, inl, inr, List, [], Bor, String, Option, None, Some, map, option_map, string_bytes, Err, Ok, Result, Vec, Global, refl, sym, ap, subst, ◌∙◌, arith, to_z-of_z, to_z, of_z, w64, FitsSigned}
+use Rattle.std.proofs.Common.{rules, ℕ, true, false, zip, ◌≡◌, inl, inr, List, [], Bor, String, Option, None, Some, map, option_map, string_bytes, Err, Ok, Result, Vec, Global, refl, sym, ap, subst, ◌∙◌, arith, to_z-of_z, to_z, of_z, w64, FitsSigned}
 use Rattle.ft_index.proofs.Common.{unwrap_or, HasCleanDisk, Ghosts, fault_of_read, AreInOrder, StoreState, shows, value_in, Fault, Value}
 use Rattle.ft_index.proofs.Common.{RustTableInfo, Content, repeats_name, inserted_rows, listed_columns, TableInfo, bare_content, cells_of, column_of}
 use Rattle.ft_index.proofs.Common.{insertion_of, names_in, shown_info, IsSoundNamed, IsUnfit, Written, HasAll, WritesDocuments}
@@ -10,9 +10,7 @@ use Rattle.ft_content.specs.Command as plain
 use Rattle.ft_content.specs.declared.command.Insertion.{Insertion}
 use Rattle.ft_content.specs.Views.{last_docid}
 use Rattle.ft_documents.specs.Inserted.{AreKnown, MakesDocuments}
-use Rattle.ft_documents.proofs.InsertDue.{insert_repeats}
-use Rattle.ft_documents.proofs.InsertRows.{known_from}
-use Rattle.ft_documents.proofs.ReadRows.{last_read}
+use Rattle.ft_documents.proofs.{insert_deserves, known_from, last_read}
 use Rattle.ft_index.proofs.InsertWrites.{due, made, news, is_write, tested_writes, tests_are, rows_are, writes}
 use Rattle.ft_index.proofs.Doing.{rows_first, rows_then, outside_of, rows_in, err_of, over_sound}
 use Rattle.ft_index.proofs.Writing.{plans_unfit, plans_failed, writes_do}
@@ -39,7 +37,7 @@ returns-then-repeats_name-clause-told g c =
     subst (λ (command : plain.Command). PlansTo g.S.Store (map shown_info c.args.tables.now) c.args.store.now c.args.store.now command (Err faults.DuplicateColumn)) (λ i. plain.Insert (string_bytes w.table) (listed_are c.as_deref-listed.result c.args.insertion.now.columns c.as_deref-listed.ensures.value i) (map cells_of w.rows.items))
     (λ up contents held.
     let columns = option_map (λ n. map string_bytes n.now) c.as_deref-listed.result in
-    inr (insert_repeats contents (string_bytes w.table) columns (map cells_of w.rows.items) (twice_is c.as_deref-listed.result _ refl ∙ sym (c.repeats_name.ensures ∙ ap (λ (r : Bor (List (String Global))). repeats_name (map string_bytes r.now)) c.unwrap_or.ensures) ∙ c.if-repeats_name.true)))
+    inr (insert_deserves contents (string_bytes w.table) columns (map cells_of w.rows.items) true (twice_is c.as_deref-listed.result _ refl ∙ sym (c.repeats_name.ensures ∙ ap (λ (r : Bor (List (String Global))). repeats_name (map string_bytes r.now)) c.unwrap_or.ensures) ∙ c.if-repeats_name.true)))
 
 pub returns-in_err-table-clause-told : goal.returns-in_err-table-clause-told
 returns-in_err-table-clause-told g c =

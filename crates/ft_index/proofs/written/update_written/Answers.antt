@@ -9,9 +9,9 @@ use Rattle.std.specs.declared.alloc.AllocError.{AllocError}
 use Rattle.ft_values.specs.declared.fault.Fault.TheVariants as faults
 use Rattle.ft_content.specs.declared.command.Modification.{Modification}
 use Rattle.ft_content.specs.Command as plain
-use Rattle.ft_content.proofs.ContentLemmas.{update_keeps_content}
+use Rattle.ft_content.proofs.{update_keeps_content}
+use Rattle.ft_documents.specs.Gathered.{has_given}
 use Rattle.ft_documents.specs.Updated.{changing, MayMove}
-use Rattle.ft_documents.proofs.InsertRows.{given_is}
 use Rattle.ft_index.proofs.Doing.{looks_then, rows_first, rows_then, index_first, rows_in, index_in, err_of, over_sound, has_at}
 use Rattle.ft_index.proofs.Writing.{plans_unfit, plans_failed, writes_do}
 use Rattle.ft_index.proofs.SelectAnswers.{reads_passed}
@@ -125,7 +125,7 @@ moves_in g c content has =
     subst (λ (r : Result (Vec ℤ Global) AllocError). IfOk r (λ (v : Vec ℤ Global). v.items ≡ map (λ (d : Document). d.docid) c.deref.result.now)) ok
     (items_from_collect c.collect.result c.collect.ensures.ran (YieldsList-from_map _ (λ (d : Document). d.docid) (YieldsList-from_slice c.deref.result.now cc) c.map.ensures.closure (λ x r q k. search rules))) in
     let listed = map-map (λ (d : ℤ × List Cell). d.0) shown_document documents ∙ sym (c.as_slice.ensures.value ∙ numbers ∙ ap (map (λ (d : Document). d.docid)) c.deref.ensures.value) in
-    let known = subst (λ (b : Bool). IfSome c.set_docid-given.result (λ docid. has_docid content.documents docid ≡ b)) (sym taken) (given_is content.documents c.set_docid-given.result) in
+    let known = subst (λ (b : Bool). IfSome c.set_docid-given.result (λ docid. has_docid content.documents docid ≡ b)) (sym taken) (elim c.set_docid-given.result as (λ given. IfSome given (λ docid. has_docid content.documents docid ≡ has_given content.documents given)) [ None ↦ tt | Some docid ↦ refl ]) in
     let moved : moves_fault content.documents (chosen content f) (docids_named sets) ≡ c.moves_fault.result =
     ap (λ ds. moves_fault content.documents ds (docids_named sets)) (sym found) ∙ sym (c.moves_fault.ensures content.documents (map shown_document documents) (docids_named sets) listed given known) in (
       found,

@@ -3,7 +3,7 @@ use Rattle.std.proofs.Common.{rules, ◌≡◌, ◌++◌, ◌∷◌, [], codes, 
 use Rattle.std.specs.Fmt.{signed_decimal}
 use Rattle.std.specs.Io.KnownBytes.{Appends}
 use Rattle.shell_io.specs.Writing.{AppendsUpTo}
-use Rattle.shell_io.proofs.WriteLemmas.{sends_err, sends_then, up_to_more, up_to_then}
+use Rattle.shell_io.proofs.{sends_err, sends_then, up_to_more, up_to_then}
 use Rattle.ft_program.proofs.start.send_version.Goals as goal
 
 pub returns-in_err-send : goal.returns-in_err-send

@@ -3,7 +3,7 @@ use Rattle.std.proofs.Common.{◌≡◌, Some, length, refl, sym, ap, ◌∙◌,
 use Rattle.std.proofs.lemmas.Option.{slice_get_read, slice_get_within, same_Some}
 use Rattle.ft_values.specs.Names.{same_name}
 use Rattle.ft_values.specs.declared.table.TableInfo.{TableInfo as RustTableInfo}
-use Rattle.ft_documents.proofs.FoundLemmas.{placed, unplaced}
+use Rattle.ft_documents.proofs.{placed, unplaced}
 use Rattle.ft_shell.proofs.Common.{length-map, TableInfo, shown_info, column_of}
 use Rattle.ft_shell.proofs.import.columns_named.Goals as goal
 

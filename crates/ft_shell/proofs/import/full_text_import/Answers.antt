@@ -4,7 +4,7 @@ use Rattle.plain_sql.specs.Imports.{row_cells}
 use Rattle.shell_io.specs.OutputViews.{answer_as}
 use Rattle.shell_io.specs.Records.{records_in, warnings}
 use Rattle.shell_io.specs.Outcomes.{blames, warned}
-use Rattle.plain_sql.proofs.ImportTurnLemmas.{records_numbered}
+use Rattle.plain_sql.proofs.{records_numbered}
 use Rattle.ft_shell.proofs.Common.{enumerate_from, Insert, command_of, reply_of, fault_text, texts_of, InsertTurn, executed}
 use Rattle.ft_shell.proofs.import.full_text_import.Goals as goal
 

@@ -5,7 +5,7 @@ use Rattle.shell_io.specs.OutputViews.{answer_as}
 use Rattle.shell_io.specs.Records.{kept}
 use Rattle.shell_io.specs.Sources.{GivesFile, Refuses, fetch_words}
 use Rattle.shell_io.specs.Outcomes.{blames, lacks_memory}
-use Rattle.plain_sql.proofs.ImportTurnLemmas.{left_rows}
+use Rattle.plain_sql.proofs.{left_rows}
 use Rattle.ft_shell.proofs.Common.{enumerate_from, import_as, texts_of, BytesTurn, DelimitedTurn, IntoNamed, width_in, fetched, read, unfetched}
 use Rattle.ft_shell.proofs.ImportTurnLemmas.{records_refused}
 use Rattle.ft_shell.proofs.import.import_turn.Goals as goal

@@ -2,16 +2,17 @@
 use Rattle.std.proofs.Common.{rules, ◌≡◌, ◌<◌, ◌≤◌, ◌+◌, ◌-◌, Some, length, map, take, drop, string_bytes, refl, sym, ap, ◌∙◌, subst, arith}
 use Rattle.plain_sql.specs.IntoTables.{fault_words}
 use Rattle.shell_io.specs.OutputViews.{answer_as}
-use Rattle.plain_sql.specs.PlainImports.{CommitsAll, Declines}
+use Rattle.plain_sql.specs.PlainImports.{CommitsAll, Declines, import_steps}
 use Rattle.shell_io.specs.Records.{warnings}
 use Rattle.shell_io.specs.Outcomes.{blames}
-use Rattle.plain_sql.proofs.ImportTurnLemmas.{no_rows, same_steps, split_rows}
+use Rattle.plain_sql.proofs.{records_numbered, split_rows}
+use Rattle.std.proofs.lemmas.List.{nil_from_length}
 use Rattle.ft_shell.proofs.Common.{enumerate_from, length-map, import_as, texts_of, NoteTurn, made, no_header, too_wide}
 use Rattle.ft_shell.proofs.ImportTurnLemmas.{making_refused}
 use Rattle.ft_shell.proofs.import.into_new_table.Goals as goal
 
 pub returns-in_default : goal.returns-in_default
-returns-in_default g c = no_header (no_rows c.args.first c.args.records.now c.in_default.len_below) refl refl c.fixed.ensures
+returns-in_default g c = no_header (ap (λ records. enumerate_from c.args.first (map texts_of records)) (nil_from_length c.args.records.now (omega (arith, c.in_default.len_below)))) refl refl c.fixed.ensures
 
 pub returns-then-columns-gt100 : goal.returns-then-columns-gt100
 returns-then-columns-gt100 g c =
@@ -35,7 +36,7 @@ returns-in_err-import_records g c =
     making_refused g.P.Store (import_as c.args.what.now) (enumerate_from c.args.first (map texts_of c.args.records.now)) {T = Unit {0}} g.S.Store fault (c.args.first, names) rest
     c.args.plain.now c.import_records.new.plain c.args.full_text.now answer (split_rows c.args.first c.args.records.now c.names-item.result names c.in-len1-up.len_at_least (ap texts_of c.names-item.is)) narrow c.in_err-import_records.ensures.kept
     (λ refused. subst (λ s. Declines g.P.Store s c.args.plain.now c.import_records.new.plain)
-    ((λ j. same_steps (Some (map string_bytes (c.as_slice.ensures.value j))) c.as_str-table.result.now (string_bytes c.args.what.now.table) c.len-columns.result (length names) found (c.args.first + 1) c.as_str-table.ensures.value count j))
+    (λ j. import_steps (Some (map string_bytes (c.as_slice.ensures.value j))) (c.as_str-table.ensures.value j) (count j) (sym (records_numbered (c.args.first + 1) found) j))
     (c.in_err-import_records.ensures.declined refused)) is
 
 pub returns : goal.returns
@@ -50,7 +51,7 @@ returns g c =
     let lines : string_bytes c.in_ok-lines.lines ≡ warnings (string_bytes c.args.what.now.file) (length names) rest = c.in_ok-lines.ensures ∙ (λ j. warnings (c.as_str.ensures.value j) (count j) rest) in
     made (c.args.first, names) rest (split_rows c.args.first c.args.records.now c.names-item.result names c.in-len1-up.len_at_least (ap texts_of c.names-item.is)) narrow
     (subst (λ s. CommitsAll g.P.Store s c.args.plain.now c.import_records.new.plain)
-    ((λ j. same_steps (Some (map string_bytes (c.as_slice.ensures.value j))) c.as_str-table.result.now (string_bytes c.args.what.now.table) c.len-columns.result (length names) found (c.args.first + 1) c.as_str-table.ensures.value count j))
+    (λ j. import_steps (Some (map string_bytes (c.as_slice.ensures.value j))) (c.as_str-table.ensures.value j) (count j) (sym (records_numbered (c.args.first + 1) found) j))
     c.in_ok-import_records.ensures.done)
     (subst (λ l. NoteTurn g.S.Store l (string_bytes c.args.what.now.table) c.args.full_text.now c.note_turn.new.full_text answer) lines
     (subst (λ t. NoteTurn g.S.Store (string_bytes c.in_ok-lines.lines) t c.args.full_text.now c.note_turn.new.full_text answer) c.as_str-table.ensures.value c.note_turn.ensures))

@@ -1,6 +1,6 @@
 -- by what `sqlite` says of the call
 use Rattle.std.proofs.Common.{rules, ◌≡◌, ℕ, List, [], refl, string_bytes, subst, sym, option_map}
-use Rattle.plain_sql.proofs.QueryLemmas.{if_clean}
+use Rattle.plain_sql.proofs.{if_clean}
 use Rattle.shell_io.specs.OutputViews.{answer_as, complaint_as}
 use Rattle.shell_io.specs.Outcomes.{silent}
 use Rattle.plain_sql.specs.PlainStatements.{TellsRefusal}

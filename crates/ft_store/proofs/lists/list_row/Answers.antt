@@ -3,7 +3,7 @@ use Rattle.ft_store.proofs.Common.{column, bytes, id_in}
 use Rattle.sqlite_value.specs.Value.{owned}
 use Rattle.sqlite.specs.declared.types.ValueRef.{ValueRef}
 use Rattle.ft_rows.specs.Packed.{unpacked}
-use Rattle.ft_rows.proofs.ReadLemmas.{some_places}
+use Rattle.ft_rows.proofs.{some_places}
 use Rattle.ft_store.proofs.lists.list_row.Goals as goal
 
 pub returns-in-Some-clause-found : goal.returns-in-Some-clause-found

@@ -2,7 +2,7 @@
 use Rattle.std.proofs.Common.{◌≡◌, ◌+◌, ◌-◌, ◌^◌, ℕ, min, map, ap, ◌∙◌, arith}
 use Rattle.ft_query.specs.Documents.{plain_list, place_count}
 use Rattle.ft_rows.specs.Shown.{shown_list, spot_count}
-use Rattle.ft_documents.proofs.AskedLemmas.{rows_count}
+use Rattle.ft_documents.proofs.{rows_count}
 use Rattle.ft_index.proofs.table_lists.TableLists.answered.Goals as goal
 
 cut_once : (given count n : ℕ) → count ≡ min n (2 ^ 64 - 1) → min (given + count) (2 ^ 64 - 1) ≡ min (given + n) (2 ^ 64 - 1)

@@ -2,7 +2,7 @@
 use Rattle.std.proofs.Common.{◌≡◌, ◌⊎◌, true, subst, ℤ, ◌+◌, ◌-◌, ◌^◌, min, w64, SFits, to_z-of_z, ◌&&◌, map, nat_eq, refl, sym, ap, ◌∙◌, rules, int_eq}
 use Rattle.ft_index.proofs.Common.{plain_list, lists_with, table_documents, HasCleanDisk, IsBlamed, shows, value_in}
 use Rattle.std.specs.List.{starts_with}
-use Rattle.ft_documents.proofs.AskedLemmas.{rows_count}
+use Rattle.ft_documents.proofs.{rows_count}
 use Rattle.ft_index.proofs.Doing.{none_damaged, read_failed}
 use Rattle.ft_index.proofs.WalkedLemmas.{still_after, walk_answer}
 use Rattle.ft_index.proofs.table_lists.TableListsLists.prefix.Goals as goal

@@ -1,7 +1,7 @@
 -- the rows of one term
 use Rattle.std.proofs.Common.{◌≡◌, ◌⊎◌, true, subst, ℤ, ◌+◌, ◌-◌, ◌^◌, min, w64, SFits, to_z-of_z, ◌&&◌, map, sym, ap, ◌∙◌, rules, bytes_eq, int_eq, is_eq}
 use Rattle.ft_index.proofs.Common.{plain_list, lists_with, name_cmp, table_documents, HasCleanDisk, IsBlamed, shows, value_in}
-use Rattle.ft_documents.proofs.AskedLemmas.{rows_count}
+use Rattle.ft_documents.proofs.{rows_count}
 use Rattle.ft_index.proofs.Doing.{none_damaged, read_failed}
 use Rattle.ft_index.proofs.WalkedLemmas.{still_after, walk_answer, asks_term}
 use Rattle.ft_index.proofs.table_lists.TableListsLists.word.Goals as goal

@@ -5,7 +5,7 @@ use Rattle.shell_text.specs.Units.{Member, Fault}
 use Rattle.shell_text.specs.Splitting.{member_of_unit}
 use Rattle.shell_io.specs.declared.line_reader.Refusal.{Refusal}
 use Rattle.shell_io.specs.LinesRead.{EndsWith, at_end, end_line, members_left}
-use Rattle.shell_io.proofs.LineReaderLemmas.{ends_refused}
+use Rattle.shell_io.proofs.{ends_refused}
 use Rattle.ft_shell.proofs.RanLemmas.{lacks_memory, passes_none, runs_as}
 use Rattle.shell_text.specs.declared.units.SplitFault.TheVariants as fault
 use Rattle.ft_shell.proofs.session.Session.finish_last.Goals as goal

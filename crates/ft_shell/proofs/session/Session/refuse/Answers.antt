@@ -3,7 +3,7 @@ use Rattle.std.proofs.Common.{rules, ◌≡◌, ◌∷◌, ◌++◌, [], List, O
 use Rattle.shell_text.specs.Units.{Member, Fault}
 use Rattle.shell_io.specs.Outcomes.{Answer, blames, outcome_of}
 use Rattle.shell_io.specs.OutputViews.{complaint_as}
-use Rattle.shell_io.proofs.WriteLemmas.{appends_same}
+use Rattle.shell_io.proofs.{appends_same}
 use Rattle.shell_io.specs.declared.line_reader.Refusal.{Refusal}
 use Rattle.shell_io.specs.LinesRead.{refused_as}
 use Rattle.ft_shell.proofs.Common.{Parts, Shell, shell_with, effects_of, split_text, Runs, moment}

@@ -1,7 +1,7 @@
 -- piece by piece, up to the end of the input
 use Rattle.std.proofs.Common.{rules, ◌≡◌, ◌==◌, ◌<◌, ◌^◌, Err, length, ap, refl, arith}
 use Rattle.shell_io.specs.LinesRead.{LinesRead}
-use Rattle.shell_io.proofs.WriteLemmas.{same_then}
+use Rattle.shell_io.proofs.{same_then}
 use Rattle.ft_shell.proofs.Common.{list_any}
 use Rattle.ft_shell.proofs.PieceLemmas.{chunk_kept, has_read, interrupted_taking}
 use Rattle.ft_shell.proofs.RunLemmas.{completes, ends_err, so_far_kept, so_far_more, so_far_none, some_or_none, stops_at_flush, stops_first, stops_in_piece, stops_too_much, stops_unflushed, stops_unread}

@@ -3,7 +3,7 @@ use Rattle.std.proofs.Common.{rules, ◌≡◌, ◌∷◌, ◌∙◌, List, Err,
 use Rattle.shell_text.specs.Units.{Member}
 use Rattle.shell_text.specs.Splitting.{member_of_unit}
 use Rattle.shell_io.specs.LinesRead.{LinesRead, Way, members_left}
-use Rattle.shell_io.proofs.WriteLemmas.{same_then}
+use Rattle.shell_io.proofs.{same_then}
 use Rattle.ft_shell.proofs.RanLemmas.{passes_as, passes_none, passes_then, runs_as, runs_err, runs_then}
 use Rattle.ft_shell.proofs.session.Session.run_units.Goals as goal
 

@@ -1,7 +1,7 @@
 -- one line after the other
 use Rattle.std.proofs.Common.{rules, ◌≡◌, [], ◌∷◌, ◌++◌, ◌∙◌, Err, true, false, sym, ap, refl, append_assoc}
 use Rattle.shell_io.specs.LinesRead.{Way, behind, members_left}
-use Rattle.shell_io.proofs.WriteLemmas.{same_then}
+use Rattle.shell_io.proofs.{same_then}
 use Rattle.ft_shell.proofs.RanLemmas.{lacks_memory, passes_as, passes_none, passes_then, runs_as, runs_err, runs_then}
 use Rattle.shell_io.specs.declared.run.RunFault.TheVariants as causes
 use Rattle.ft_shell.proofs.session.Session.take.Goals as goal

@@ -1,9 +1,9 @@
 -- Want of memory, or another fault.
 use Rattle.std.proofs.Common.{◌≡◌, ◌⊎◌, inl, inr, Result, Ok, Err, refl, ◌≢◌, IfErr}
-use Rattle.ft_documents.proofs.Common.{Fault}
+use Rattle.ft_index.proofs.Common.{Fault}
 use Rattle.ft_values.specs.declared.fault.Fault.TheVariants as faults
 
-pub memory_or : (fault : Fault) → (fault ≡ faults.Memory) ⊎ (fault ≢ faults.Memory)
+memory_or : (fault : Fault) → (fault ≡ faults.Memory) ⊎ (fault ≢ faults.Memory)
 memory_or faults.Memory = inl refl
 memory_or _ = inr (λ e. let no = e in cc)
 
