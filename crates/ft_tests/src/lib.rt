@@ -1,12 +1,15 @@
-//! The tests of the store and of the full-text tables, by the names that they offer: what no script
-//! can show.
+//! The tests of full-text tables, by the names that they offer: what no script can show.
 #![tactic(auto)]
 
 #[cfg(test)]
-mod empty;
+mod changes;
 #[cfg(test)]
-mod index;
+mod commands;
 #[cfg(test)]
-mod ram;
+mod damage;
 #[cfg(test)]
-mod store;
+mod deeds;
+#[cfg(test)]
+mod mended;
+#[cfg(test)]
+mod stops;

@@ -1,10 +1,11 @@
 //! Lists that a table is asked for, beside those that it has.
 
-use super::begun;
-use crate::empty::{Begins, Trial, tried};
 use ft_store::{Posting, Spot, TermLists};
+use ram_disk::Honest;
+use sqlite::Connection;
 use std::alloc::{AllocError, Global};
 use std::test::Fail;
+use trials::{Trial, adopted_after, tried};
 
 // The term `pear` in the documents 2 and 5 of the table 1, `red` in 2, and a list of another table.
 const ROWS: &str =
@@ -109,8 +110,12 @@ struct Asked {
 impl Trial for Asked {
     type Found = (bool, u64);
 
-    fn over<S: Begins>(self, alloc: Global) -> Result<(bool, u64), Fail> {
-        let mut store = begun::<S>(alloc, self.rows)?;
+    fn over<S: Honest + Drop>(
+        self,
+        alloc: Global,
+        conn: Connection<S>,
+    ) -> Result<(bool, u64), Fail> {
+        let mut store = adopted_after(alloc, conn, self.rows)?;
         let terms = terms_of(alloc, self.terms)?;
         let same = store.has_lists(1, terms)?;
         Ok((same, store.rows_read()))

@@ -1,22 +1,17 @@
 //! A database in memory, and the file that it stands on.
 
-use crate::empty::{Begins, Trial, number, tried};
 use ram_disk::{Honest, Ram};
 use sqlite::{Connection, params};
 use sqlite_disk::Disk;
 use std::alloc::Global;
 use std::test::Fail;
+use trials::{Trial, number, tried_in_empty};
 
 const MADE: &str = "CREATE TABLE note (id INTEGER PRIMARY KEY, title TEXT NOT NULL) STRICT";
 
 const INSERT: &str = "INSERT INTO note (title) VALUES (?1)";
 
 const UNDONE: &str = "BEGIN; DELETE FROM note; ROLLBACK";
-
-// How many rows a statement puts, called for a database of which only this is known.
-fn put_honest<S: Honest>(conn: &mut Connection<S>) -> Result<usize, Fail> {
-    Ok(conn.execute(INSERT, params!["b"])?)
-}
 
 // How many rows each of two calls puts, and how many are there once their deletion was undone.
 #[derive(Clone, Copy)]
@@ -25,23 +20,24 @@ struct Rows;
 impl Trial for Rows {
     type Found = (usize, usize, i64);
 
-    fn over<S: Begins>(self, alloc: Global) -> Result<(usize, usize, i64), Fail> {
-        let mut conn = S::database(alloc)?;
+    fn over<S: Honest + Drop>(
+        self,
+        _: Global,
+        conn: Connection<S>,
+    ) -> Result<(usize, usize, i64), Fail> {
+        let mut conn = conn;
         conn.execute_batch(MADE)?;
-        let first = S::changed(&mut conn, INSERT, "a")?;
-        let second = put_honest(&mut conn)?;
+        let first = conn.execute(INSERT, params!["a"])?;
+        let second = conn.execute(INSERT, params!["b"])?;
         conn.execute_batch(UNDONE)?;
-        Ok((
-            first,
-            second,
-            number(&mut conn, "SELECT count(*) FROM note")?,
-        ))
+        let left = number(&mut conn, "SELECT count(*) FROM note")?;
+        Ok((first, second, left))
     }
 }
 
 #[test]
 fn holds_rows_and_undoes(rt: HostRuntime) -> Result<(), Fail> {
-    assert_eq!(rt; tried(rt.alloc(), Rows)?, (1, 1, 2));
+    assert_eq!(rt; tried_in_empty(rt.alloc(), Rows)?, (1, 1, 2));
     Ok(())
 }
 

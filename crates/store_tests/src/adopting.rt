@@ -1,11 +1,11 @@
 //! Databases that are taken as stores, why others are not, and what is left of them.
 
-use super::{adopted, all_read};
-use crate::empty::{Begins, Trial, number, tried};
 use ft_store::{Store, StoreFault};
+use ram_disk::Honest;
 use sqlite::{Alter, Connection};
 use std::alloc::Global;
 use std::test::Fail;
+use trials::{Trial, adopted, all_read, number, tried, tried_in_empty};
 
 // Why a database isn't taken, and the database.
 fn refused<S: Alter + Drop>(
@@ -18,31 +18,23 @@ fn refused<S: Alter + Drop>(
     }
 }
 
-// An empty database, or one that holds an empty store.
-fn begun<S: Begins>(alloc: Global, is_store: bool) -> Result<Connection<S>, Fail> {
-    if is_store {
-        Ok(S::store(alloc)?.into_connection())
-    } else {
-        S::database(alloc)
-    }
-}
-
 const META: &str = "SELECT count(*) FROM sqlite_schema WHERE name = 'meta'";
 
-// Why such a database isn't taken after these statements, and how many tables called `meta` it
-// still has.
+// Why a database isn't taken after these statements, and how many tables called `meta` it still
+// has.
 #[derive(Clone, Copy)]
-struct Other<'a> {
-    is_store: bool,
-    texts: &'a str,
-}
+struct Other<'a>(&'a str);
 
 impl<'a> Trial for Other<'a> {
     type Found = (StoreFault, i64);
 
-    fn over<S: Begins>(self, alloc: Global) -> Result<(StoreFault, i64), Fail> {
-        let mut conn = begun::<S>(alloc, self.is_store)?;
-        conn.execute_batch(self.texts)?;
+    fn over<S: Honest + Drop>(
+        self,
+        alloc: Global,
+        conn: Connection<S>,
+    ) -> Result<(StoreFault, i64), Fail> {
+        let mut conn = conn;
+        conn.execute_batch(self.0)?;
         let (cause, left) = refused(alloc, conn)?;
         let mut conn = left;
         Ok((cause, number(&mut conn, META)?))
@@ -100,7 +92,11 @@ const REFUSED: [(bool, &str, StoreFault, i64); 11] = [
 #[test]
 fn other_databases_are_handed_back(rt: HostRuntime) -> Result<(), Fail> {
     for (is_store, texts, cause, count) in REFUSED {
-        let found = tried(rt.alloc(), Other { is_store, texts })?;
+        let found = if is_store {
+            tried(rt.alloc(), Other(texts))?
+        } else {
+            tried_in_empty(rt.alloc(), Other(texts))?
+        };
         assert_eq!(&rt; found, (cause, count), "{texts}");
     }
     Ok(())
@@ -113,8 +109,8 @@ struct Twice;
 impl Trial for Twice {
     type Found = String;
 
-    fn over<S: Begins>(self, alloc: Global) -> Result<String, Fail> {
-        let first = adopted(alloc, S::database(alloc)?)?;
+    fn over<S: Honest + Drop>(self, alloc: Global, conn: Connection<S>) -> Result<String, Fail> {
+        let first = adopted(alloc, conn)?;
         let mut again = adopted(alloc, first.into_connection())?;
         Ok(all_read(&mut again, alloc)?)
     }
@@ -122,7 +118,7 @@ impl Trial for Twice {
 
 #[test]
 fn an_empty_database_is_adopted_and_again(rt: HostRuntime) -> Result<(), Fail> {
-    let found = tried(rt.alloc(), Twice)?;
+    let found = tried_in_empty(rt.alloc(), Twice)?;
     assert_eq!(&rt; found.as_str(), "[] [] [] []");
     Ok(())
 }

@@ -1,13 +1,12 @@
 //! What is answered where the rows of a table are damaged. Other damages are shown by scripts.
 
-use super::commands::{answered, begun};
-use super::{are_sound, taken};
-use crate::empty::{Begins, Trial, tried};
-use crate::store::adopted;
+use crate::commands::{answered, are_sound, begun, taken};
 use ft_index::FullText;
-use sqlite::Alter;
+use ram_disk::Honest;
+use sqlite::{Alter, Connection};
 use std::alloc::Global;
 use std::test::Fail;
+use trials::{Trial, adopted_after, tried};
 
 // A table with its mark, and whether all tables are sound, as all their rows say.
 fn write_marks<S: Alter>(told: &mut String, tables: &mut FullText<S>) -> Result<(), Fail> {
@@ -29,10 +28,9 @@ struct Damaged {
 impl Trial for Damaged {
     type Found = String;
 
-    fn over<S: Begins>(self, alloc: Global) -> Result<String, Fail> {
-        let mut conn = begun::<S>(alloc, self.made)?.into_connection();
-        conn.execute_batch(self.changed)?;
-        let mut tables = taken(alloc, adopted(alloc, conn)?)?;
+    fn over<S: Honest + Drop>(self, alloc: Global, conn: Connection<S>) -> Result<String, Fail> {
+        let conn = begun(alloc, conn, self.made)?.into_connection();
+        let mut tables = taken(alloc, adopted_after(alloc, conn, self.changed)?)?;
         let mut told = String::new(alloc);
         write_marks(&mut told, &mut tables)?;
         for text in self.asked.lines() {

@@ -2,16 +2,15 @@
 //! with what was not synced and without it: each table is sound, and all is as before the command or
 //! as after it, and as after it where it was answered.
 
-use super::deeds::{Deed, EACH_KIND, EMPTY, LARGE, NEVER, Turn, done_over};
-use super::{are_sound, taken};
-use crate::empty::number;
-use crate::store::adopted;
+use crate::commands::{are_sound, taken};
+use crate::deeds::{Deed, EACH_KIND, EMPTY, LARGE, NEVER, Turn, done_over};
 use ft_store::{CellRow, Value};
 use ram_disk::ram_options;
 use sqlite::{Alter, Connection, FileStore, Files, Options};
 use sqlite_disk::{Crash, Disk, Fuse, Memory};
 use std::alloc::{AllocError, Global};
 use std::test::Fail;
+use trials::{adopted, number};
 
 /// A file that holds bytes, and stops after so many calls.
 trait Stops: Crash + Drop {

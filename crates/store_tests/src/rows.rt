@@ -1,11 +1,12 @@
 //! Changes of rows, and the reads after them.
 
-use super::{Step, all_read, begun, change_each, change_once};
-use crate::empty::{Begins, Trial, tried};
+use crate::steps::{Step, change_each, change_once};
 use ft_store::{Store, StoreFault};
-use sqlite::Alter;
+use ram_disk::Honest;
+use sqlite::{Alter, Connection};
 use std::alloc::Global;
 use std::test::Fail;
+use trials::{Trial, adopted_after, all_read, tried};
 
 // The table 1, `d`, of one column `x`, with the documents 1, `green`, and 2, `red pear`.
 const PEARS: &str = "INSERT INTO tab VALUES (1, 'd');
@@ -66,8 +67,8 @@ struct After {
 impl Trial for After {
     type Found = String;
 
-    fn over<S: Begins>(self, alloc: Global) -> Result<String, Fail> {
-        let mut store = begun::<S>(alloc, PEARS)?;
+    fn over<S: Honest + Drop>(self, alloc: Global, conn: Connection<S>) -> Result<String, Fail> {
+        let mut store = adopted_after(alloc, conn, PEARS)?;
         change_each(&mut store, alloc, self.calls)?;
         Ok(read_then(&mut store, alloc, self.read)?)
     }
@@ -149,8 +150,12 @@ struct Bad;
 impl Trial for Bad {
     type Found = (Result<(), StoreFault>, String);
 
-    fn over<S: Begins>(self, alloc: Global) -> Result<(Result<(), StoreFault>, String), Fail> {
-        let mut store = begun::<S>(alloc, PEARS)?;
+    fn over<S: Honest + Drop>(
+        self,
+        alloc: Global,
+        conn: Connection<S>,
+    ) -> Result<(Result<(), StoreFault>, String), Fail> {
+        let mut store = adopted_after(alloc, conn, PEARS)?;
         let answer = change_once(&mut store, alloc, BAD);
         Ok((answer, all_read(&mut store, alloc)?))
     }

@@ -1,11 +1,11 @@
 //! Lists whose bytes are not in their one form, and terms that are no text.
 
-use super::begun;
-use crate::empty::{Begins, Trial, tried};
 use ft_store::{EntryRow, Store, StoreFault};
-use sqlite::Alter;
+use ram_disk::Honest;
+use sqlite::{Alter, Connection};
 use std::alloc::Global;
 use std::test::Fail;
+use trials::{Trial, adopted_after, tried};
 
 // A read of the lists of the table 1.
 #[derive(Clone, Copy)]
@@ -30,8 +30,8 @@ struct Asked(&'static str, Read);
 impl Trial for Asked {
     type Found = String;
 
-    fn over<S: Begins>(self, alloc: Global) -> Result<String, Fail> {
-        let mut store = begun::<S>(alloc, self.0)?;
+    fn over<S: Honest + Drop>(self, alloc: Global, conn: Connection<S>) -> Result<String, Fail> {
+        let mut store = adopted_after(alloc, conn, self.0)?;
         let found = entries_of(&mut store, self.1);
         Ok(format!(in alloc; "{found:?}")?)
     }

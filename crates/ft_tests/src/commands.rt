@@ -1,14 +1,34 @@
-//! Statements as commands on full-text tables.
+//! Full-text tables over a store, and statements as commands on them.
 
-use super::{answer, taken};
-use crate::empty::Begins;
 use ft_index::{Command, Fault, FullText, Reply, TableInfo};
 use ft_statements::{Class, read_statement};
 use ft_store::Store;
 use shell_text::sql_words;
-use sqlite::Alter;
+use sqlite::{Alter, Connection};
 use std::alloc::Global;
 use std::test::Fail;
+use trials::adopted;
+
+/// The tables of a store.
+pub(crate) fn taken<S: Alter + Drop>(alloc: Global, store: Store<S>) -> Result<FullText<S>, Fail> {
+    match FullText::new(alloc, store) {
+        Ok(tables) => Ok(tables),
+        Err(_) => Err(Fail::new("not taken")),
+    }
+}
+
+/// Whether all tables are sound.
+pub(crate) fn are_sound<S: Alter>(tables: &mut FullText<S>) -> Result<bool, Fault> {
+    tables.check_all()
+}
+
+/// What a command is answered: of a call by itself the checker follows the fewest ways out.
+pub(crate) fn answer<S: Alter>(
+    tables: &mut FullText<S>,
+    command: &Command,
+) -> Result<Reply, Fault> {
+    tables.execute(command)
+}
 
 // The command that a statement spells.
 fn command_of(alloc: Global, text: &str, tables: &[TableInfo]) -> Result<Command, Fail> {
@@ -42,9 +62,13 @@ pub(crate) fn are_done<S: Alter>(
     Ok(all)
 }
 
-/// A store in which an input was executed, of which nothing is refused.
-pub(crate) fn begun<S: Begins>(alloc: Global, input: &str) -> Result<Store<S>, Fail> {
-    let mut tables = taken(alloc, S::store(alloc)?)?;
+/// The store of a database in which an input was executed, of which nothing is refused.
+pub(crate) fn begun<S: Alter + Drop>(
+    alloc: Global,
+    conn: Connection<S>,
+    input: &str,
+) -> Result<Store<S>, Fail> {
+    let mut tables = taken(alloc, adopted(alloc, conn)?)?;
     if !are_done(alloc, &mut tables, input)? {
         return Err(Fail::new("refused"));
     }

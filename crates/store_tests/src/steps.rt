@@ -1,46 +1,20 @@
-//! A store of full-text rows in memory.
+//! Changes of a store, and calls that make them.
 
-mod adopting;
-mod damaged;
-mod expected;
-mod groups;
-mod rows;
-
-use crate::empty::Begins;
 use ft_store::{RowChange, Spot, Store, StoreFault, Value};
-use sqlite::{Alter, Connection};
+use sqlite::Alter;
 use std::alloc::{AllocError, Global};
-use std::test::Fail;
 
-/// A database that is taken, and the store that it then is.
-pub(crate) fn adopted<S: Alter + Drop>(
-    alloc: Global,
-    conn: Connection<S>,
-) -> Result<Store<S>, Fail> {
-    match Store::adopt(alloc, conn) {
-        Ok(store) => Ok(store),
-        Err(_) => Err(Fail::new("no store")),
-    }
-}
-
-/// A store of these rows alone, which are written as any SQL tool may write them.
-pub(crate) fn begun<S: Begins>(alloc: Global, texts: &str) -> Result<Store<S>, Fail> {
-    let mut conn = S::store(alloc)?.into_connection();
-    conn.execute_batch(texts)?;
-    adopted(alloc, conn)
-}
-
-// A change of the table 1, `d`, of one column `x`. What is copied has no way out of a function to
-// be followed.
+/// A change of the table 1, `d`, of one column `x`. What is copied has no way out of a function to
+/// be followed.
 #[derive(Clone, Copy)]
-enum Step {
+pub(crate) enum Step {
     MakeTable,
     DropTable,
     ClearIndex,
     PutText(i64, &'static str),
     PutNull(i64),
     DropCells(i64),
-    // A term at the first place of a document, with a size in bytes.
+    /// A term at the first place of a document, with a size in bytes.
     PutTerm(&'static str, i64, u32),
     DropTerm(&'static str, i64),
     PutSize(i64, i64),
@@ -95,8 +69,8 @@ fn changes_of(alloc: Global, steps: &[Step]) -> Result<Vec<RowChange>, AllocErro
     Ok(changes)
 }
 
-// Steps, all by one call.
-fn change_once<S: Alter>(
+/// Steps, all by one call.
+pub(crate) fn change_once<S: Alter>(
     store: &mut Store<S>,
     alloc: Global,
     steps: &[Step],
@@ -105,8 +79,8 @@ fn change_once<S: Alter>(
     store.change(changes.as_slice())
 }
 
-// Calls, each of some steps, up to the first that is refused.
-fn change_each<S: Alter>(
+/// Calls, each of some steps, up to the first that is refused.
+pub(crate) fn change_each<S: Alter>(
     store: &mut Store<S>,
     alloc: Global,
     calls: &[&[Step]],
@@ -115,16 +89,4 @@ fn change_each<S: Alter>(
         change_once(store, alloc, steps)?;
     }
     Ok(())
-}
-
-/// What is read of all rows: the tables, and the cells, entries and sizes of the first.
-pub(crate) fn all_read<S: Alter>(
-    store: &mut Store<S>,
-    alloc: Global,
-) -> Result<String, StoreFault> {
-    let tables = store.tables()?;
-    let cells = store.cells(1)?;
-    let entries = store.entries(1)?;
-    let sizes = store.sizes(1)?;
-    Ok(format!(in alloc; "{tables:?} {cells:?} {entries:?} {sizes:?}")?)
 }

@@ -1,7 +1,7 @@
 //! What is done on the files of a store, and may be stopped: among it commands over many documents,
 //! and those that write in groups.
 
-use super::commands::are_done;
+use crate::commands::are_done;
 use ft_index::FullText;
 use ft_store::Store;
 use sqlite::{Alter, Connection};

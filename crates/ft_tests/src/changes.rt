@@ -1,14 +1,13 @@
 //! What a plan names, commands that no statement spells, and how many rows are read.
 
-use super::commands::begun;
-use super::{answer, taken};
-use crate::empty::{Begins, Trial, tried};
-use crate::store::all_read;
+use crate::commands::{answer, begun, taken};
 use ft_index::{Command, Deletion, Fault, Filter, FullText, Insertion, Reply};
 use ft_store::{RowChange, Store};
-use sqlite::Alter;
+use ram_disk::Honest;
+use sqlite::{Alter, Connection};
 use std::alloc::{AllocError, Global};
 use std::test::Fail;
+use trials::{Trial, all_read, tried};
 
 // A command on the table `d`.
 #[derive(Clone, Copy)]
@@ -83,8 +82,8 @@ struct AfterPlan(&'static str, Order);
 impl Trial for AfterPlan {
     type Found = String;
 
-    fn over<S: Begins>(self, alloc: Global) -> Result<String, Fail> {
-        let mut tables = taken(alloc, begun::<S>(alloc, self.0)?)?;
+    fn over<S: Honest + Drop>(self, alloc: Global, conn: Connection<S>) -> Result<String, Fail> {
+        let mut tables = taken(alloc, begun(alloc, conn, self.0)?)?;
         let changes = planned(&mut tables, alloc, self.1)?;
         rows_with(alloc, tables.into_store(), changes.as_slice())
     }
@@ -125,8 +124,12 @@ struct AfterOrder(&'static str, Order);
 impl Trial for AfterOrder {
     type Found = (Result<Reply, Fault>, String);
 
-    fn over<S: Begins>(self, alloc: Global) -> Result<(Result<Reply, Fault>, String), Fail> {
-        let mut tables = taken(alloc, begun::<S>(alloc, self.0)?)?;
+    fn over<S: Honest + Drop>(
+        self,
+        alloc: Global,
+        conn: Connection<S>,
+    ) -> Result<(Result<Reply, Fault>, String), Fail> {
+        let mut tables = taken(alloc, begun(alloc, conn, self.0)?)?;
         let reply = answered(&mut tables, alloc, self.1)?;
         Ok((reply, rows_of(alloc, tables.into_store())?))
     }
@@ -182,8 +185,8 @@ struct RowsRead<'a>(&'a str);
 impl<'a> Trial for RowsRead<'a> {
     type Found = u64;
 
-    fn over<S: Begins>(self, alloc: Global) -> Result<u64, Fail> {
-        Ok(begun::<S>(alloc, self.0)?.rows_read())
+    fn over<S: Honest + Drop>(self, alloc: Global, conn: Connection<S>) -> Result<u64, Fail> {
+        Ok(begun(alloc, conn, self.0)?.rows_read())
     }
 }
 

@@ -1,11 +1,12 @@
 //! Which tables of a store are sound. What a damaged one answers is shown by scripts.
 
-use super::{are_sound, taken};
-use crate::empty::{Begins, Trial, tried};
-use crate::store::begun;
+use crate::commands::{are_sound, taken};
 use ft_index::TableInfo;
+use ram_disk::Honest;
+use sqlite::Connection;
 use std::alloc::Global;
 use std::test::Fail;
+use trials::{Trial, adopted_after, tried};
 
 // How many tables there are, and how many have the mark of a sound one.
 fn marked(known: &[TableInfo]) -> (usize, usize) {
@@ -22,8 +23,12 @@ struct Marks(&'static str);
 impl Trial for Marks {
     type Found = (usize, usize, bool);
 
-    fn over<S: Begins>(self, alloc: Global) -> Result<(usize, usize, bool), Fail> {
-        let mut tables = taken(alloc, begun::<S>(alloc, self.0)?)?;
+    fn over<S: Honest + Drop>(
+        self,
+        alloc: Global,
+        conn: Connection<S>,
+    ) -> Result<(usize, usize, bool), Fail> {
+        let mut tables = taken(alloc, adopted_after(alloc, conn, self.0)?)?;
         let all = are_sound(&mut tables)?;
         let (count, sound) = marked(tables.tables());
         Ok((count, sound, all))

@@ -1,12 +1,13 @@
 //! Lists that are put by one call, of which eight are written together where their keys are new.
 
-use super::{Step, change_each};
-use crate::empty::{Begins, Trial, tried};
+use crate::steps::{Step, change_each};
 use ft_store::{Store, StoreFault};
-use sqlite::Alter;
+use ram_disk::Honest;
+use sqlite::{Alter, Connection};
 use std::alloc::{AllocError, Global};
 use std::process::Abort;
 use std::test::Fail;
+use trials::{Trial, adopted, tried};
 
 // Two groups and one more, in order.
 const WORDS: [&str; 17] = [
@@ -84,8 +85,12 @@ struct Calls<'a>(&'a [&'a [Step]]);
 impl<'a> Trial for Calls<'a> {
     type Found = (Result<(), StoreFault>, String);
 
-    fn over<S: Begins>(self, alloc: Global) -> Result<(Result<(), StoreFault>, String), Fail> {
-        let mut store = S::store(alloc)?;
+    fn over<S: Honest + Drop>(
+        self,
+        alloc: Global,
+        conn: Connection<S>,
+    ) -> Result<(Result<(), StoreFault>, String), Fail> {
+        let mut store = adopted(alloc, conn)?;
         change_each(&mut store, alloc, &[&[Step::MakeTable]])?;
         let answer = change_each(&mut store, alloc, self.0);
         Ok((answer, sizes_of(&mut store, alloc)?))
