@@ -4,7 +4,7 @@ use Rattle.std.proofs.lemmas.List.Elements.{recursion_from_All, filter_passes}
 use Rattle.sqlite_trees.proofs.ListLemmas.{filter_none}
 use Rattle.sqlite_keyed.proofs.ListLemmas.{all_weaker}
 use Rattle.ft_content.specs.Index.{index_rows, entries, sizes, spot_lists}
-use Rattle.ft_documents.proofs.Common.{AllByRecursion, enumerate_from, eq_by_cmp, IsTotalOrder, int_cmp_total, put, find, where_key, is_sorted, is_sorted-put, is_sorted-where_key, find-put, find-where_key, same_entries, CmpEqualImpliesEq, exact_signed, Cell, StoreValue, AreInOrder, CellKey, ListKey, ColumnKey, cell_key_cmp, list_key_cmp, column_key_cmp, AddTable, applied, content_with, without_rows, with_columns, with_skipped, Column, Content, names_of, skipped_from, content_rows, Spot, table_rows, table_index, all_put}
+use Rattle.ft_documents.proofs.Common.{AllByRecursion, enumerate_from, eq_by_cmp, IsTotalOrder, int_cmp_total, put, find, where_key, is_sorted, is_sorted-put, is_sorted-where_key, find-put, find-where_key, same_entries, CmpEqualImpliesEq, exact_signed, Cell, StoreValue, AreInOrder, CellKey, ListKey, ColumnKey, cell_key_cmp, list_key_cmp, column_key_cmp, AddTable, applied, content_with, without_rows, with_columns, with_skipped, Column, names_of, skipped_from, content_rows, Spot, table_rows, table_index, all_put}
 use Rattle.ft_documents.proofs.CellSteps.{numbered_from}
 use Rattle.ft_documents.proofs.RowKinds.{under, sorted_under, passed_from, sorted_passed, sorted_numbered}
 use Rattle.ft_documents.proofs.KeyedRows.{tie, true_of, of_true, itself, sorted_put, put_in_order}

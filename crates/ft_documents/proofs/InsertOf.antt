@@ -1,5 +1,5 @@
 -- The rewrites of an Insert are rewrites of its table's content.
-use Rattle.std.proofs.Common.{◌≡◌, ℕ, true, List, [], ◌∷◌, length, Option, Some, None, ℤ, refl, sym, ap, subst, ◌∙◌, map, IfSome, IsTrue, int_cmp}
+use Rattle.std.proofs.Common.{◌≡◌, ℕ, true, List, [], length, Option, Some, None, ℤ, refl, sym, ap, subst, ◌∙◌, map, IfSome, IsTrue, int_cmp}
 use Rattle.sqlite_keyed.proofs.ListLemmas.{all_from_test, all_unmap, all_weaker, all-map}
 use Rattle.ft_documents.proofs.Common.{AllByRecursion, list_all, int_cmp_total, find, is_sorted, All-from_recursion, exact_signed, Cell, Documents, Content, IsContent, is_document, Rewrite, AreOf, FitIfAny, under_docids, rewritten, content_with, new_rewrite}
 use Rattle.ft_documents.proofs.RewriteLemmas.{written, find_rewritten}

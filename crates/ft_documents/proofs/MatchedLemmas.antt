@@ -1,5 +1,5 @@
 -- The hits of a query are the documents that its text chooses, and the first hits of a walk.
-use Rattle.std.proofs.Common.{◌≡◌, ℕ, zero, suc, ℤ, false, List, [], ◌∷◌, Option, Some, None, Ok, map, refl, sym, ap, ◌∙◌, filter, ◌≤◌, ◌<◌, Bool, true, ◌++◌, length, take, unwrap_or, ◌^◌, arith, take_all}
+use Rattle.std.proofs.Common.{◌≡◌, ℕ, ℤ, false, List, [], ◌∷◌, Option, Some, None, Ok, map, refl, sym, ap, ◌∙◌, filter, ◌≤◌, ◌<◌, Bool, true, ◌++◌, length, take, unwrap_or, ◌^◌, arith, take_all}
 use Rattle.std.proofs.Math.Seq.{take-append_seam}
 use Rattle.ft_query.proofs.{postings_rise, accepts_nothing}
 use Rattle.ft_query.specs.declared.walk.Hit.{Hit}

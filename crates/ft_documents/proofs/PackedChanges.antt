@@ -6,7 +6,7 @@ use Rattle.ft_query.proofs.{computed_tokens, postings_rise}
 use Rattle.ft_values.specs.declared.rows.RowChange.{RowChange}
 use Rattle.ft_rows.specs.Packed.{CanPack}
 use Rattle.ft_content.proofs.{lists_are_entries, key_cmp_total, key_cmp_exact, document_rises}
-use Rattle.ft_documents.proofs.Common.{list_all, enumerate_from, range_with_len, AllByRecursion, eq_by_cmp, and_parts, and_from, nat_tests, All-nil, All-cons, All-head, All-tail, All-append, All-filter, recursion_from_All, All-from_recursion, All-map, All-weaker, find, is_sorted, PlainToken, tokens_of, Posting, posting, IsBefore, postings_of, Cell, Null, Int, Text, shown_change, CanApply, PutCell, Column, cell_text, is_cell, has_nul, Documents, is_document, Spot, Entry, entry_at, Key, key_cmp, key_of, indexed_text, cell_tokens, document_tokens, document_postings, document_entries, spots_of_key, some_if_any, IsShortNumber, AreShortNumbers, same_cell, changed, numbered_cells, put_cells, index_lists_of, rewrite_changes, Rewrite, afters, document_if, under_docids, FitIfAny, IsPackable, HaveShortNumbers}
+use Rattle.ft_documents.proofs.Common.{list_all, enumerate_from, range_with_len, AllByRecursion, eq_by_cmp, and_parts, and_from, nat_tests, All-nil, All-cons, All-head, All-tail, All-append, All-filter, recursion_from_All, All-from_recursion, All-map, All-weaker, find, is_sorted, PlainToken, tokens_of, Posting, posting, IsBefore, Cell, Null, Int, Text, shown_change, CanApply, PutCell, Column, cell_text, is_cell, has_nul, Documents, is_document, Spot, Entry, entry_at, Key, key_cmp, key_of, indexed_text, cell_tokens, document_tokens, document_postings, document_entries, spots_of_key, some_if_any, IsShortNumber, AreShortNumbers, same_cell, changed, numbered_cells, put_cells, index_lists_of, rewrite_changes, Rewrite, afters, document_if, under_docids, FitIfAny, IsPackable, HaveShortNumbers}
 use Rattle.ft_documents.proofs.RowKinds.{one_list, lists_are}
 use Rattle.ft_documents.proofs.NearLemmas.{all_changes, All-flat_map}
 use Rattle.ft_documents.proofs.KeyedRows.{each_found}

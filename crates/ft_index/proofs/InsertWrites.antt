@@ -1,9 +1,9 @@
 -- What an Insert writes.
 use Rattle.std.proofs.Common.{◌≡◌, inl, inr, ℕ, Bool, true, false, cond, not, List, [], ◌∷◌, map, filter, zip, Option, Some, None, Result, Ok, Err, ℤ, refl, sym, ap, subst, ◌∙◌, Contains, Vec, is_some, Global, int_cmp, int_eq}
-use Rattle.ft_index.proofs.Common.{Contains-append_left, Contains-push, same_int, unwrap_or, AllByRecursion, find, is_sorted, Cell, Fault, Content}
+use Rattle.ft_index.proofs.Common.{Contains-append_left, Contains-push, same_int, unwrap_or, AllByRecursion, find, Cell, Fault, Content}
 use Rattle.ft_index.proofs.Common.{Documents, IsContent, names_of, repeats_name, Insert, Done, bare_content, column_of, Contents, or_else}
 use Rattle.ft_index.proofs.Common.{listed_columns, inserted_rows, has_docid, inserted, with_documents, on_table, after, touched, reply_to, Rewrite}
-use Rattle.ft_index.proofs.Common.{shown_rewrite, under_docids, rewritten, WritesDocuments, WritesTable}
+use Rattle.ft_index.proofs.Common.{shown_rewrite, rewritten, WritesDocuments, WritesTable}
 use Rattle.std.proofs.lemmas.List.Elements.{Contains-append_right}
 use Rattle.ft_values.specs.declared.table.Column.{Column}
 use Rattle.ft_content.specs.Deserved.{insert_tests, insert_fault, fault_if_any}

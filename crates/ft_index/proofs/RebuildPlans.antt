@@ -1,13 +1,13 @@
 -- A table that is made anew with documents, and what a Rebuild is answered and leaves.
-use Rattle.std.proofs.Common.{◌≡◌, map, ℕ, Bool, true, false, cond, not, List, [], ◌∷◌, Some, None, ℤ, pos, refl, sym, ap, subst, ◌∙◌, All, is_some, option_map, Ordering, int_cmp, int_eq, inr, Option, Ok, Err}
-use Rattle.ft_index.proofs.Common.{same_int, enumerate_from, eq_by_cmp_equiv, int_cmp_total, put, find, where_key, is_sorted, is_sorted-put}
+use Rattle.std.proofs.Common.{◌≡◌, map, ℕ, Bool, true, false, cond, not, List, [], ◌∷◌, Some, None, ℤ, refl, sym, ap, subst, ◌∙◌, All, is_some, option_map, int_cmp, int_eq, inr, Option, Ok, Err}
+use Rattle.ft_index.proofs.Common.{same_int, eq_by_cmp_equiv, int_cmp_total, put, find, where_key, is_sorted, is_sorted-put}
 use Rattle.ft_index.proofs.Common.{is_sorted-where_key, find-put, find-where_key, same_entries, All-nil, recursion_from_All, exact_signed, StoreValue}
-use Rattle.ft_index.proofs.Common.{AreInOrder, ColumnKey, cell_key_cmp, list_key_cmp, column_key_cmp, Change, AddTable, applied, all_applied, Column}
+use Rattle.ft_index.proofs.Common.{AreInOrder, Change, AddTable, applied, all_applied, Column}
 use Rattle.ft_index.proofs.Common.{Content, Documents, IsContent, names_of, skipped_from, content_rows, index_rows, Filter, Delete, TableInfo}
 use Rattle.ft_index.proofs.Common.{shown_info, TableState, Sound, Contents, with_documents, on_table, IsSoundNamed, Rewrite, AreOf, AreRight}
 use Rattle.ft_index.proofs.Common.{HasContent, rewritten_docids, rewritten, rewritten_content, shown_rewrite, table_rows, table_index, IsOfDocids}
 use Rattle.ft_index.proofs.Common.{Written, ReachesStep, AreHeld, KeepsOthers, StoreHolds, Stands, held_columns, table_info, IsNamed, AllByRecursion}
-use Rattle.ft_index.proofs.Common.{Cell, Fault, same_name, Rebuild, Done, Stale, Loose, Table, table_named, on_found, deserved, rebuilt, after}
+use Rattle.ft_index.proofs.Common.{Fault, same_name, Rebuild, Done, Stale, Loose, Table, table_named, on_found, deserved, rebuilt, after}
 use Rattle.ft_index.proofs.Common.{reply_to, info_named, with_sound, PlansFrom, state_of}
 use Rattle.std.proofs.lemmas.Float.{T_from_true}
 use Rattle.std.specs.List.{find as first_of}

@@ -1,12 +1,12 @@
 -- The rows of a Select as they are read, what it deserves, and what it is answered.
-use Rattle.std.proofs.Common.{◌≡◌, ℕ, ◌+◌, ◌-◌, ◌*◌, ◌^◌, ◌<◌, Bool, true, false, cond, not, ◌&&◌, ◌||◌, ◌==◌, List, [], ◌∷◌, ◌++◌, map, length, take, drop, min, Option, Some, None, ℤ, refl, sym, ap, ◌∙◌, arith, eqb-true, suc, option_map, vec_len, Vec, Global, pos, slice_get, SomeIff, is_some, flat_map, int_cmp, int_eq, option_and_then, length-take, length-append, filter, Bor, ◌⊎◌, inl, inr, Ok, Err, subst, option_copied}
+use Rattle.std.proofs.Common.{◌≡◌, ℕ, ◌+◌, ◌-◌, ◌*◌, ◌^◌, ◌<◌, Bool, true, false, cond, not, ◌&&◌, ◌||◌, ◌==◌, List, [], ◌∷◌, ◌++◌, map, length, take, drop, min, Option, Some, None, ℤ, refl, sym, ap, ◌∙◌, arith, eqb-true, suc, option_map, vec_len, Vec, Global, pos, slice_get, SomeIff, is_some, flat_map, int_cmp, int_eq, option_and_then, length-take, length-append, Bor, ◌⊎◌, inl, inr, Ok, Err, subst, option_copied}
 use Rattle.ft_index.proofs.Common.{unwrap_or, list_any, list_all, enumerate_from, find, where_key, and_parts, take_all, length-map, Hit, Tree}
 use Rattle.ft_index.proofs.Common.{PlainHit, plain_hit, offsets_text, Cell, Text, shown_value, Column, Content, Documents, IsContent, is_docid}
 use Rattle.ft_index.proofs.Common.{CellRow, TableRows, document_rows, content_rows, Filter, Docid, Match, Item, AllColumns, Named, OffsetsOf, Listed}
 use Rattle.ft_index.proofs.Common.{Counted, cells_with, item_rows, column_place, cut, query_in, chosen, is_match, is_offsets, Document}
 use Rattle.ft_index.proofs.Common.{shown_document, cells_at, document_at, hit_read, chosen_hits, as_wanted, reads_document, entries_asked, rows_asked}
 use Rattle.ft_index.proofs.Common.{count_asked, hit_cells, map-map, Value, CellKey, StoreValue, cell_key_cmp, cells_of, document_if, table_rows}
-use Rattle.ft_index.proofs.Common.{same_int, map-append, Ghosts, AreInOrder, StoreState, value_in, more_rows, Fault, names_of, same_name, Items}
+use Rattle.ft_index.proofs.Common.{Ghosts, AreInOrder, StoreState, value_in, more_rows, Fault, names_of, same_name, Items}
 use Rattle.ft_index.proofs.Common.{Command, Select, Rows, reading, answer_names, answer, TableState, Sound, Table, Contents, table_named, first_of}
 use Rattle.ft_index.proofs.Common.{or_else, has_column, items_in, query_fault, deserved, after, reply_to, step, step_by, TableInfo, bare_content}
 use Rattle.ft_index.proofs.Common.{column_of, info_named, IsUnfit, IsSoundNamed, FullText, IsUp, AreHeld, Executes, PlansFrom, is_outside}
@@ -24,7 +24,6 @@ use Rattle.ft_documents.proofs.{chosen_again, chosen_all, chosen_one}
 use Rattle.std.proofs.lemmas.List.FromFn.{length-enumerate_from}
 use Rattle.ft_rows.specs.Shown.{shown_cell}
 use Rattle.ft_values.specs.declared.rows.CellRow as row
-use Rattle.std.proofs.lemmas.List.Elements.{filter-append}
 use Rattle.ft_store.specs.Docids.{cut_to}
 use Rattle.ft_values.specs.declared.fault.Fault.TheVariants as faults
 use Rattle.ft_content.specs.Deserved.{item_unknown, names_unknown, reading_fault, select_fault}

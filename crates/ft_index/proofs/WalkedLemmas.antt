@@ -1,6 +1,6 @@
 -- What lists mean that can be relied on, and what reads leave of them.
 use Rattle.std.proofs.Common.{◌≡◌, ℕ, ℤ, ◌&&◌, Bool, List, map, sym, ap, subst, ◌∙◌, arith, IsTrue, bytes_eq, int_eq, is_eq}
-use Rattle.ft_index.proofs.Common.{eq_by_cmp_equiv, where_key, HasCleanDisk, Survives, Database, Ghosts, map-map, lists_with, StoreValue, ListKey}
+use Rattle.ft_index.proofs.Common.{eq_by_cmp_equiv, where_key, HasCleanDisk, Survives, Database, Ghosts, lists_with, StoreValue, ListKey}
 use Rattle.ft_index.proofs.Common.{list_key_cmp, name_cmp, value_of, StoreState, shows, value_in, Content, IsContent, IndexRows, index_rows}
 use Rattle.ft_index.proofs.Common.{content_documents, table_index, table_documents, IsIndexed}
 use Rattle.std.specs.Cmp.Lexicographic.{nat_list_cmp_total}
@@ -10,9 +10,9 @@ use Rattle.ft_query.proofs.{postings_rise, documents_are}
 use Rattle.ft_values.specs.declared.rows.ListRow.{ListRow}
 use Rattle.ft_rows.specs.Shown.{shown_list, bare_list}
 use Rattle.ft_store.specs.Calls.{Keeps}
-use Rattle.ft_content.specs.Meaning.{documents_in, entries_in, lists_with_terms, DocumentsAreInOrder}
+use Rattle.ft_content.specs.Meaning.{documents_in, DocumentsAreInOrder}
 use Rattle.ft_content.proofs.{lists_mean, terms_are_their_lists, terms_are_counted, documents_are_in_order}
-use Rattle.ft_documents.specs.Placed.{read_list, list_of, all_in, AreListsOf}
+use Rattle.ft_documents.specs.Placed.{AreListsOf}
 use Rattle.ft_index.specs.Walked.{AreReliable}
 use Rattle.ft_documents.proofs.{asked_answer}
 

@@ -1,5 +1,5 @@
 -- How lists become entries.
-use Rattle.std.proofs.Common.{◌≡◌, ℕ, ℤ, Bool, true, false, ◌&&◌, cond, List, [], ◌∷◌, ◌++◌, map, append-nil, refl, sym, ap, ap₂, ◌∙◌, is_eq, flat_map, int_eq}
+use Rattle.std.proofs.Common.{◌≡◌, ℕ, ℤ, Bool, true, false, ◌&&◌, cond, List, [], ◌∷◌, ◌++◌, map, append-nil, refl, ap, ap₂, is_eq, flat_map, int_eq}
 use Rattle.ft_store.proofs.Common.{AllByRecursion, where_key, map-append, Row, same_bytes, ListKey, list_key_cmp, name_cmp, StoredEntry, bare_list}
 use Rattle.ft_store.proofs.Common.{entries_with, entries_of, AreWhole, and_parts}
 use Rattle.std.proofs.lemmas.List.Concat.{flat_map-append}

@@ -1,5 +1,5 @@
 -- Parts of imports.
-use Rattle.std.proofs.Common.{◌≡◌, ◌≤◌, ◌<◌, ◌+◌, ◌-◌, ℕ, zero, suc, List, [], ◌∷◌, map, length, get_or, take, drop, Option, None, Result, Err, refl, sym, ap, subst, ◌∙◌, arith, min, String, Vec, Global, unwrap_or}
+use Rattle.std.proofs.Common.{◌≡◌, ◌≤◌, ◌+◌, ◌-◌, ℕ, zero, suc, List, [], ◌∷◌, map, length, get_or, take, drop, Option, None, Result, Err, refl, sym, ap, subst, ◌∙◌, arith, min, String, Vec, Global, unwrap_or}
 use Rattle.ft_statements.specs.Dots.{Import}
 use Rattle.shell_io.specs.Records.{kept, records_in}
 use Rattle.shell_io.specs.Outcomes.{Answer, blames}
