@@ -60,11 +60,6 @@ fn planned<S: Alter>(
     Ok(tables.plan(&command)?)
 }
 
-fn rows_of<S: Alter + Drop>(alloc: Global, store: Store<S>) -> Result<String, Fail> {
-    let mut store = store;
-    Ok(all_read(&mut store, alloc)?)
-}
-
 fn rows_with<S: Alter + Drop>(
     alloc: Global,
     store: Store<S>,
@@ -72,7 +67,7 @@ fn rows_with<S: Alter + Drop>(
 ) -> Result<String, Fail> {
     let mut store = store;
     store.change(changes)?;
-    rows_of(alloc, store)
+    Ok(all_read(&mut store, alloc)?)
 }
 
 // The rows that an input leaves, and then the changes that the plan of an order names.
@@ -131,7 +126,8 @@ impl Trial for AfterOrder {
     ) -> Result<(Result<Reply, Fault>, String), Fail> {
         let mut tables = taken(alloc, begun(alloc, conn, self.0)?)?;
         let reply = answered(&mut tables, alloc, self.1)?;
-        Ok((reply, rows_of(alloc, tables.into_store())?))
+        let mut store = tables.into_store();
+        Ok((reply, all_read(&mut store, alloc)?))
     }
 }
 

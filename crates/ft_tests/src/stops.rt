@@ -4,7 +4,7 @@
 
 use crate::commands::{are_sound, taken};
 use crate::deeds::{Deed, EACH_KIND, EMPTY, LARGE, NEVER, Turn, done_over};
-use ft_store::{CellRow, Value};
+use ft_store::{CellRow, Store, Value};
 use ram_disk::ram_options;
 use sqlite::{Alter, Connection, FileStore, Files, Options};
 use sqlite_disk::{Crash, Disk, Fuse, Memory};
@@ -131,8 +131,17 @@ fn write_cells(told: &mut String, cells: &[CellRow]) -> Result<(), AllocError> {
     Ok(())
 }
 
-// The version of a database, its noted names, its tables and their texts. Each table has to be
-// sound.
+// The tables of a store, and their texts.
+fn write_tables<S: Alter>(told: &mut String, store: &mut Store<S>) -> Result<(), Fail> {
+    for table in store.tables()? {
+        write!(told, " {}", table.name)?;
+        write_cells(told, store.cells(table.id)?.as_slice())?;
+    }
+    Ok(())
+}
+
+// The version of a database, whether each table is sound, the noted names, the tables and their
+// texts.
 fn told<S: Alter + Drop>(alloc: Global, conn: Connection<S>) -> Result<String, Fail> {
     let mut conn = conn;
     let version = number(&mut conn, "SELECT version FROM meta")?;
@@ -141,10 +150,7 @@ fn told<S: Alter + Drop>(alloc: Global, conn: Connection<S>) -> Result<String, F
     let names = tables.noted()?;
     let mut told = format!(in alloc; "{version} {sound} {names:?}")?;
     let mut store = tables.into_store();
-    for table in store.tables()? {
-        write!(told, " {}", table.name)?;
-        write_cells(&mut told, store.cells(table.id)?.as_slice())?;
-    }
+    write_tables(&mut told, &mut store)?;
     Ok(told)
 }
 
