@@ -1,6 +1,6 @@
 -- What the queries of a store answer, and that they are refused only by what lies outside it.
 use Rattle.std.proofs.Common.{◌≡◌, ◌≢◌, ℕ, ℤ, Bool, true, false, ◌&&◌, List, [], ◌∷◌, map, filter, refl, sym, ap, ap₂, subst, ◌∙◌, Ordering, Less, Equal, Greater, is_eq, IsTrue, true≢false, unwrap_or, nat_eq, int_cmp, int_eq, cond, ◌⊎◌, ◌++◌, ◌<◌, length, Option, Some, None, Ok, inl, inr, arith, append-nil, All, IsSome, IsUtf8, eqb-true, ltb-false, length-append}
-use Rattle.ft_store.proofs.Common.{AllByRecursion, list_all, starts_with, ordering_then, IsTotalOrder, where_key, on_total, then_total, int_cmp_total}
+use Rattle.ft_store.proofs.Common.{AllByRecursion, list_all, starts_with, tied_itself, ordering_then, IsTotalOrder, where_key, on_total, then_total, int_cmp_total}
 use Rattle.ft_store.proofs.Common.{Value, Null, Int, Text, Blob, Row, column, value_cmp, bytes, without_case, by_key, ascending, Binary, NoCase}
 use Rattle.ft_store.proofs.Common.{binary, is_true, Compare, Ge, Lt, Key, value_cmp_total, value_cmp-Int, value_cmp-Text, Trees, Term, holds, Output}
 use Rattle.ft_store.proofs.Common.{output, output_cmp, IsAnswer, overlay, State, Shown, IsSound, reads_as, at_texts, same_bytes, then_key, last_key}
@@ -23,7 +23,7 @@ use Rattle.ft_store.specs.Found.{found_table, found_column, found_skip, found_ce
 use Rattle.ft_store.specs.Calls.{IsStore}
 use Rattle.ft_store.proofs.Texts.{names_text, columns_text, skips_text, cells_text, document_text, term_text, prefix_text, bare_prefix_text}
 use Rattle.ft_store.proofs.Texts.{lists_text, sizes_text, noted_text, last_text, has_document_text, docids_text, query_by, rising, no_limit}
-use Rattle.ft_store.proofs.Texts.{list_shown, bare_shown, list_order, cell_order, names_query, names_means, columns_query, columns_means, skips_query}
+use Rattle.ft_store.proofs.Texts.{list_shown, bare_shown, rest_order, names_query, names_means, columns_query, columns_means, skips_query}
 use Rattle.ft_store.proofs.Texts.{skips_means, cells_query, cells_means, document_query, document_means, term_query, term_means, prefix_query}
 use Rattle.ft_store.proofs.Texts.{prefix_means, bare_prefix_query, bare_prefix_means, lists_query, lists_means, sizes_query, sizes_means, noted_query}
 use Rattle.ft_store.proofs.Texts.{noted_means, table_query, last_query, last_means, has_document_query, has_document_means, docids_query}
@@ -52,6 +52,18 @@ cmp_texts v w s t p q = ap₂ value_cmp p q ∙ value_cmp-Text s t
 
 pub same_int : (a b : ℤ) → int_eq a b ≡ true → a ≡ b
 same_int a b h = tied_ints a b (equal_from (int_cmp a b) h)
+
+same_name : (s t : List ℕ) → is_eq (name_cmp s t) ≡ true → s ≡ t
+same_name s t h = tied_names s t (equal_from (name_cmp s t) h)
+
+-- where the first part of keys is given, they are ordered by what is left of them
+pub within : (given a b : ℤ) {o p : Ordering} → int_eq given a ≡ true → int_eq given b ≡ true → o ≡ p → o ≡ ordering_then (int_cmp a b) p
+within given a b {o} {p} h k same =
+    same ∙ sym (ap (λ e. ordering_then e p) (ap₂ int_cmp (sym (same_int given a h)) (sym (same_int given b k)) ∙ tied_itself int_cmp_total given))
+
+within_term : (term a b : List ℕ) {o p : Ordering} → is_eq (name_cmp term a) ≡ true → is_eq (name_cmp term b) ≡ true → o ≡ p → o ≡ ordering_then (name_cmp a b) p
+within_term term a b {o} {p} h k same =
+    same ∙ sym (ap (λ e. ordering_then e p) (ap₂ name_cmp (sym (same_name term a h)) (sym (same_name term b k)) ∙ tied_itself name_total term))
 
 test_texts : (op : CompareOp) (v w : Value) (s t : List ℕ) → v ≡ Text s → w ≡ Text t → is_true (binary (Compare op Binary) v w) ≡ by_order name_cmp op s t
 test_texts op v w s t p q = ap₂ (λ a b. is_true (binary (Compare op Binary) a b)) p q ∙ at_texts false op s t
@@ -129,26 +141,28 @@ module _ {K X : Type 0} (R : K → K → Ordering) (total : IsTotalOrder R) (tie
       ap (map decode) answer.shown ∙ map-map decode (λ (o : Output). o.1) answer.ordered
       ∙ found_outputs db tree typed apart terms show order params p (λ o. decode o.1) tests shows orders rows answer
 
-  -- The same, where rows are ordered by their keys alone: no two have one.
+  -- The same, where rows that pass are ordered by their keys alone: no two have one.
   pub keyed_outputs : (db : Trees) (tree : ℕ) → AllByRecursion P (db tree) → AreApart R (map entry (db tree)) → (terms : List Term) (show : List ℕ) (order : List (Term × Key)) (params : Row) (p : K → Bool) (back : Output → K × X)
       → ((r : Row) → P r → list_all (holds (params ∷ r ∷ [])) terms ≡ p (entry r).0)
       → ((r : Row) → P r → p (entry r).0 ≡ true → back (output (query_by tree terms show order no_limit) (params ∷ r ∷ [])) ≡ entry r)
-      → ((a b : Row) → P a → P b → output_cmp (query_by tree terms show order no_limit) (output (query_by tree terms show order no_limit) (params ∷ a ∷ [])) (output (query_by tree terms show order no_limit) (params ∷ b ∷ [])) ≡ R (entry a).0 (entry b).0)
+      → ((a b : Row) → P a → P b → p (entry a).0 ≡ true → p (entry b).0 ≡ true → output_cmp (query_by tree terms show order no_limit) (output (query_by tree terms show order no_limit) (params ∷ a ∷ [])) (output (query_by tree terms show order no_limit) (params ∷ b ∷ [])) ≡ R (entry a).0 (entry b).0)
       → (rows : List Row) (answer : IsAnswer (query_by tree terms show order no_limit) db params rows) → map back answer.ordered ≡ where_key R p (keyed R (map entry (db tree)))
   keyed_outputs db tree typed apart terms show order params p back tests shows orders rows answer =
       let by_key = λ (a b : K × X). R a.0 b.0 in
       let by_total : IsTotalOrder by_key = on_total (λ (e : K × X). e.0) total in
       let test = λ (e : K × X). p e.0 in
-      let shown = λ (r : Row) (h : P r) (passed : list_all (holds (params ∷ r ∷ [])) terms ≡ true). shows r h (sym (tests r h) ∙ passed) in
+      let passes = λ (r : Row). list_all (holds (params ∷ r ∷ [])) terms ≡ true in
+      let shown = λ (r : Row) (h : P r) (passed : passes r). shows r h (sym (tests r h) ∙ passed) in
+      let order_of = λ (a b : Row) (h : P a) (k : P b) (e : passes a) (f : passes b). orders a b h k (sym (tests a h) ∙ e) (sym (tests b k) ∙ f) in
       sorted_by_key R total tie V v_total v_tie (filter test (map entry (db tree))) (map back answer.ordered) (apart-filter R total tie test (map entry (db tree)) apart)
-      (permuted by_key by_total entry P db tree typed terms show order no_limit params test back tests shown (λ a b h k _ _. orders a b h k) rows answer)
-      (still_sorted by_key by_total entry P db tree typed terms show order no_limit params test back tests shown (λ a b h k _ _. orders a b h k) rows answer)
+      (permuted by_key by_total entry P db tree typed terms show order no_limit params test back tests shown order_of rows answer)
+      (still_sorted by_key by_total entry P db tree typed terms show order no_limit params test back tests shown order_of rows answer)
       ∙ keyed-where R total tie p (map entry (db tree))
 
   keyed_found : (db : Trees) (tree : ℕ) → AllByRecursion P (db tree) → AreApart R (map entry (db tree)) → (terms : List Term) (show : List ℕ) (order : List (Term × Key)) (params : Row) (p : K → Bool) (decode : Row → K × X)
       → ((r : Row) → P r → list_all (holds (params ∷ r ∷ [])) terms ≡ p (entry r).0)
       → ((r : Row) → P r → p (entry r).0 ≡ true → decode (output (query_by tree terms show order no_limit) (params ∷ r ∷ [])).1 ≡ entry r)
-      → ((a b : Row) → P a → P b → output_cmp (query_by tree terms show order no_limit) (output (query_by tree terms show order no_limit) (params ∷ a ∷ [])) (output (query_by tree terms show order no_limit) (params ∷ b ∷ [])) ≡ R (entry a).0 (entry b).0)
+      → ((a b : Row) → P a → P b → p (entry a).0 ≡ true → p (entry b).0 ≡ true → output_cmp (query_by tree terms show order no_limit) (output (query_by tree terms show order no_limit) (params ∷ a ∷ [])) (output (query_by tree terms show order no_limit) (params ∷ b ∷ [])) ≡ R (entry a).0 (entry b).0)
       → (rows : List Row) → IsAnswer (query_by tree terms show order no_limit) db params rows → map decode rows ≡ where_key R p (keyed R (map entry (db tree)))
   keyed_found db tree typed apart terms show order params p decode tests shows orders rows answer =
       ap (map decode) answer.shown ∙ map-map decode (λ (o : Output). o.1) answer.ordered
@@ -162,10 +176,10 @@ pub cells_shown : (tab : ℤ) (old new : State) (rows : List Row) → (IsTrue ol
 cells_shown tab old new rows if_open h =
     let kept = if_open (shown_open _ _ old new rows h) in
     let sound = sound_of old kept in
-    keyed_found cell_key_cmp cell_key_total tied_cell_keys cell_cmp cell_total tied_cells cell_entry IsCellRow (overlay old.now.trees []) 5 (are_cells old.now.trees sound) (cells_apart old.now.trees sound kept.numbered.1.1.1.0) cells_query.filter (2 ∷ 3 ∷ 4 ∷ 5 ∷ []) (rising cell_order) (Int tab ∷ []) (λ k. int_eq tab k.0) (found_cell tab)
+    keyed_found cell_key_cmp cell_key_total tied_cell_keys cell_cmp cell_total tied_cells cell_entry IsCellRow (overlay old.now.trees []) 5 (are_cells old.now.trees sound) (cells_apart old.now.trees sound kept.numbered.1.1.1.0) cells_query.filter (2 ∷ 3 ∷ 4 ∷ 5 ∷ []) (rising rest_order) (Int tab ∷ []) (λ k. int_eq tab k.0) (found_cell tab)
     (λ r h. last_term (turned _ _ _ _ h.tab refl))
     (λ r h passed. ap (λ t. ((t, (cell_entry r).0.1, (cell_entry r).0.2), (cell_entry r).1)) (same_int tab (cell_entry r).0.0 passed))
-    (λ a b p q. then_key (cmp_ints _ _ _ _ p.tab q.tab) (then_key (cmp_ints _ _ _ _ p.docid q.docid) (last_key (cmp_ints _ _ _ _ p.at q.at))))
+    (λ a b p q h k. within tab _ _ h k (then_key (cmp_ints _ _ _ _ p.docid q.docid) (last_key (cmp_ints _ _ _ _ p.at q.at))))
     rows ((reads_as cells_text (Int tab ∷ []) old new store_schema kept.schema _ cells_means.is cells_means.plain cells_means.unlisted rows h).answer Null)
 
 pub document_shown : (tab docid : ℤ) (old new : State) (rows : List Row) → (IsTrue old.is_open → IsStore old.now) → Shown document_text (Int tab ∷ Int docid ∷ []) old new rows
@@ -173,10 +187,10 @@ pub document_shown : (tab docid : ℤ) (old new : State) (rows : List Row) → (
 document_shown tab docid old new rows if_open h =
     let kept = if_open (shown_open _ _ old new rows h) in
     let sound = sound_of old kept in
-    keyed_found cell_key_cmp cell_key_total tied_cell_keys cell_cmp cell_total tied_cells cell_entry IsCellRow (overlay old.now.trees []) 5 (are_cells old.now.trees sound) (cells_apart old.now.trees sound kept.numbered.1.1.1.0) document_query.filter (2 ∷ 3 ∷ 4 ∷ 5 ∷ []) (rising cell_order) (Int tab ∷ Int docid ∷ []) (λ k. int_eq tab k.0 && int_eq docid k.1) (found_cell tab)
+    keyed_found cell_key_cmp cell_key_total tied_cell_keys cell_cmp cell_total tied_cells cell_entry IsCellRow (overlay old.now.trees []) 5 (are_cells old.now.trees sound) (cells_apart old.now.trees sound kept.numbered.1.1.1.0) document_query.filter (2 ∷ 3 ∷ 4 ∷ 5 ∷ []) (rising (3 ∷ [])) (Int tab ∷ Int docid ∷ []) (λ k. int_eq tab k.0 && int_eq docid k.1) (found_cell tab)
     (λ r h. then_term (turned _ _ _ _ h.tab refl) (last_term (turned _ _ _ _ h.docid refl)))
     (λ r h passed. ap (λ t. ((t, (cell_entry r).0.1, (cell_entry r).0.2), (cell_entry r).1)) (same_int tab (cell_entry r).0.0 (and_parts _ _ passed).0))
-    (λ a b p q. then_key (cmp_ints _ _ _ _ p.tab q.tab) (then_key (cmp_ints _ _ _ _ p.docid q.docid) (last_key (cmp_ints _ _ _ _ p.at q.at))))
+    (λ a b p q h k. within tab _ _ (and_parts _ _ h).0 (and_parts _ _ k).0 (within docid _ _ (and_parts _ _ h).1 (and_parts _ _ k).1 (last_key (cmp_ints _ _ _ _ p.at q.at))))
     rows ((reads_as document_text (Int tab ∷ Int docid ∷ []) old new store_schema kept.schema _ document_means.is document_means.plain document_means.unlisted rows h).answer Null)
 
 pub sizes_shown : (tab : ℤ) (old new : State) (rows : List Row) → (IsTrue old.is_open → IsStore old.now) → Shown sizes_text (Int tab ∷ []) old new rows
@@ -184,10 +198,10 @@ pub sizes_shown : (tab : ℤ) (old new : State) (rows : List Row) → (IsTrue ol
 sizes_shown tab old new rows if_open h =
     let kept = if_open (shown_open _ _ old new rows h) in
     let sound = sound_of old kept in
-    keyed_found cell_key_cmp cell_key_total tied_cell_keys int_cmp int_cmp_total tied_ints size_entry IsSizeRow (overlay old.now.trees []) 9 (are_sizes old.now.trees sound) (sizes_apart old.now.trees sound kept.numbered.1.1.1.1.1.0) sizes_query.filter (2 ∷ 3 ∷ 4 ∷ []) (rising cell_order) (Int tab ∷ []) (λ k. int_eq tab k.0) (found_size tab)
+    keyed_found cell_key_cmp cell_key_total tied_cell_keys int_cmp int_cmp_total tied_ints size_entry IsSizeRow (overlay old.now.trees []) 9 (are_sizes old.now.trees sound) (sizes_apart old.now.trees sound kept.numbered.1.1.1.1.1.0) sizes_query.filter (2 ∷ 3 ∷ 4 ∷ []) (rising rest_order) (Int tab ∷ []) (λ k. int_eq tab k.0) (found_size tab)
     (λ r h. last_term (turned _ _ _ _ h.tab refl))
     (λ r h passed. ap (λ t. ((t, (size_entry r).0.1, (size_entry r).0.2), (size_entry r).1)) (same_int tab (size_entry r).0.0 passed))
-    (λ a b p q. then_key (cmp_ints _ _ _ _ p.tab q.tab) (then_key (cmp_ints _ _ _ _ p.docid q.docid) (last_key (cmp_ints _ _ _ _ p.at q.at))))
+    (λ a b p q h k. within tab _ _ h k (then_key (cmp_ints _ _ _ _ p.docid q.docid) (last_key (cmp_ints _ _ _ _ p.at q.at))))
     rows ((reads_as sizes_text (Int tab ∷ []) old new store_schema kept.schema _ sizes_means.is sizes_means.plain sizes_means.unlisted rows h).answer Null)
 
 pub columns_shown : (tab : ℤ) (old new : State) (rows : List Row) → (IsTrue old.is_open → IsStore old.now) → Shown columns_text (Int tab ∷ []) old new rows
@@ -195,10 +209,10 @@ pub columns_shown : (tab : ℤ) (old new : State) (rows : List Row) → (IsTrue 
 columns_shown tab old new rows if_open h =
     let kept = if_open (shown_open _ _ old new rows h) in
     let sound = sound_of old kept in
-    keyed_found column_key_cmp column_key_total tied_column_keys name_cmp name_total tied_names column_entry IsColumnRow (overlay old.now.trees []) 3 (are_columns old.now.trees sound) (columns_apart old.now.trees sound kept.numbered.1.1.0) columns_query.filter (2 ∷ 3 ∷ []) (rising (1 ∷ 2 ∷ [])) (Int tab ∷ []) (λ k. int_eq tab k.0) (found_column tab)
+    keyed_found column_key_cmp column_key_total tied_column_keys name_cmp name_total tied_names column_entry IsColumnRow (overlay old.now.trees []) 3 (are_columns old.now.trees sound) (columns_apart old.now.trees sound kept.numbered.1.1.0) columns_query.filter (2 ∷ 3 ∷ []) (rising (2 ∷ [])) (Int tab ∷ []) (λ k. int_eq tab k.0) (found_column tab)
     (λ r h. last_term (turned _ _ _ _ h.tab refl))
     (λ r h passed. ap (λ t. ((t, (column_entry r).0.1), (column_entry r).1)) (same_int tab (column_entry r).0.0 passed))
-    (λ a b p q. then_key (cmp_ints _ _ _ _ p.tab q.tab) (last_key (cmp_ints _ _ _ _ p.at q.at)))
+    (λ a b p q h k. within tab _ _ h k (last_key (cmp_ints _ _ _ _ p.at q.at)))
     rows ((reads_as columns_text (Int tab ∷ []) old new store_schema kept.schema _ columns_means.is columns_means.plain columns_means.unlisted rows h).answer Null)
 
 pub skips_shown : (tab : ℤ) (old new : State) (rows : List Row) → (IsTrue old.is_open → IsStore old.now) → Shown skips_text (Int tab ∷ []) old new rows
@@ -206,10 +220,10 @@ pub skips_shown : (tab : ℤ) (old new : State) (rows : List Row) → (IsTrue ol
 skips_shown tab old new rows if_open h =
     let kept = if_open (shown_open _ _ old new rows h) in
     let sound = sound_of old kept in
-    found column_key_cmp column_key_total tied_column_keys all_tie all_tie_total (λ x y h. refl) skip_entry IsSkipRow (overlay old.now.trees []) 13 (are_skips old.now.trees sound) (skips_apart old.now.trees sound kept.numbered.1.1.1.1.1.1.1.0) skips_query.filter (2 ∷ []) (rising (1 ∷ 2 ∷ [])) (Int tab ∷ []) (λ k. int_eq tab k.0) (found_skip tab)
+    keyed_found column_key_cmp column_key_total tied_column_keys all_tie all_tie_total (λ x y h. refl) skip_entry IsSkipRow (overlay old.now.trees []) 13 (are_skips old.now.trees sound) (skips_apart old.now.trees sound kept.numbered.1.1.1.1.1.1.1.0) skips_query.filter (2 ∷ []) (rising (2 ∷ [])) (Int tab ∷ []) (λ k. int_eq tab k.0) (found_skip tab)
     (λ r h. last_term (turned _ _ _ _ h.tab refl))
     (λ r h passed. ap (λ t. ((t, (skip_entry r).0.1), tt)) (same_int tab (skip_entry r).0.0 passed))
-    (λ a b p q. then_key (cmp_ints _ _ _ _ p.tab q.tab) (last_key (cmp_ints _ _ _ _ p.at q.at)) ∙ alone (column_key_cmp (skip_entry a).0 (skip_entry b).0))
+    (λ a b p q h k. within tab _ _ h k (last_key (cmp_ints _ _ _ _ p.at q.at)))
     rows ((reads_as skips_text (Int tab ∷ []) old new store_schema kept.schema _ skips_means.is skips_means.plain skips_means.unlisted rows h).answer Null)
 
 pub names_shown : (old new : State) (rows : List Row) → (IsTrue old.is_open → IsStore old.now) → Shown names_text ([]) old new rows
@@ -240,10 +254,10 @@ prefix_stored_shown tab from old new rows if_open h =
     let kept = if_open (shown_open _ _ old new rows h) in
     let sound = sound_of old kept in
     let params = Int tab ∷ Text from ∷ limit_of (after_last from) ∷ [] in
-    keyed_found list_key_cmp list_key_total tied_list_keys name_cmp name_total tied_names stored_entry stored.IsListRow (overlay old.now.trees []) 7 (are_lists old.now.trees sound) (lists_apart old.now.trees sound kept.numbered.1.1.1.1.0) prefix_query.filter list_shown (rising list_order) params (λ k. int_eq tab k.0 && starts_with nat_eq k.1 from) (found_list tab)
+    keyed_found list_key_cmp list_key_total tied_list_keys name_cmp name_total tied_names stored_entry stored.IsListRow (overlay old.now.trees []) 7 (are_lists old.now.trees sound) (lists_apart old.now.trees sound kept.numbered.1.1.1.1.0) prefix_query.filter list_shown (rising rest_order) params (λ k. int_eq tab k.0 && starts_with nat_eq k.1 from) (found_list tab)
     (λ r h. then_term (turned _ _ _ _ h.tab refl) (then_term (test_texts Ge _ _ _ _ h.term refl) (last_term (test_limit _ _ from h.term))) ∙ ap (λ t. int_eq tab (stored_entry r).0.0 && t) (in_range from (stored_entry r).0.1))
     (λ r h passed. ap (λ t. ((t, (stored_entry r).0.1, (stored_entry r).0.2), (stored_entry r).1)) (same_int tab (stored_entry r).0.0 (and_parts _ _ passed).0))
-    (λ a b p q. then_key (cmp_ints _ _ _ _ p.tab q.tab) (then_key (cmp_texts _ _ _ _ p.term q.term) (last_key (cmp_ints _ _ _ _ p.docid q.docid))))
+    (λ a b p q h k. within tab _ _ (and_parts _ _ h).0 (and_parts _ _ k).0 (then_key (cmp_texts _ _ _ _ p.term q.term) (last_key (cmp_ints _ _ _ _ p.docid q.docid))))
     rows ((reads_as prefix_text params old new store_schema kept.schema _ prefix_means.is prefix_means.plain prefix_means.unlisted rows h).answer Null)
 
 pub lists_stored_shown : (tab : ℤ) (old new : State) (rows : List Row) → (IsTrue old.is_open → IsStore old.now) → Shown lists_text (Int tab ∷ []) old new rows
@@ -251,10 +265,10 @@ pub lists_stored_shown : (tab : ℤ) (old new : State) (rows : List Row) → (Is
 lists_stored_shown tab old new rows if_open h =
     let kept = if_open (shown_open _ _ old new rows h) in
     let sound = sound_of old kept in
-    keyed_found list_key_cmp list_key_total tied_list_keys name_cmp name_total tied_names stored_entry stored.IsListRow (overlay old.now.trees []) 7 (are_lists old.now.trees sound) (lists_apart old.now.trees sound kept.numbered.1.1.1.1.0) lists_query.filter list_shown (rising list_order) (Int tab ∷ []) (λ k. int_eq tab k.0) (found_list tab)
+    keyed_found list_key_cmp list_key_total tied_list_keys name_cmp name_total tied_names stored_entry stored.IsListRow (overlay old.now.trees []) 7 (are_lists old.now.trees sound) (lists_apart old.now.trees sound kept.numbered.1.1.1.1.0) lists_query.filter list_shown (rising rest_order) (Int tab ∷ []) (λ k. int_eq tab k.0) (found_list tab)
     (λ r h. last_term (turned _ _ _ _ h.tab refl))
     (λ r h passed. ap (λ t. ((t, (stored_entry r).0.1, (stored_entry r).0.2), (stored_entry r).1)) (same_int tab (stored_entry r).0.0 passed))
-    (λ a b p q. then_key (cmp_ints _ _ _ _ p.tab q.tab) (then_key (cmp_texts _ _ _ _ p.term q.term) (last_key (cmp_ints _ _ _ _ p.docid q.docid))))
+    (λ a b p q h k. within tab _ _ h k (then_key (cmp_texts _ _ _ _ p.term q.term) (last_key (cmp_ints _ _ _ _ p.docid q.docid))))
     rows ((reads_as lists_text (Int tab ∷ []) old new store_schema kept.schema _ lists_means.is lists_means.plain lists_means.unlisted rows h).answer Null)
 
 -- ---- lists, with their places
@@ -281,33 +295,37 @@ pub placed : (db : Trees) (tab : ℤ) (p : ListKey → Bool) (rows : List Row) �
     → map (found_places tab) rows ≡ where_key list_key_cmp p (value_of db).lists
 placed db tab p rows is = sym (map-map (at_value list_key_cmp spots_of) (found_list tab) rows) ∙ with_places db p (map (found_list tab) rows) is
 
--- ---- lists without their terms, which what the rows are sorted by still has
+-- ---- lists without their terms, which are given or what the rows are sorted by
 
-abbrev with_term : ℤ → Output → ListKey × List ℕ
-with_term tab o = ((tab, bytes (column o.0 1), id_in (column o.1 0)), bytes (column o.1 1))
+abbrev with_term : ℤ → (Output → List ℕ) → Output → ListKey × List ℕ
+with_term tab term_of o = ((tab, term_of o, id_in (column o.1 0)), bytes (column o.1 1))
 
-bare_found : (tab : ℤ) (old : State) (kept : IsStore old.now) (terms : List Term) (params : Row) (p : ListKey → Bool)
+bare_found : (tab : ℤ) (old : State) (kept : IsStore old.now) (terms : List Term) (order : List ℕ) (params : Row) (p : ListKey → Bool) (term_of : Output → List ℕ)
     → ((r : Row) → stored.IsListRow r → list_all (holds (params ∷ r ∷ [])) terms ≡ p (stored_entry r).0) → ((k : ListKey) → p k ≡ true → int_eq tab k.0 ≡ true)
-    → (rows : List Row) → IsAnswer (query_by 7 terms bare_shown (rising list_order) no_limit) (overlay old.now.trees []) params rows
+    → ((r : Row) → p (stored_entry r).0 ≡ true → term_of (output (query_by 7 terms bare_shown (rising order) no_limit) (params ∷ r ∷ [])) ≡ (stored_entry r).0.1)
+    → ((a b : Row) → stored.IsListRow a → stored.IsListRow b → p (stored_entry a).0 ≡ true → p (stored_entry b).0 ≡ true → output_cmp (query_by 7 terms bare_shown (rising order) no_limit) (output (query_by 7 terms bare_shown (rising order) no_limit) (params ∷ a ∷ [])) (output (query_by 7 terms bare_shown (rising order) no_limit) (params ∷ b ∷ [])) ≡ list_key_cmp (stored_entry a).0 (stored_entry b).0)
+    → (rows : List Row) → IsAnswer (query_by 7 terms bare_shown (rising order) no_limit) (overlay old.now.trees []) params rows
     → map found_spots rows ≡ map bare_list (where_key list_key_cmp p (value_of old.now.trees).lists)
-bare_found tab old kept terms params p tests in_table rows answer =
+bare_found tab old kept terms order params p term_of tests in_table named orders rows answer =
     let sound = sound_of old kept in
-    let outputs = keyed_outputs list_key_cmp list_key_total tied_list_keys name_cmp name_total tied_names stored_entry stored.IsListRow (overlay old.now.trees []) 7 (are_lists old.now.trees sound) (lists_apart old.now.trees sound kept.numbered.1.1.1.1.0) terms bare_shown (rising list_order) params p (with_term tab) tests
-    (λ r h passed. ap (λ t. ((t, (stored_entry r).0.1, (stored_entry r).0.2), (stored_entry r).1)) (same_int tab (stored_entry r).0.0 (in_table (stored_entry r).0 passed)))
-    (λ a b p q. then_key (cmp_ints _ _ _ _ p.tab q.tab) (then_key (cmp_texts _ _ _ _ p.term q.term) (last_key (cmp_ints _ _ _ _ p.docid q.docid))))
-    rows answer in
+    let back = with_term tab term_of in
+    let outputs = keyed_outputs list_key_cmp list_key_total tied_list_keys name_cmp name_total tied_names stored_entry stored.IsListRow (overlay old.now.trees []) 7 (are_lists old.now.trees sound) (lists_apart old.now.trees sound kept.numbered.1.1.1.1.0) terms bare_shown (rising order) params p back tests
+    (λ r h passed. λ i. ((same_int tab (stored_entry r).0.0 (in_table (stored_entry r).0 passed) i, named r passed i, (stored_entry r).0.2), (stored_entry r).1))
+    orders rows answer in
     ap (map found_spots) answer.shown ∙ map-map found_spots (λ (o : Output). o.1) answer.ordered
-    ∙ sym (map-map (λ (e : ListKey × List ℕ). bare_list (at_value list_key_cmp spots_of e)) (with_term tab) answer.ordered)
-    ∙ sym (map-map bare_list (at_value list_key_cmp spots_of) (map (with_term tab) answer.ordered))
-    ∙ ap (map bare_list) (with_places old.now.trees p (map (with_term tab) answer.ordered) outputs)
+    ∙ sym (map-map (λ (e : ListKey × List ℕ). bare_list (at_value list_key_cmp spots_of e)) back answer.ordered)
+    ∙ sym (map-map bare_list (at_value list_key_cmp spots_of) (map back answer.ordered))
+    ∙ ap (map bare_list) (with_places old.now.trees p (map back answer.ordered) outputs)
 
 pub term_shown : (tab : ℤ) (term : List ℕ) (old new : State) (rows : List Row) → (IsTrue old.is_open → IsStore old.now) → Shown term_text (Int tab ∷ Text term ∷ []) old new rows
     → map found_spots rows ≡ map bare_list (lists_under_term tab term (value_of old.now.trees))
 term_shown tab term old new rows if_open h =
     let kept = if_open (shown_open _ _ old new rows h) in
-    bare_found tab old kept term_query.filter (Int tab ∷ Text term ∷ []) (λ k. int_eq tab k.0 && is_eq (name_cmp term k.1))
+    bare_found tab old kept term_query.filter (3 ∷ []) (Int tab ∷ Text term ∷ []) (λ k. int_eq tab k.0 && is_eq (name_cmp term k.1)) (λ _. term)
     (λ r h. then_term (turned _ _ _ _ h.tab refl) (last_term (turned_text _ _ _ _ h.term refl)))
     (λ k passed. (and_parts _ _ passed).0)
+    (λ r passed. same_name term _ (and_parts _ _ passed).1)
+    (λ a b p q h k. within tab _ _ (and_parts _ _ h).0 (and_parts _ _ k).0 (within_term term _ _ (and_parts _ _ h).1 (and_parts _ _ k).1 (last_key (cmp_ints _ _ _ _ p.docid q.docid))))
     rows ((reads_as term_text (Int tab ∷ Text term ∷ []) old new store_schema kept.schema _ term_means.is term_means.plain term_means.unlisted rows h).answer Null)
 
 pub bare_prefix_shown : (tab : ℤ) (from : List ℕ) (old new : State) (rows : List Row) → (IsTrue old.is_open → IsStore old.now) → Shown bare_prefix_text (Int tab ∷ Text from ∷ limit_of (after_last from) ∷ []) old new rows
@@ -315,9 +333,11 @@ pub bare_prefix_shown : (tab : ℤ) (from : List ℕ) (old new : State) (rows : 
 bare_prefix_shown tab from old new rows if_open h =
     let kept = if_open (shown_open _ _ old new rows h) in
     let params = Int tab ∷ Text from ∷ limit_of (after_last from) ∷ [] in
-    bare_found tab old kept bare_prefix_query.filter params (λ k. int_eq tab k.0 && starts_with nat_eq k.1 from)
+    bare_found tab old kept bare_prefix_query.filter rest_order params (λ k. int_eq tab k.0 && starts_with nat_eq k.1 from) (λ o. bytes (column o.0 0))
     (λ r h. then_term (turned _ _ _ _ h.tab refl) (then_term (test_texts Ge _ _ _ _ h.term refl) (last_term (test_limit _ _ from h.term))) ∙ ap (λ t. int_eq tab (stored_entry r).0.0 && t) (in_range from (stored_entry r).0.1))
     (λ k passed. (and_parts _ _ passed).0)
+    (λ r passed. refl)
+    (λ a b p q h k. within tab _ _ (and_parts _ _ h).0 (and_parts _ _ k).0 (then_key (cmp_texts _ _ _ _ p.term q.term) (last_key (cmp_ints _ _ _ _ p.docid q.docid))))
     rows ((reads_as bare_prefix_text params old new store_schema kept.schema _ bare_prefix_means.is bare_prefix_means.plain bare_prefix_means.unlisted rows h).answer Null)
 
 -- ---- why a query is refused
@@ -458,7 +478,7 @@ sizes_blamed tab old new store =
     IsSizeRow (λ kept. are_sizes old.now.trees (sound_of old kept)) _ (λ r typed. (omega arith, (id_in (column r 2), typed.docid), (id_in (column r 3), typed.at), (id_in (column r 4), typed.n)))
 
 -- what a range ends at is a text or a blob
-range_typed : (bare : Bool) (tab : ℤ) (begin ends : List ℕ) → IsTyped (table_query 7 prefix_query.filter (cond bare bare_shown list_shown) list_order) (Int tab ∷ Text begin ∷ limit_of ends ∷ [])
+range_typed : (bare : Bool) (tab : ℤ) (begin ends : List ℕ) → IsTyped (table_query 7 prefix_query.filter (cond bare bare_shown list_shown) rest_order) (Int tab ∷ Text begin ∷ limit_of ends ∷ [])
 range_typed true tab begin [] db has untyped = true≢false (rw has at untyped)
 range_typed true tab begin (b ∷ ends) db has untyped = true≢false (rw has at untyped)
 range_typed false tab begin [] db has untyped = true≢false (rw has at untyped)

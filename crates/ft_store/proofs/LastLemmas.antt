@@ -4,12 +4,12 @@ use Rattle.ft_store.proofs.Common.{AllByRecursion, eq_by_cmp, IsTotalOrder, find
 use Rattle.ft_store.proofs.Common.{IsPermutation-reverse, IsAscending, sort_by, IsPermutation-sort_by, map-map, filter-map, all-append, Null, Int}
 use Rattle.ft_store.proofs.Common.{Row, column, id_in, Trees, lit, Output, IsAnswer, overlay, State, Shown, reads_as, then_key, last_key, last_term}
 use Rattle.ft_store.proofs.Common.{Cell, CellKey, cell_key_cmp, last_docid_of, list_all, nat_tests, drop-map, then_term, Term, holds, limited}
-use Rattle.ft_store.proofs.Common.{as_count}
+use Rattle.ft_store.proofs.Common.{as_count, and_parts}
 use Rattle.std.proofs.lemmas.Grind.{reverse_onto}
 use Rattle.ft_store.specs.Tables.{store_schema}
 use Rattle.ft_store.specs.Rows.{keyed, cell_key, cell_entry, value_of}
 use Rattle.ft_store.specs.Calls.{IsStore}
-use Rattle.ft_store.proofs.Texts.{last_text, docids_text, has_document_text, falling, last_query, last_means, rising, no_limit, no_offset, cell_order}
+use Rattle.ft_store.proofs.Texts.{last_text, docids_text, has_document_text, falling, last_query, last_means, rising, no_limit, no_offset, rest_order}
 use Rattle.ft_store.proofs.Texts.{docid_query, docids_query, docids_means, has_document_query, has_document_means}
 use Rattle.ft_store.proofs.CantLemmas.{ascending_push}
 use Rattle.ft_store.proofs.KeyedLemmas.{sort_by-permutation, sort_by-rising, rises-sort_by, AreApart, at_value, keyed-map, whole_cmp, sorted-keyed}
@@ -18,7 +18,7 @@ use Rattle.ft_store.proofs.ChangeLemmas.{all_selected}
 use Rattle.ft_store.proofs.TypedLemmas.{tied_cell_keys, cell_key_total, IsCellRow, are_cells}
 use Rattle.ft_store.proofs.StoreTables.{cells_apart, turned}
 use Rattle.ft_store.proofs.BlameLemmas.{shown_open}
-use Rattle.ft_store.proofs.AnswerLemmas.{cmp_ints, same_int, alone, all_tie, all_tie_total, sound_of, keyed_outputs}
+use Rattle.ft_store.proofs.AnswerLemmas.{cmp_ints, same_int, alone, all_tie, all_tie_total, sound_of, keyed_outputs, within}
 use Rattle.sqlite.specs.Term.{eval}
 use Rattle.ft_store.specs.Docids.{docids_in, cut_to}
 
@@ -157,14 +157,14 @@ all_rows filter limit offset db params rows answer = record {
 abbrev docid_of : Row → ℤ
 docid_of row = id_in (column row 0)
 
--- what a row is sorted by has its table and its column
-abbrev key_of : Output → CellKey × Unit {0}
-key_of o = ((id_in (column o.0 0), docid_of o.1, id_in (column o.0 2)), tt)
+-- what a row of a table is sorted by has its column
+abbrev key_of : ℤ → Output → CellKey × Unit {0}
+key_of tab o = ((tab, docid_of o.1, id_in (column o.0 1)), tt)
 
 abbrev docid_in : {X : Type 0} → CellKey × X → ℤ
 docid_in c = c.0.1
 
-module _ (filter : List Term) (limit offset : Term) (params : Row) (p : CellKey → Bool) (tests : (r : Row) → IsCellRow r → list_all (holds (params ∷ r ∷ [])) filter ≡ p (cell_key r))
+module _ (filter : List Term) (limit offset : Term) (params : Row) (tab : ℤ) (p : CellKey → Bool) (in_table : (k : CellKey) → p k ≡ true → int_eq tab k.0 ≡ true) (tests : (r : Row) → IsCellRow r → list_all (holds (params ∷ r ∷ [])) filter ≡ p (cell_key r))
     (s : State) (kept : IsStore s.now) (rows : List Row) (answer : IsAnswer (docid_query filter limit offset) (overlay s.now.trees []) params rows) where
   -- all of them, before LIMIT and OFFSET
   docids_ordered : map (λ (o : Output). docid_of o.1) answer.ordered ≡ map docid_in (where_key cell_key_cmp p (value_of s.now.trees).cells)
@@ -172,11 +172,11 @@ module _ (filter : List Term) (limit offset : Term) (params : Row) (p : CellKey 
       let sound = sound_of s kept in
       let db = s.now.trees 5 in
       let apart = keys_apart db (cells_apart s.now.trees sound kept.numbered.1.1.1.0) in
-      let keys = keyed_outputs cell_key_cmp cell_key_total tied_cell_keys all_tie all_tie_total (λ x y h. refl) key_entry IsCellRow (overlay s.now.trees []) 5 (are_cells s.now.trees sound) apart filter (2 ∷ []) (rising cell_order) params p key_of tests
-      (λ r h passed. refl)
-      (λ a b h k. then_key (cmp_ints _ _ _ _ h.tab k.tab) (then_key (cmp_ints _ _ _ _ h.docid k.docid) (last_key (cmp_ints _ _ _ _ h.at k.at))))
+      let keys = keyed_outputs cell_key_cmp cell_key_total tied_cell_keys all_tie all_tie_total (λ x y h. refl) key_entry IsCellRow (overlay s.now.trees []) 5 (are_cells s.now.trees sound) apart filter (2 ∷ []) (rising rest_order) params p (key_of tab) tests
+      (λ r h passed. ap (λ t. ((t, (cell_key r).1, (cell_key r).2), tt)) (same_int tab (cell_key r).0 (in_table _ passed)))
+      (λ a b h k e f. within tab _ _ (in_table _ e) (in_table _ f) (then_key (cmp_ints _ _ _ _ h.docid k.docid) (last_key (cmp_ints _ _ _ _ h.at k.at))))
       _ (all_rows filter limit offset (overlay s.now.trees []) params rows answer) in
-      sym (map-map docid_in key_of answer.ordered)
+      sym (map-map docid_in (key_of tab) answer.ordered)
       ∙ ap (map docid_in) (keys ∙ ap (where_key cell_key_cmp p) (keyed_keys db) ∙ filter-map (λ (e : CellKey × Unit {0}). p e.0) key_alone (keyed cell_key_cmp (map cell_entry db)))
       ∙ map-map docid_in key_alone (where_key cell_key_cmp p (value_of s.now.trees).cells)
 
@@ -193,7 +193,7 @@ pub docids_shown : (tab limit : ℤ) (offset : ℕ) (most : Option ℕ) → as_c
 docids_shown tab limit offset most is old new rows if_open h =
     let kept = if_open (shown_open _ _ old new rows h) in
     let params = Int tab ∷ Int limit ∷ Int (pos offset) ∷ [] in
-    docids_given docids_query.filter docids_query.limit docids_query.offset params (λ k. int_eq tab k.0 && int_eq (pos 0) k.2)
+    docids_given docids_query.filter docids_query.limit docids_query.offset params tab (λ k. int_eq tab k.0 && int_eq (pos 0) k.2) (λ k passed. (and_parts _ _ passed).0)
     (λ r h. then_term (turned _ _ _ _ h.tab refl) (last_term (turned _ _ _ _ h.at refl)))
     old kept rows ((reads_as docids_text params old new store_schema kept.schema _ docids_means.is docids_means.plain docids_means.unlisted rows h).answer Null) most offset is refl
 
@@ -218,7 +218,7 @@ document_found tab docid old new rows if_open h =
     let params = Int tab ∷ Int docid ∷ [] in
     let cells = where_key cell_key_cmp (λ k. int_eq tab k.0 && int_eq docid k.1) (value_of old.now.trees).cells in
     sym (some_mapped docid_of rows)
-    ∙ ap (λ (ds : List ℤ). is_some (slice_get ds 0)) (docids_given has_document_query.filter has_document_query.limit has_document_query.offset params (λ k. int_eq tab k.0 && int_eq docid k.1)
+    ∙ ap (λ (ds : List ℤ). is_some (slice_get ds 0)) (docids_given has_document_query.filter has_document_query.limit has_document_query.offset params tab (λ k. int_eq tab k.0 && int_eq docid k.1) (λ k passed. (and_parts _ _ passed).0)
     (λ r h. then_term (turned _ _ _ _ h.tab refl) (last_term (turned _ _ _ _ h.docid refl)))
     old kept rows ((reads_as has_document_text params old new store_schema kept.schema _ has_document_means.is has_document_means.plain has_document_means.unlisted rows h).answer Null) (Some 1) 0 refl refl)
     ∙ some_taken (map docid_in cells) ∙ some_mapped docid_in cells

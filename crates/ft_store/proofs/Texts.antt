@@ -57,40 +57,40 @@ abbrev pub names_text : List ℕ
 names_text = codes "SELECT id, name FROM tab ORDER BY id, name COLLATE BINARY"
 
 abbrev pub columns_text : List ℕ
-columns_text = codes "SELECT col, name FROM col WHERE tab = ?1 ORDER BY tab, col"
+columns_text = codes "SELECT col, name FROM col WHERE tab = ?1 ORDER BY col"
 
 abbrev pub skips_text : List ℕ
-skips_text = codes "SELECT col FROM skip WHERE tab = ?1 ORDER BY tab, col"
+skips_text = codes "SELECT col FROM skip WHERE tab = ?1 ORDER BY col"
 
 abbrev pub cells_text : List ℕ
-cells_text = codes "SELECT docid, col, num, txt FROM cell WHERE tab = ?1 ORDER BY tab, docid, col"
+cells_text = codes "SELECT docid, col, num, txt FROM cell WHERE tab = ?1 ORDER BY docid, col"
 
 abbrev pub document_text : List ℕ
-document_text = codes "SELECT docid, col, num, txt FROM cell WHERE tab = ?1 AND docid = ?2 ORDER BY tab, docid, col"
+document_text = codes "SELECT docid, col, num, txt FROM cell WHERE tab = ?1 AND docid = ?2 ORDER BY col"
 
 abbrev pub docids_text : List ℕ
-docids_text = codes "SELECT docid FROM cell WHERE tab = ?1 AND col = 0 ORDER BY tab, docid, col LIMIT ?2 OFFSET ?3"
+docids_text = codes "SELECT docid FROM cell WHERE tab = ?1 AND col = 0 ORDER BY docid, col LIMIT ?2 OFFSET ?3"
 
 abbrev pub has_document_text : List ℕ
-has_document_text = codes "SELECT docid FROM cell WHERE tab = ?1 AND docid = ?2 ORDER BY tab, docid, col LIMIT 1"
+has_document_text = codes "SELECT docid FROM cell WHERE tab = ?1 AND docid = ?2 ORDER BY docid, col LIMIT 1"
 
 abbrev pub last_text : List ℕ
 last_text = codes "SELECT docid, col FROM cell WHERE tab = ?1 ORDER BY tab DESC, docid DESC, col DESC LIMIT 1"
 
 abbrev pub term_text : List ℕ
-term_text = codes "SELECT docid, list FROM posting WHERE tab = ?1 AND term = ?2 ORDER BY tab, term, docid"
+term_text = codes "SELECT docid, list FROM posting WHERE tab = ?1 AND term = ?2 ORDER BY docid"
 
 abbrev pub prefix_text : List ℕ
-prefix_text = codes "SELECT docid, list, term FROM posting WHERE tab = ?1 AND term >= ?2 AND term < ?3 ORDER BY tab, term, docid"
+prefix_text = codes "SELECT docid, list, term FROM posting WHERE tab = ?1 AND term >= ?2 AND term < ?3 ORDER BY term, docid"
 
 abbrev pub bare_prefix_text : List ℕ
-bare_prefix_text = codes "SELECT docid, list FROM posting WHERE tab = ?1 AND term >= ?2 AND term < ?3 ORDER BY tab, term, docid"
+bare_prefix_text = codes "SELECT docid, list FROM posting WHERE tab = ?1 AND term >= ?2 AND term < ?3 ORDER BY term, docid"
 
 abbrev pub lists_text : List ℕ
-lists_text = codes "SELECT docid, list, term FROM posting WHERE tab = ?1 ORDER BY tab, term, docid"
+lists_text = codes "SELECT docid, list, term FROM posting WHERE tab = ?1 ORDER BY term, docid"
 
 abbrev pub sizes_text : List ℕ
-sizes_text = codes "SELECT docid, col, n FROM sizes WHERE tab = ?1 ORDER BY tab, docid, col"
+sizes_text = codes "SELECT docid, col, n FROM sizes WHERE tab = ?1 ORDER BY docid, col"
 
 abbrev pub noted_text : List ℕ
 noted_text = codes "SELECT name FROM noted ORDER BY name, name COLLATE BINARY"
@@ -160,11 +160,9 @@ list_shown = 3 ∷ 4 ∷ 2 ∷ []
 abbrev pub bare_shown : List ℕ
 bare_shown = 3 ∷ 4 ∷ []
 
-abbrev pub list_order : List ℕ
-list_order = 1 ∷ 2 ∷ 3 ∷ []
-
-abbrev pub cell_order : List ℕ
-cell_order = 1 ∷ 2 ∷ 3 ∷ []
+-- what is left of a list's or a cell's key where the table is given
+abbrev pub rest_order : List ℕ
+rest_order = 2 ∷ 3 ∷ []
 
 -- what a text means that takes the rows of one table out for which these terms hold
 pub record IsDeletion (at tree : ℕ) (terms : List Term) (text : List ℕ) (count : ℕ) : Type 0 where
@@ -218,28 +216,28 @@ unfolding understood everything
 names_means = record { is = refl; plain = (refl, refl); unlisted = refl; whole = refl }
 
 abbrev pub columns_query : Query
-columns_query = table_query 3 (is_param 1 0 ∷ []) (2 ∷ 3 ∷ []) (1 ∷ 2 ∷ [])
+columns_query = table_query 3 (is_param 1 0 ∷ []) (2 ∷ 3 ∷ []) (2 ∷ [])
 
 pub columns_means : IsQuestion columns_query (codes "col" ∷ codes "name" ∷ []) columns_text 1
 unfolding understood everything
 columns_means = record { is = refl; plain = (refl, refl); unlisted = refl; whole = refl }
 
 abbrev pub skips_query : Query
-skips_query = table_query 13 (is_param 1 0 ∷ []) (2 ∷ []) (1 ∷ 2 ∷ [])
+skips_query = table_query 13 (is_param 1 0 ∷ []) (2 ∷ []) (2 ∷ [])
 
 pub skips_means : IsQuestion skips_query (codes "col" ∷ []) skips_text 1
 unfolding understood everything
 skips_means = record { is = refl; plain = (refl, refl); unlisted = refl; whole = refl }
 
 abbrev pub cells_query : Query
-cells_query = table_query 5 (is_param 1 0 ∷ []) (2 ∷ 3 ∷ 4 ∷ 5 ∷ []) cell_order
+cells_query = table_query 5 (is_param 1 0 ∷ []) (2 ∷ 3 ∷ 4 ∷ 5 ∷ []) rest_order
 
 pub cells_means : IsQuestion cells_query (codes "docid" ∷ codes "col" ∷ codes "num" ∷ codes "txt" ∷ []) cells_text 1
 unfolding understood everything
 cells_means = record { is = refl; plain = (refl, refl); unlisted = refl; whole = refl }
 
 abbrev pub document_query : Query
-document_query = table_query 5 (is_param 1 0 ∷ is_param 2 1 ∷ []) (2 ∷ 3 ∷ 4 ∷ 5 ∷ []) cell_order
+document_query = table_query 5 (is_param 1 0 ∷ is_param 2 1 ∷ []) (2 ∷ 3 ∷ 4 ∷ 5 ∷ []) (3 ∷ [])
 
 pub document_means : IsQuestion document_query (codes "docid" ∷ codes "col" ∷ codes "num" ∷ codes "txt" ∷ []) document_text 2
 unfolding understood everything
@@ -247,7 +245,7 @@ document_means = record { is = refl; plain = (refl, refl); unlisted = refl; whol
 
 -- the docids of cells, in the order of their keys
 abbrev pub docid_query : List Term → Term → Term → Query
-docid_query filter limit offset = record (query_by 5 filter (2 ∷ []) (rising cell_order) limit) { offset = offset }
+docid_query filter limit offset = record (query_by 5 filter (2 ∷ []) (rising rest_order) limit) { offset = offset }
 
 abbrev pub docids_query : Query
 docids_query = docid_query (is_param 1 0 ∷ op2 (Compare Eq Binary) (col 1 3) (lit (Int (pos 0))) ∷ []) (col 0 1) (col 0 2)
@@ -271,35 +269,35 @@ unfolding understood everything
 last_means = record { is = refl; plain = (refl, refl); unlisted = refl; whole = refl }
 
 abbrev pub term_query : Query
-term_query = table_query 7 (is_param 1 0 ∷ is_param 2 1 ∷ []) bare_shown list_order
+term_query = table_query 7 (is_param 1 0 ∷ is_param 2 1 ∷ []) bare_shown (3 ∷ [])
 
 pub term_means : IsQuestion term_query (codes "docid" ∷ codes "list" ∷ []) term_text 2
 unfolding understood everything
 term_means = record { is = refl; plain = (refl, refl); unlisted = refl; whole = refl }
 
 abbrev pub prefix_query : Query
-prefix_query = table_query 7 (is_param 1 0 ∷ compares Ge 2 1 ∷ compares Lt 2 2 ∷ []) list_shown list_order
+prefix_query = table_query 7 (is_param 1 0 ∷ compares Ge 2 1 ∷ compares Lt 2 2 ∷ []) list_shown rest_order
 
 pub prefix_means : IsQuestion prefix_query (codes "docid" ∷ codes "list" ∷ codes "term" ∷ []) prefix_text 3
 unfolding understood everything
 prefix_means = record { is = refl; plain = (refl, refl); unlisted = refl; whole = refl }
 
 abbrev pub bare_prefix_query : Query
-bare_prefix_query = table_query 7 (is_param 1 0 ∷ compares Ge 2 1 ∷ compares Lt 2 2 ∷ []) bare_shown list_order
+bare_prefix_query = table_query 7 (is_param 1 0 ∷ compares Ge 2 1 ∷ compares Lt 2 2 ∷ []) bare_shown rest_order
 
 pub bare_prefix_means : IsQuestion bare_prefix_query (codes "docid" ∷ codes "list" ∷ []) bare_prefix_text 3
 unfolding understood everything
 bare_prefix_means = record { is = refl; plain = (refl, refl); unlisted = refl; whole = refl }
 
 abbrev pub lists_query : Query
-lists_query = table_query 7 (is_param 1 0 ∷ []) list_shown list_order
+lists_query = table_query 7 (is_param 1 0 ∷ []) list_shown rest_order
 
 pub lists_means : IsQuestion lists_query (codes "docid" ∷ codes "list" ∷ codes "term" ∷ []) lists_text 1
 unfolding understood everything
 lists_means = record { is = refl; plain = (refl, refl); unlisted = refl; whole = refl }
 
 abbrev pub sizes_query : Query
-sizes_query = table_query 9 (is_param 1 0 ∷ []) (2 ∷ 3 ∷ 4 ∷ []) cell_order
+sizes_query = table_query 9 (is_param 1 0 ∷ []) (2 ∷ 3 ∷ 4 ∷ []) rest_order
 
 pub sizes_means : IsQuestion sizes_query (codes "docid" ∷ codes "col" ∷ codes "n" ∷ []) sizes_text 1
 unfolding understood everything

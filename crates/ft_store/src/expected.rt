@@ -138,7 +138,7 @@ pub(crate) fn has_lists<S: Alter>(
     };
     let whole = gather(
         conn,
-        "SELECT docid, list, term FROM posting WHERE tab = ?1 ORDER BY tab, term, docid",
+        "SELECT docid, list, term FROM posting WHERE tab = ?1 ORDER BY term, docid",
         params![tab],
         &mut expected,
     )?;

@@ -1,28 +1,29 @@
-//! The texts of the statements of a store: its queries, its changes, and its tables.
+//! The texts of the statements of a store: its queries, its changes, and its tables. Rows of one
+//! table, or of one term, are ordered by the rest of their key: the engine copies each part of an
+//! order for each row, also where the rows come so.
 
 /// All cells of a table.
 pub(crate) const CELLS: &str =
-    "SELECT docid, col, num, txt FROM cell WHERE tab = ?1 ORDER BY tab, docid, col";
+    "SELECT docid, col, num, txt FROM cell WHERE tab = ?1 ORDER BY docid, col";
 
 /// The cells of a document.
 pub(crate) const DOCUMENT: &str =
-    "SELECT docid, col, num, txt FROM cell WHERE tab = ?1 AND docid = ?2 ORDER BY tab, docid, col";
+    "SELECT docid, col, num, txt FROM cell WHERE tab = ?1 AND docid = ?2 ORDER BY col";
 
 /// The docids of the cells of column 0, so many after an offset.
 pub(crate) const DOCIDS: &str =
-    "SELECT docid FROM cell WHERE tab = ?1 AND col = 0 ORDER BY tab, docid, col LIMIT ?2 OFFSET ?3";
+    "SELECT docid FROM cell WHERE tab = ?1 AND col = 0 ORDER BY docid, col LIMIT ?2 OFFSET ?3";
 
 /// One cell of a document.
 pub(crate) const ONE_CELL: &str =
-    "SELECT docid FROM cell WHERE tab = ?1 AND docid = ?2 ORDER BY tab, docid, col LIMIT 1";
+    "SELECT docid FROM cell WHERE tab = ?1 AND docid = ?2 ORDER BY docid, col LIMIT 1";
 
 /// The last cell of a table.
 pub(crate) const LAST_DOCID: &str =
     "SELECT docid, col FROM cell WHERE tab = ?1 ORDER BY tab DESC, docid DESC, col DESC LIMIT 1";
 
 /// The sizes of a table's cells.
-pub(crate) const SIZES: &str =
-    "SELECT docid, col, n FROM sizes WHERE tab = ?1 ORDER BY tab, docid, col";
+pub(crate) const SIZES: &str = "SELECT docid, col, n FROM sizes WHERE tab = ?1 ORDER BY docid, col";
 
 /// The noted names.
 pub(crate) const NOTED: &str = "SELECT name FROM noted ORDER BY name, name COLLATE BINARY";
@@ -31,22 +32,22 @@ pub(crate) const NOTED: &str = "SELECT name FROM noted ORDER BY name, name COLLA
 pub(crate) const NAMES: &str = "SELECT id, name FROM tab ORDER BY id, name COLLATE BINARY";
 
 /// The columns of a table.
-pub(crate) const COLUMNS: &str = "SELECT col, name FROM col WHERE tab = ?1 ORDER BY tab, col";
+pub(crate) const COLUMNS: &str = "SELECT col, name FROM col WHERE tab = ?1 ORDER BY col";
 
 /// The columns of a table that aren't indexed.
-pub(crate) const SKIPS: &str = "SELECT col FROM skip WHERE tab = ?1 ORDER BY tab, col";
+pub(crate) const SKIPS: &str = "SELECT col FROM skip WHERE tab = ?1 ORDER BY col";
 
 /// The lists of a term.
 pub(crate) const TERM_LISTS: &str =
-    "SELECT docid, list FROM posting WHERE tab = ?1 AND term = ?2 ORDER BY tab, term, docid";
+    "SELECT docid, list FROM posting WHERE tab = ?1 AND term = ?2 ORDER BY docid";
 
 /// The lists of the terms of a range, each with its term.
 pub(crate) const PREFIX: &str =
-    "SELECT docid, list, term FROM posting WHERE tab = ?1 AND term >= ?2 AND term < ?3 ORDER BY tab, term, docid";
+    "SELECT docid, list, term FROM posting WHERE tab = ?1 AND term >= ?2 AND term < ?3 ORDER BY term, docid";
 
 /// The lists of the terms of a range.
 pub(crate) const PREFIX_LISTS: &str =
-    "SELECT docid, list FROM posting WHERE tab = ?1 AND term >= ?2 AND term < ?3 ORDER BY tab, term, docid";
+    "SELECT docid, list FROM posting WHERE tab = ?1 AND term >= ?2 AND term < ?3 ORDER BY term, docid";
 
 // ---- changes
 
