@@ -22,7 +22,7 @@ use Rattle.std.proofs.lemmas.Nat.Bits.{bit_at-zero}
 use Rattle.ft_store.specs.Blame.{IsBlamed}
 use Rattle.sqlite_rules.specs.Cast.{cast_row}
 use Rattle.ft_store.specs.Tables.{store_schema, cell_table, posting_table}
-use Rattle.ft_store.proofs.ChangeLemmas.{bare_table, inserts, inserts_all, cast_null, cast_int}
+use Rattle.ft_store.proofs.ChangeLemmas.{bare_table, inserts_all, cast_null, cast_int}
 use Rattle.ft_store.specs.Calls.{IsStore, HasOwnRowids, Steps}
 use Rattle.ft_store.specs.Puts.{IsFull, AreGrown, IsTooBig, IsBigEntry, IsGrown, KeepsRest}
 use Rattle.ft_store.proofs.KeyedLemmas.{some_first, find-keyed, is_sorted-keyed, find-without_key, put-without_key}
@@ -40,7 +40,7 @@ use Rattle.ft_store.proofs.GroupLemmas.{all_eight}
 use Rattle.ft_store.proofs.Texts.{drop_column_text, drop_skip_text, drop_cell_text, drop_list_text, drop_size_text, drop_note_text, add_column_text}
 use Rattle.ft_store.proofs.Texts.{add_skip_text, add_cell_text, add_list_text, add_lists_text, add_size_text, add_note_text, IsInsertion}
 use Rattle.ft_store.proofs.Texts.{add_cell_terms, add_lists_terms, add_lists_means}
-use Rattle.ft_store.proofs.StoreTables.{added, StoreTable, then_tie, turned, turned_text, turned_case, cast_num, cast_txt, cast_lists, list_row}
+use Rattle.ft_store.proofs.StoreTables.{added_all, StoreTable, then_tie, turned, turned_text, turned_case, cast_num, cast_txt, cast_lists, list_row}
 use Rattle.ft_store.proofs.TableLemmas.{text_again}
 use Rattle.ft_store.proofs.PutLemmas.{then_step}
 use Rattle.ft_rows.specs.Packed.{unpacked}
@@ -313,15 +313,15 @@ module _ {K X : Type 0} {P : Row → Type 0} (t : StoreTable K X P) (text : List
   abbrev IsFree : State → Type 0
   IsFree s = find t.cmp key (t.rows (value_of s.now.trees)) ≡ None
 
-  adds : (old new : State) (n : ℕ) → IsStore old.now → IsFree old → ExecutesInside 0 text params old new (Ok n)
+  adds : (old new : State) (n : ℕ) → IsStore old.now → ExecutesInside 0 text params old new (Ok n)
       → Steps old new (t.with_rows (put t.cmp key x (t.rows (value_of old.now.trees))) (value_of old.now.trees)) × AreGrown 1 old.now.trees new.now.trees × KeepsRest t.table.tree old.now.trees new.now.trees
-  adds old new n kept free ran =
+  adds old new n kept ran =
       let rows = old.now.trees t.table.tree in
       let v = value_of old.now.trees in
       let id = next_rowid rows in
-      let made = inserts old new text params t.at t.table it.terms it.width (Int id ∷ it.row) n kept.schema it.means.is it.means.plain t.found (ap (numbered Chosen rows) it.made) ran.0 in
-      let free_entry = ap (λ (e : K × X). find t.cmp e.0 (t.rows v)) (it.entry id) ∙ free in (
-        subst (λ (e : K × X). Steps old new (t.with_rows (put t.cmp e.0 e.1 (t.rows v)) v)) (it.entry id) (added old new kept ran.1 t (Int id ∷ it.row) refl made free_entry),
+      let news = (Int id ∷ it.row) ∷ [] in
+      let made = inserts_all old new text params t.at t.table it.terms it.width news n kept.schema it.means.is it.means.plain t.found (ap (numbered Chosen rows) it.made) ran.0 in (
+        subst (λ (e : K × X). Steps old new (t.with_rows (put t.cmp e.0 e.1 (t.rows v)) v)) (it.entry id) (added_all old new kept ran.1 t news (refl, tt) made),
         wrote_grown t.table.tree 1 old new _ made.0 (numbered_grown ((Null ∷ it.row) ∷ []) rows (t.own old.now.trees kept.numbered).1 (refl, tt)),
         rest_of t.table.tree old.now.trees new.now.trees made.0.others,
       )
@@ -350,6 +350,28 @@ module _ {K X : Type 0} {P : Row → Type 0} (t : StoreTable K X P) (text : List
         | inr cant ↦ inr (cant_why old kept free e (subst (CantAdd e (bare_table t.table) old.now.trees) it.made cant.1))
       ]
 
+  -- the same, whether its key is free or not, of what no rule of the table refuses
+  cant_unruled : (s : State) → IsStore s.now → (e : Error) → ((rule : Constraint) → e ≢ SqliteFailure (code.ConstraintViolation rule)) → CantAdd e (bare_table t.table) s.now.trees ((Null ∷ it.row) ∷ [])
+      → IsFull 1 (s.now.trees t.table.tree) ⊎ IsTooBig values count
+  cant_unruled s kept e unruled (inl refused) =
+      let db = s.now.trees in
+      let passed = it.passed db (next_rowid (db t.table.tree)) in
+      elim (refused_why t.table t.listed db (sound_of s kept) (t.own db kept.numbered) ((Null ∷ it.row) ∷ []) (refl, tt) passed.0 passed.1 passed.2 refused.0 refused.1) [
+        | inl full ↦ inl full
+        | inr twice ↦ absurd (unruled Unique (refused.2 ∙ ap edit_error twice.0))
+      ]
+  cant_unruled s kept e unruled (inr (row, inl same, big)) = inr (it.big (next_rowid (s.now.trees t.table.tree)) (subst (IsOversized store_schema (bare_table t.table)) same big))
+  cant_unruled s kept e unruled (inr (row, inr none, big)) = absurd none
+
+  add_fails : (old new : State) → (IsTrue old.is_open → IsStore old.now)
+      → (e : Error) × (e ≢ SqliteFailure code.OutOfMemory) × ((rule : Constraint) → e ≢ SqliteFailure (code.ConstraintViolation rule)) × ExecutesInside 0 text params old new (Err e)
+      → IsBlamed old new ⊎ (IsFull 1 (old.now.trees t.table.tree) ⊎ IsTooBig values count)
+  add_fails old new store (e, other, unruled, ran) =
+      elim (insert_blamed t.table old new text params t.at it.terms it.width it.means.is it.means.plain it.means.whole t.found it.given store e other ran) [
+        | inl blamed ↦ inl blamed
+        | inr cant ↦ inr (cant_unruled old (store cant.0) e unruled (subst (CantAdd e (bare_table t.table) old.now.trees) it.made cant.1))
+      ]
+
   -- put in place of what has its key
   module _ {S : Type 0} (g : Ghosts S) where
     abbrev gone : StoreValue → StoreValue
@@ -374,10 +396,12 @@ module _ {K X : Type 0} {P : Row → Type 0} (t : StoreTable K X P) (text : List
     pub replaces : (drop : List ℕ) (keyed_by : Row) → TakesRows g drop keyed_by t.table.tree gone → ((a b : Trees) → AreGrown 0 a b → IsGrown 0 (a t.table.tree) (b t.table.tree))
         → ReplacesRow g drop text keyed_by params t.table.tree (λ v. t.with_rows (put t.cmp key x (t.rows v)) v) values count
     replaces drop keyed_by taken grows = record {
+      lands = λ old new n store ran. adds (state g old) (state g new) n store ran;
+      fails = λ old new store why. add_fails (state g old) (state g new) store why;
       gone = gone;
       takes = taken;
       adds = λ old mid new n one ran.
-          let more = adds (state g mid) (state g new) n one.store (free_key old mid one) ran in (put_steps old mid new one more.0, more.1, more.2);
+          let more = adds (state g mid) (state g new) n one.store ran in (put_steps old mid new one more.0, more.1, more.2);
       refused = λ old mid new one grown why. elim (add_why (state g mid) (state g new) one.store (free_key old mid one) why) [
         | inl blamed ↦ inl blamed
         | inr (inl full) ↦ inr (inl (full_since 0 1 ((state g old).now.trees t.table.tree) ((state g mid).now.trees t.table.tree) (grows (state g old).now.trees (state g mid).now.trees grown) full))

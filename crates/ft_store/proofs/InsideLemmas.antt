@@ -1,17 +1,17 @@
 -- Calls in one transaction, one after the other.
-use Rattle.std.proofs.Common.{◌≡◌, ◌⊎◌, ◌+◌, ◌∙◌, ℕ, List, [], IsTrue, Result, Ok, Err, arith, inl, inr, refl, sym, subst, ◌<◌, ℤ, pos, map, take, length, get_or, OnOk, IfErr, String, string_bytes, MutBor}
+use Rattle.std.proofs.Common.{◌≡◌, ◌⊎◌, ◌+◌, ◌∙◌, ℕ, Bool, true, false, MatchBool, ap, List, [], IsTrue, Result, Ok, Err, arith, inl, inr, refl, sym, subst, ◌<◌, ℤ, pos, map, take, length, get_or, OnOk, IfErr, String, string_bytes, MutBor}
 use Rattle.ft_store.proofs.Common.{Database, Executes, Trees, IfErr-weaker, on_ok_weaker, Ghosts, Held, state, State, HasCleanDisk, Survives}
-use Rattle.ft_store.proofs.Common.{ExecutesInside, survives_then, Row, StoreValue, column_key_cmp, with_columns, with_skipped, enumerate_from, Global}
+use Rattle.ft_store.proofs.Common.{ExecutesInside, IsUnchanged, survives_then, Row, StoreValue, column_key_cmp, with_columns, with_skipped, enumerate_from, Global}
 use Rattle.ft_store.proofs.Common.{put}
 use Rattle.ft_store.specs.declared.fault.StoreFault.TheVariants as fault
 use Rattle.ft_store.specs.Rows.{value_of}
-use Rattle.ft_store.specs.Puts.{AreGrown, IsFull, IsTooBig, KeepsRest, KeepsRestOnOk}
+use Rattle.ft_store.specs.Puts.{AreGrown, IsFull, IsTooBig, KeepsRest, KeepsRestOnOk, RefusesAdd}
 use Rattle.ft_store.specs.Changes.{ReplacesRow, Changes, ChangesIfOpen, Drops}
 use Rattle.ft_store.proofs.CantLemmas.{trees_same, trees_then, take_one}
 use Rattle.ft_store.specs.declared.fault.StoreFault.{StoreFault}
 use Rattle.ft_store.specs.Calls.{IsStore, Steps, StaysInside, StaysUncommitted, IsPlainFault}
 use Rattle.ft_store.specs.Blame.{IsBlamed, RefusesRun, BlamesOutside}
-use Rattle.ft_store.specs.Inside.{DoneInside, RunsOnOk, MakesInside}
+use Rattle.ft_store.specs.Inside.{DoneInside, RunsOnOk, RunsOrKeeps, MakesInside}
 use Rattle.ft_store.proofs.RefusedLemmas.{rest_then}
 use Rattle.ft_store.proofs.BlameLemmas.{blamed_then, keeps_same, keeps_then}
 use Rattle.ft_store.proofs.PutLemmas.{then_step, no_step, column_more, skip_more}
@@ -162,6 +162,71 @@ module _ {S : Type 0} (g : Ghosts S) (a b c : MutBor (Held S)) (two : Result (Un
 -- one deletion after the other
 pub drops_then : {S : Type 0} (g : Ghosts S) (a b c : MutBor (Held S)) (two : Result (Unit {0}) StoreFault) (f h : StoreValue → StoreValue) → Drops g a b (Ok tt) f → Drops g b c two h → Drops g a c two (λ v. h (f v))
 drops_then g a b c two f h first second = changes_then g a b c two f h 0 0 0 (λ _. ⊥) (λ _. ⊥) (λ _. ⊥) (if_open g b c two h 0 (λ _. ⊥) second) refl (λ _ _ none. none) first
+
+-- what a function does after a statement that changed nothing
+module _ {S : Type 0} (g : Ghosts S) (a b c : MutBor (Held S)) (two : Result (Unit {0}) StoreFault)
+    (add : List ℕ) (row : Row) (added : Bool) (is_not : added ≡ false) (first : DoneInside {X = Bool} g a b (Ok added) (RunsOrKeeps g a.now b.now (Ok added) add row)) where
+  kept_all : HasCleanDisk (state g b.now) → IsTrue (state g a.now).in_transaction → IsUnchanged (state g a.now) (state g b.now)
+  kept_all clean inside =
+      subst (λ is. MatchBool is ((n : ℕ) × ExecutesInside 0 add row (state g a.now) (state g b.now) (Ok n)) (IsUnchanged (state g a.now) (state g b.now))) is_not (first.steps clean inside)
+
+  same_store : (s : State) → IsUnchanged (state g a.now) s → (IsTrue (state g a.now).is_open → IsStore (state g a.now).now) → IsTrue s.is_open → IsStore s.now
+  same_store s same kept open_now = subst IsStore (sym same.0.now_is) (kept same.0.was_open)
+
+  pub unchanged_then : (f : StoreValue → StoreValue) (n : ℕ) (Why : Trees → Type 0) → Changes g b c two f n Why → Changes g a c two f n Why
+  unchanged_then f n Why second =
+      let old = state g a.now in
+      let mid = state g b.now in
+      let new = state g c.now in
+      let same = λ (clean : HasCleanDisk new) (inside : IsTrue old.in_transaction). kept_all (omega (arith, second.done.stays.survives.clean, clean)) inside in
+      record {
+        done = record {
+          steps = λ clean inside kept. let is = same clean inside in on_ok_weaker two (λ (step : Steps mid new (f (value_of mid.now.trees))). record {
+            store = step.store;
+            is = step.is ∙ ap (λ (d : Database). f (value_of d.trees)) is.0.now_is;
+            shown = record { was_open = is.0.was_open; is_open = step.shown.is_open; now_is = refl; committed_is = step.shown.committed_is ∙ is.0.committed_is; mode = step.shown.mode };
+          }) (second.done.steps clean (is.0.mode ∙ inside) (same_store mid is kept));
+          stays = stays_then g IsPlainFault a b c (Ok added) two first.stays second.done.stays;
+        };
+        grown = λ clean inside kept. let is = same clean inside in on_ok_weaker two (subst (λ (d : Database). AreGrown n d.trees new.now.trees) is.0.now_is) (second.grown clean (is.0.mode ∙ inside) (same_store mid is kept));
+        refused = λ clean inside kept told. let is = same clean inside in elim (second.refused clean (is.0.mode ∙ inside) (same_store mid is kept) told) [
+          | inl blamed ↦ inl (blamed_then old mid new _ _ (omega (arith, second.done.stays.survives.clean, clean)) first.stays.survives second.done.stays.survives blamed)
+          | inr why ↦ inr (subst (λ (d : Database). Why d.trees) is.0.now_is why)
+        ];
+      }
+
+  pub rest_unchanged : (tree : ℕ) → (HasCleanDisk (state g c.now) → HasCleanDisk (state g b.now)) → KeepsRestOnOk g b.now c.now two tree → KeepsRestOnOk g a.now c.now two tree
+  rest_unchanged tree was_clean second clean inside kept =
+      let is = kept_all (was_clean clean) inside in
+      on_ok_weaker two (subst (λ (d : Database). KeepsRest tree d.trees (state g c.now).now.trees) is.0.now_is) (second clean (is.0.mode ∙ inside) (same_store (state g b.now) is kept))
+
+-- a row that is added at once, or can't be
+module _ {S : Type 0} (g : Ghosts S) (a b : MutBor (Held S)) (drop add : List ℕ) (key row : Row) (tree : ℕ) (f : StoreValue → StoreValue) (values count : ℕ) (by : ReplacesRow g drop add key row tree f values count) where
+  pub landed : (added : Bool) → added ≡ true → DoneInside {X = Bool} g a b (Ok added) (RunsOrKeeps g a.now b.now (Ok added) add row)
+      → Changes g a b (Ok (tt {0})) f 1 (λ db. IsFull 1 (db tree) ⊎ IsTooBig values count) × KeepsRestOnOk g a.now b.now (Ok (tt {0})) tree
+  landed false is it = absurd (let no = is in cc)
+  landed true is it =
+      let lands = λ (clean : HasCleanDisk (state g b.now)) (inside : IsTrue (state g a.now).in_transaction) (kept : IsTrue (state g a.now).is_open → IsStore (state g a.now).now).
+      let ran = it.steps clean inside in by.lands a.now b.now ran.0 (kept ran.1.1.was_open) ran.1 in (
+        record {
+          done = record { steps = λ clean inside kept. (lands clean inside kept).0; stays = stays_as it.stays (tt {0}) };
+          grown = λ clean inside kept. (lands clean inside kept).1;
+          refused = λ clean inside kept is. absurd (let no = is in cc);
+        },
+        λ clean inside kept. (lands clean inside kept).2,
+      )
+
+  as_answer : Result (Unit {0}) StoreFault → Result Bool StoreFault
+  as_answer (Ok done) = Ok true
+  as_answer (Err e) = Err e
+
+  pub not_landed : (e : StoreFault) → StaysUncommitted {X = Bool} g a b (Err e) → RefusesAdd {X = Bool} g a.now b.now (Err e) add row → Changes g a b (Err e) f 1 (λ db. IsFull 1 (db tree) ⊎ IsTooBig values count)
+  unfolding as_answer
+  not_landed e stays refuses = record {
+    done = record { steps = λ clean inside kept. tt; stays = stays_as stays stays.fault };
+    grown = λ clean inside kept. tt;
+    refused = λ clean inside kept is. by.fails a.now b.now kept (refuses clean inside (ap as_answer is));
+  }
 
 -- a row that is replaced by two statements
 module _ {S : Type 0} (g : Ghosts S) (a b c : MutBor (Held S)) (two : Result (Unit {0}) StoreFault) (drop add : List ℕ) (key row : Row) (tree : ℕ) (f : StoreValue → StoreValue) (values count : ℕ) (by : ReplacesRow g drop add key row tree f values count)

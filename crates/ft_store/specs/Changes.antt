@@ -11,6 +11,7 @@ use Rattle.sqlite.specs.Held.{Held, state}
 use Rattle.sqlite.specs.declared.error.Error.{Error}
 use Rattle.sqlite.specs.declared.error.Error.TheVariants.{SqliteFailure}
 use Rattle.sqlite.specs.declared.error.ErrorCode.TheVariants as code
+use Rattle.sqlite_schema.specs.declared.schema.Constraint.{Constraint}
 use Rattle.ft_rows.specs.Store.{StoreValue, Change, all_applied}
 use Rattle.ft_store.specs.declared.fault.StoreFault.{StoreFault}
 use Rattle.ft_store.specs.Rows.{value_of}
@@ -24,6 +25,12 @@ use Rattle.ft_store.specs.Puts.{IsFull, IsTooBig, AreGrown, KeepsRest, rows_put,
 abbrev pub FailsInside : {S : Type 0} → Ghosts S → Held S → Held S → List ℕ → Row → Type 0
 FailsInside g old new sql params = (e : Error) × (e ≢ SqliteFailure code.OutOfMemory) × ExecutesInside 0 sql params (state g old) (state g new) (Err e)
 
+-- the same, and not for a rule of its table
+abbrev pub FailsUnruled : {S : Type 0} → Ghosts S → Held S → Held S → List ℕ → Row → Type 0
+FailsUnruled g old new sql params =
+    (e : Error) × (e ≢ SqliteFailure code.OutOfMemory) × ((rule : Constraint) → e ≢ SqliteFailure (code.ConstraintViolation rule))
+    × ExecutesInside 0 sql params (state g old) (state g new) (Err e)
+
 -- The statement takes rows out of one table of a store, by its tree: where it is done the value
 -- becomes that of `f`, and it is refused only by what lies outside the store.
 pub record TakesRows {S : Type 0} (g : Ghosts S) (sql : List ℕ) (params : Row) (tree : ℕ) (f : StoreValue → StoreValue) : Type 0 where
@@ -33,11 +40,16 @@ pub record TakesRows {S : Type 0} (g : Ghosts S) (sql : List ℕ) (params : Row)
   pub refused : (old new : Held S) → (IsTrue (state g old).is_open → IsStore (state g old).now) → FailsInside g old new sql params
       → IsBlamed (state g old) (state g new)
 
--- Two statements replace a row of one table: the one takes out what has its key, and the other adds
--- it, unless the table is full or so many values with so many bytes are too big. The value becomes
--- that of `f`.
+-- Statements put a row of one table: one adds it where its key is new, and takes what has its key
+-- out of its way otherwise, unless the table is full or so many values with so many bytes are too
+-- big. The value becomes that of `f`.
 pub record ReplacesRow {S : Type 0} (g : Ghosts S) (drop add : List ℕ) (key row : Row) (tree : ℕ) (f : StoreValue → StoreValue)
     (values count : ℕ) : Type 0 where
+  pub lands : (old new : Held S) (count : ℕ) → IsStore (state g old).now → ExecutesInside 0 add row (state g old) (state g new) (Ok count)
+      → Steps (state g old) (state g new) (f (value_of (state g old).now.trees)) × AreGrown 1 (state g old).now.trees (state g new).now.trees
+      × KeepsRest tree (state g old).now.trees (state g new).now.trees
+  pub fails : (old new : Held S) → (IsTrue (state g old).is_open → IsStore (state g old).now) → FailsUnruled g old new add row
+      → IsBlamed (state g old) (state g new) ⊎ (IsFull 1 ((state g old).now.trees tree) ⊎ IsTooBig values count)
   pub gone : StoreValue → StoreValue
   pub takes : TakesRows g drop key tree gone
   pub adds : (old mid new : Held S) (count : ℕ) → Steps (state g old) (state g mid) (gone (value_of (state g old).now.trees))

@@ -55,6 +55,9 @@ fn row_term(row: &Row) -> Result<Option<&str>, StoreFault>
     Ok(str::from_utf8(bytes).ok())
 }
 
+/// Room for so many lists is taken at once: it is still a small block of memory.
+const ROOM: usize = 30;
+
 /// Lists, as their rows come.
 #[derive(Drop)]
 struct ListsOf {
@@ -103,7 +106,7 @@ fn select_lists<S: Alter>(
 {
     let mut found = ListsOf {
         alloc,
-        lists: Vec::new(alloc),
+        lists: Vec::with_capacity(alloc, ROOM)?,
     };
     if gather(conn, sql, params, &mut found)? {
         Ok(found.lists)

@@ -1,6 +1,6 @@
 //! The texts of the statements of a store: its queries, its changes, and its tables. Rows of one
-//! table, or of one term, are ordered by the rest of their key: the engine copies each part of an
-//! order for each row, also where the rows come so.
+//! table, or of one term, are ordered by the rest of their key: less of an order is settled sooner,
+//! at each run of a statement.
 
 /// All cells of a table.
 pub(crate) const CELLS: &str =

@@ -110,28 +110,31 @@ pub(crate) fn delete<S: Alter>(
     run(tx, sql, params)
 }
 
-// Replaces a row by two statements: the one takes out what has its key, the first of its values,
-// and the other adds it.
+// Puts a row: one statement adds it, where its key is new. Otherwise another first takes out what
+// has its key, the first of its values.
 fn replace<S: Alter>(
     tx: &mut Transaction<'_, S>,
     drop: &str,
-    add: &str,
+    insert: &str,
     keys: usize,
     row: &[ValueRef<'_>],
 ) -> Result<(), StoreFault>
     requires { keys ≤ length row.now }
     ensures changes { (tree : ℕ) (f : StoreValue → StoreValue) (values count : ℕ)
-        → ReplacesRow S.Store drop.now add.now (bound (take keys row.now)) (bound row.now) tree f
+        → ReplacesRow S.Store drop.now insert.now (bound (take keys row.now)) (bound row.now) tree f
         values count
         → Changes S.Store tx.old.conn tx.new.conn result f 1
         (λ db. IsFull 1 (db tree) ⊎ IsTooBig values count) }
     ensures others { (tree : ℕ) (f : StoreValue → StoreValue) (values count : ℕ)
-        → ReplacesRow S.Store drop.now add.now (bound (take keys row.now)) (bound row.now) tree f
+        → ReplacesRow S.Store drop.now insert.now (bound (take keys row.now)) (bound row.now) tree f
         values count
         → KeepsRestOnOk S.Store tx.old.conn.now tx.new.conn.now result tree }
 {
+    if add(tx, insert, row)? {
+        return Ok(());
+    }
     run(tx, drop, &row[..keys])?;
-    run(tx, add, row)
+    run(tx, insert, row)
 }
 
 /// Takes the cells of a document out.
