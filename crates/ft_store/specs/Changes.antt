@@ -40,9 +40,9 @@ pub record TakesRows {S : Type 0} (g : Ghosts S) (sql : List ℕ) (params : Row)
   pub refused : (old new : Held S) → (IsTrue (state g old).is_open → IsStore (state g old).now) → FailsInside g old new sql params
       → IsBlamed (state g old) (state g new)
 
--- Statements put a row of one table: one adds it where its key is new, and takes what has its key
--- out of its way otherwise, unless the table is full or so many values with so many bytes are too
--- big. The value becomes that of `f`.
+-- Statements put a row of one table, unless it is full or so many values with so many bytes are too
+-- big: where the key is new one adds the row, and otherwise another first takes out what has the
+-- key. The value becomes that of `f`.
 pub record ReplacesRow {S : Type 0} (g : Ghosts S) (drop add : List ℕ) (key row : Row) (tree : ℕ) (f : StoreValue → StoreValue)
     (values count : ℕ) : Type 0 where
   pub lands : (old new : Held S) (count : ℕ) → IsStore (state g old).now → ExecutesInside 0 add row (state g old) (state g new) (Ok count)

@@ -1,6 +1,6 @@
 //! The texts of the statements of a store: its queries, its changes, and its tables. Rows of one
-//! table, or of one term, are ordered by the rest of their key: less of an order is settled sooner,
-//! at each run of a statement.
+//! table, or of one term, are ordered by the rest of their key, since less of an order is settled
+//! sooner at each run of a statement; the last row alone is found by the whole key.
 
 /// All cells of a table.
 pub(crate) const CELLS: &str =
