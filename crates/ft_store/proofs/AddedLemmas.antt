@@ -44,7 +44,7 @@ use Rattle.ft_store.proofs.StoreTables.{added_all, StoreTable, then_tie, turned,
 use Rattle.ft_store.proofs.TableLemmas.{text_again}
 use Rattle.ft_store.proofs.PutLemmas.{then_step}
 use Rattle.ft_rows.specs.Packed.{unpacked}
-use Rattle.ft_store.specs.Changes.{TakesRows, ReplacesRow}
+use Rattle.ft_store.specs.Changes.{TakesRows, PutsRow}
 
 -- ---- what an INSERT is refused for
 
@@ -394,7 +394,7 @@ module _ {K X : Type 0} {P : Row → Type 0} (t : StoreTable K X P) (text : List
         (then_step (state g old) (state g mid) (state g new) _ (λ v. t.with_rows (put t.cmp key x (t.rows v)) v) one two)
 
     pub replaces : (drop : List ℕ) (keyed_by : Row) → TakesRows g drop keyed_by t.table.tree gone → ((a b : Trees) → AreGrown 0 a b → IsGrown 0 (a t.table.tree) (b t.table.tree))
-        → ReplacesRow g drop text keyed_by params t.table.tree (λ v. t.with_rows (put t.cmp key x (t.rows v)) v) values count
+        → PutsRow g drop text keyed_by params t.table.tree (λ v. t.with_rows (put t.cmp key x (t.rows v)) v) values count
     replaces drop keyed_by taken grows = record {
       lands = λ old new n store ran. adds (state g old) (state g new) n store ran;
       fails = λ old new store why. add_fails (state g old) (state g new) store why;
@@ -543,22 +543,22 @@ note_row name = record {
 }
 
 module _ {S : Type 0} (g : Ghosts S) where
-  pub put_column : (tab at : ℤ) (name : List ℕ) → IsUtf8 name → ReplacesRow g drop_column_text add_column_text (Int tab ∷ Int at ∷ []) (Int tab ∷ Int at ∷ Text name ∷ []) 3 (λ v. record v { columns = put column_key_cmp (tab, at) name v.columns }) 4 (length name)
+  pub put_column : (tab at : ℤ) (name : List ℕ) → IsUtf8 name → PutsRow g drop_column_text add_column_text (Int tab ∷ Int at ∷ []) (Int tab ∷ Int at ∷ Text name ∷ []) 3 (λ v. record v { columns = put column_key_cmp (tab, at) name v.columns }) 4 (length name)
   put_column tab at name text = replaces tables.columns add_column_text (Int tab ∷ Int at ∷ Text name ∷ []) (tab, at) name 4 (length name) (column_row tab at name text) g drop_column_text (Int tab ∷ Int at ∷ []) (drop_column g tab at) (λ a b h. h.0)
 
-  pub put_skip : (tab at : ℤ) → ReplacesRow g drop_skip_text add_skip_text (Int tab ∷ Int at ∷ []) (Int tab ∷ Int at ∷ []) 13 (λ v. record v { skipped = put column_key_cmp (tab, at) tt v.skipped }) 3 0
+  pub put_skip : (tab at : ℤ) → PutsRow g drop_skip_text add_skip_text (Int tab ∷ Int at ∷ []) (Int tab ∷ Int at ∷ []) 13 (λ v. record v { skipped = put column_key_cmp (tab, at) tt v.skipped }) 3 0
   put_skip tab at = replaces tables.skipped add_skip_text (Int tab ∷ Int at ∷ []) (tab, at) tt 3 0 (skip_row tab at) g drop_skip_text (Int tab ∷ Int at ∷ []) (drop_skip g tab at) (λ a b h. h.1.1.1.1.1.0)
 
-  pub put_cell : (tab docid at : ℤ) (c : Cell) → cell_in (num_of c) (txt_of c) ≡ c → ReplacesRow g drop_cell_text add_cell_text (Int tab ∷ Int docid ∷ Int at ∷ []) (Int tab ∷ Int docid ∷ Int at ∷ num_of c ∷ txt_of c ∷ []) 5 (λ v. record v { cells = put cell_key_cmp (tab, docid, at) c v.cells }) 6 (length (bytes (txt_of c)))
+  pub put_cell : (tab docid at : ℤ) (c : Cell) → cell_in (num_of c) (txt_of c) ≡ c → PutsRow g drop_cell_text add_cell_text (Int tab ∷ Int docid ∷ Int at ∷ []) (Int tab ∷ Int docid ∷ Int at ∷ num_of c ∷ txt_of c ∷ []) 5 (λ v. record v { cells = put cell_key_cmp (tab, docid, at) c v.cells }) 6 (length (bytes (txt_of c)))
   put_cell tab docid at c again = replaces tables.cells add_cell_text (Int tab ∷ Int docid ∷ Int at ∷ num_of c ∷ txt_of c ∷ []) (tab, docid, at) c 6 (length (bytes (txt_of c))) (cell_row tab docid at c again) g drop_cell_text (Int tab ∷ Int docid ∷ Int at ∷ []) (drop_cell g tab docid at) (λ a b h. h.1.0)
 
-  pub put_list : (tab : ℤ) (term : List ℕ) (docid : ℤ) (list : List ℕ) → ReplacesRow g drop_list_text add_list_text (Int tab ∷ Text term ∷ Int docid ∷ []) (Int tab ∷ Text term ∷ Int docid ∷ Blob list ∷ []) 7 (λ v. record v { lists = put list_key_cmp (tab, term, docid) (unwrap_or (unpacked list) []) v.lists }) 5 (length term + length list)
+  pub put_list : (tab : ℤ) (term : List ℕ) (docid : ℤ) (list : List ℕ) → PutsRow g drop_list_text add_list_text (Int tab ∷ Text term ∷ Int docid ∷ []) (Int tab ∷ Text term ∷ Int docid ∷ Blob list ∷ []) 7 (λ v. record v { lists = put list_key_cmp (tab, term, docid) (unwrap_or (unpacked list) []) v.lists }) 5 (length term + length list)
   put_list tab term docid list = replaces tables.lists add_list_text (Int tab ∷ Text term ∷ Int docid ∷ Blob list ∷ []) (tab, term, docid) (unwrap_or (unpacked list) []) 5 (length term + length list) (list_adds tab term docid list) g drop_list_text (Int tab ∷ Text term ∷ Int docid ∷ []) (drop_list g tab term docid) (λ a b h. h.1.1.0)
 
-  pub put_size : (tab docid at n : ℤ) → ReplacesRow g drop_size_text add_size_text (Int tab ∷ Int docid ∷ Int at ∷ []) (Int tab ∷ Int docid ∷ Int at ∷ Int n ∷ []) 9 (λ v. record v { sizes = put cell_key_cmp (tab, docid, at) n v.sizes }) 5 0
+  pub put_size : (tab docid at n : ℤ) → PutsRow g drop_size_text add_size_text (Int tab ∷ Int docid ∷ Int at ∷ []) (Int tab ∷ Int docid ∷ Int at ∷ Int n ∷ []) 9 (λ v. record v { sizes = put cell_key_cmp (tab, docid, at) n v.sizes }) 5 0
   put_size tab docid at n = replaces tables.sizes add_size_text (Int tab ∷ Int docid ∷ Int at ∷ Int n ∷ []) (tab, docid, at) n 5 0 (size_row tab docid at n) g drop_size_text (Int tab ∷ Int docid ∷ Int at ∷ []) (drop_size g tab docid at) (λ a b h. h.1.1.1.0)
 
-  pub put_note : (name : List ℕ) → ReplacesRow g drop_note_text add_note_text (Text name ∷ []) (Text name ∷ []) 11 (λ v. record v { noted = put name_cmp (without_case name) name v.noted }) 2 (length name)
+  pub put_note : (name : List ℕ) → PutsRow g drop_note_text add_note_text (Text name ∷ []) (Text name ∷ []) 11 (λ v. record v { noted = put name_cmp (without_case name) name v.noted }) 2 (length name)
   put_note name = replaces tables.noted add_note_text (Text name ∷ []) (without_case name) name 2 (length name) (note_row name) g drop_note_text (Text name ∷ []) (drop_note g name) (λ a b h. h.1.1.1.1.0)
 
 -- ---- eight lists that are added by one statement

@@ -1,5 +1,5 @@
 -- Queries of rows that stand in the way, and what is left of a store where its tables are made anew or lists are taken out in parts.
-use Rattle.std.proofs.Common.{◌≡◌, ◌∙◌, ◌≤◌, ◌<◌, ◌+◌, ℕ, ℤ, pos, Bool, true, false, cond, List, [], ◌∷◌, map, filter, length, take, None, refl, sym, ap, subst, arith, IsTrue, nat_eq, ◌≢◌, ◌==◌, ◌-◌, eqb-true, ◌⊎◌, Option, Some, Ok, Err, inl, inr, true≢false, ◌<ℤ◌, ◌≤ℤ◌, negsuc, ◌&&◌, ◌++◌, fold, get_or, Ordering, Equal, Less, Greater, is_eq, is_lt, T, is_some, IfSome, IsUtf8, Bor, not, Result, int_lt, int_le, ◌+ℤ◌, OnOk, int_cmp, int_eq, MutBor, is_le}
+use Rattle.std.proofs.Common.{◌≡◌, ◌∙◌, ◌≤◌, ◌<◌, ◌+◌, ℕ, ℤ, pos, Bool, true, false, cond, List, [], ◌∷◌, map, filter, length, take, None, refl, sym, ap, subst, arith, IsTrue, nat_eq, ◌≢◌, ◌==◌, eqb-true, ◌⊎◌, Option, Some, Ok, Err, inl, inr, true≢false, ◌<ℤ◌, ◌≤ℤ◌, negsuc, ◌&&◌, ◌++◌, fold, get_or, Ordering, Equal, Less, Greater, is_eq, is_lt, T, is_some, IfSome, IsUtf8, Bor, not, Result, int_lt, int_le, ◌+ℤ◌, OnOk, int_cmp, int_eq, MutBor, is_le}
 use Rattle.ft_store.proofs.Common.{AllByRecursion, list_all, eqb-false, length-map, length_permutation, Null, Int, Row, Trees, lit, holds, Output}
 use Rattle.ft_store.proofs.Common.{output, IsAnswer, overlay, State, Shown, reads_as, Term, Nothing, Database, understood, reads_listing, IsSourceOf}
 use Rattle.ft_store.proofs.Common.{timed, Executes, ExecutesIn, ExecutesInside, EndsScope, IsNotRun, IsUnchanged, IsTooLate, FailsToQuery, ShowsRows}

@@ -1,5 +1,5 @@
 -- What is seen of a database before it is taken as a store, and why one with the tables of a store is not taken.
-use Rattle.std.proofs.Common.{◌≡◌, ◌≢◌, ℕ, zero, suc, ◌<◌, ◌≤◌, ℤ, true, false, List, [], ◌∷◌, ◌++◌, map, length, refl, sym, ◌∙◌, subst, arith, IsTrue, true≢false, IsPermutation, codes, None, Some, ◌≤ℤ◌, ◌<ℤ◌, Option, IfSome, ◌-◌, ◌⊎◌, filter, inl, inr, ap, Ordering, Less, Equal, Greater, is_gt, int_cmp}
+use Rattle.std.proofs.Common.{◌≡◌, ◌≢◌, ℕ, zero, suc, ◌<◌, ◌≤◌, ℤ, true, false, List, [], ◌∷◌, ◌++◌, map, length, refl, sym, ◌∙◌, subst, arith, IsTrue, true≢false, IsPermutation, codes, None, Some, ◌≤ℤ◌, ◌<ℤ◌, Option, IfSome, ◌⊎◌, filter, inl, inr, ap, Ordering, Less, Equal, Greater, is_gt, int_cmp}
 use Rattle.ft_store.proofs.Common.{ints, AllByRecursion, length-map, IsPermutation-map, IsPermutation-sym, length_permutation, Value, Null, Int}
 use Rattle.ft_store.proofs.Common.{Select, Row, column, Trees, Query, Output, output, IsAnswer, overlay, State, Shown, understood, reads_listing}
 use Rattle.ft_store.proofs.Common.{everything, reads_as, command_of, one_permutation, IsPlain, IsAscending, rowid, is_int, map-map, filter_all}

@@ -6,7 +6,7 @@ use Rattle.ft_store.proofs.Common.{put}
 use Rattle.ft_store.specs.declared.fault.StoreFault.TheVariants as fault
 use Rattle.ft_store.specs.Rows.{value_of}
 use Rattle.ft_store.specs.Puts.{AreGrown, IsFull, IsTooBig, KeepsRest, KeepsRestOnOk, RefusesAdd}
-use Rattle.ft_store.specs.Changes.{ReplacesRow, Changes, ChangesIfOpen, Drops}
+use Rattle.ft_store.specs.Changes.{PutsRow, Changes, ChangesIfOpen, Drops}
 use Rattle.ft_store.proofs.CantLemmas.{trees_same, trees_then, take_one}
 use Rattle.ft_store.specs.declared.fault.StoreFault.{StoreFault}
 use Rattle.ft_store.specs.Calls.{IsStore, Steps, StaysInside, StaysUncommitted, IsPlainFault}
@@ -201,7 +201,7 @@ module _ {S : Type 0} (g : Ghosts S) (a b c : MutBor (Held S)) (two : Result (Un
       on_ok_weaker two (subst (λ (d : Database). KeepsRest tree d.trees (state g c.now).now.trees) is.0.now_is) (second clean (is.0.mode ∙ inside) (same_store (state g b.now) is kept))
 
 -- a row that is added at once, or can't be
-module _ {S : Type 0} (g : Ghosts S) (a b : MutBor (Held S)) (drop add : List ℕ) (key row : Row) (tree : ℕ) (f : StoreValue → StoreValue) (values count : ℕ) (by : ReplacesRow g drop add key row tree f values count) where
+module _ {S : Type 0} (g : Ghosts S) (a b : MutBor (Held S)) (drop add : List ℕ) (key row : Row) (tree : ℕ) (f : StoreValue → StoreValue) (values count : ℕ) (by : PutsRow g drop add key row tree f values count) where
   pub landed : (added : Bool) → added ≡ true → DoneInside {X = Bool} g a b (Ok added) (RunsOrKeeps g a.now b.now (Ok added) add row)
       → Changes g a b (Ok (tt {0})) f 1 (λ db. IsFull 1 (db tree) ⊎ IsTooBig values count) × KeepsRestOnOk g a.now b.now (Ok (tt {0})) tree
   landed false is it = absurd (let no = is in cc)
@@ -229,7 +229,7 @@ module _ {S : Type 0} (g : Ghosts S) (a b : MutBor (Held S)) (drop add : List �
   }
 
 -- a row that is replaced by two statements
-module _ {S : Type 0} (g : Ghosts S) (a b c : MutBor (Held S)) (two : Result (Unit {0}) StoreFault) (drop add : List ℕ) (key row : Row) (tree : ℕ) (f : StoreValue → StoreValue) (values count : ℕ) (by : ReplacesRow g drop add key row tree f values count)
+module _ {S : Type 0} (g : Ghosts S) (a b c : MutBor (Held S)) (two : Result (Unit {0}) StoreFault) (drop add : List ℕ) (key row : Row) (tree : ℕ) (f : StoreValue → StoreValue) (values count : ℕ) (by : PutsRow g drop add key row tree f values count)
     (first : DoneInside {X = Unit {0}} g a b (Ok tt) (RunsOnOk g a.now b.now (Ok tt) drop key)) (second : DoneInside g b c two (RunsOnOk g b.now c.now two add row)) where
   abbrev old : State
   old = state g a.now

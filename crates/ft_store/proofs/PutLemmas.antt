@@ -1,5 +1,5 @@
 -- How the steps of a change are put together.
-use Rattle.std.proofs.Common.{◌≡◌, ℕ, ◌+◌, ◌<◌, ℤ, pos, not, cond, List, [], ◌∷◌, ◌++◌, map, length, get_or, take, None, refl, sym, ap, ◌∙◌, subst, arith, IsTrue, is_eq, unwrap_or, option_map, string_bytes, String, int_cmp, int_eq, length-take-le}
+use Rattle.std.proofs.Common.{◌≡◌, ℕ, ◌+◌, ◌<◌, ℤ, pos, not, cond, List, [], ◌∷◌, ◌++◌, map, length, get_or, take, None, refl, sym, ap, ◌∙◌, subst, arith, IsTrue, is_eq, unwrap_or, string_bytes, String, int_cmp, int_eq, length-take-le}
 use Rattle.ft_store.proofs.Common.{Global, enumerate_from, put, where_key, find, find-where_key, tied_itself, int_cmp_total, take_more, map-append}
 use Rattle.ft_store.proofs.Common.{length-map, State, ColumnKey, column_key_cmp, StoreValue, with_columns, with_skipped}
 use Rattle.ft_values.specs.declared.rows.Spot.{Spot}

@@ -1,5 +1,5 @@
 -- The texts of the statements, and what they mean.
-use Rattle.std.proofs.Common.{ℕ, List, codes, ◌≡◌, ◌+◌, map, true, false, [], ◌∷◌, pos, negsuc, None, refl, flat_map, ◌<◌, ℤ, true≢false}
+use Rattle.std.proofs.Common.{ℕ, List, codes, ◌≡◌, ◌+◌, map, true, false, [], ◌∷◌, pos, negsuc, None, refl, flat_map, ℤ, true≢false}
 use Rattle.ft_store.proofs.Common.{everything, understood, reads_listing, Null, Int, Insert, Select, Delete, Query, inner, end, Term, lit, col, op2}
 use Rattle.ft_store.proofs.Common.{Compare, Eq, Ge, Lt, Binary, NoCase, ascending, Key, Values, IsPlain, command_of, Nothing}
 use Rattle.sqlite_sql.specs.declared.ops.CompareOp.{CompareOp}

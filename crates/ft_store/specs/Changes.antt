@@ -11,7 +11,6 @@ use Rattle.sqlite.specs.Held.{Held, state}
 use Rattle.sqlite.specs.declared.error.Error.{Error}
 use Rattle.sqlite.specs.declared.error.Error.TheVariants.{SqliteFailure}
 use Rattle.sqlite.specs.declared.error.ErrorCode.TheVariants as code
-use Rattle.sqlite_schema.specs.declared.schema.Constraint.{Constraint}
 use Rattle.ft_rows.specs.Store.{StoreValue, Change, all_applied}
 use Rattle.ft_store.specs.declared.fault.StoreFault.{StoreFault}
 use Rattle.ft_store.specs.Rows.{value_of}
@@ -19,17 +18,11 @@ use Rattle.ft_store.specs.Calls.{IsStore, Steps, Goes, StaysInside, IsChangeFaul
 use Rattle.ft_store.specs.Blame.{IsBlamed}
 use Rattle.ft_store.specs.Inside.{StepsInside, StepsInsideIfOpen}
 use Rattle.ft_store.specs.Parts.{CanMake}
-use Rattle.ft_store.specs.Puts.{IsFull, IsTooBig, AreGrown, KeepsRest, rows_put, CantPutAll, GrowsOnOk, GrowsIfOpen, BlamesRows, BlamesIfOpen}
+use Rattle.ft_store.specs.Puts.{IsFull, IsTooBig, AreGrown, FailsUnruled, KeepsRest, rows_put, CantPutAll, GrowsOnOk, GrowsIfOpen, BlamesRows, BlamesIfOpen}
 
 -- the statement is refused, and not for want of memory
 abbrev pub FailsInside : {S : Type 0} → Ghosts S → Held S → Held S → List ℕ → Row → Type 0
 FailsInside g old new sql params = (e : Error) × (e ≢ SqliteFailure code.OutOfMemory) × ExecutesInside 0 sql params (state g old) (state g new) (Err e)
-
--- the same, and not for a rule of its table
-abbrev pub FailsUnruled : {S : Type 0} → Ghosts S → Held S → Held S → List ℕ → Row → Type 0
-FailsUnruled g old new sql params =
-    (e : Error) × (e ≢ SqliteFailure code.OutOfMemory) × ((rule : Constraint) → e ≢ SqliteFailure (code.ConstraintViolation rule))
-    × ExecutesInside 0 sql params (state g old) (state g new) (Err e)
 
 -- The statement takes rows out of one table of a store, by its tree: where it is done the value
 -- becomes that of `f`, and it is refused only by what lies outside the store.
@@ -43,7 +36,7 @@ pub record TakesRows {S : Type 0} (g : Ghosts S) (sql : List ℕ) (params : Row)
 -- Statements put a row of one table, unless it is full or so many values with so many bytes are too
 -- big: where the key is new one adds the row, and otherwise another first takes out what has the
 -- key. The value becomes that of `f`.
-pub record ReplacesRow {S : Type 0} (g : Ghosts S) (drop add : List ℕ) (key row : Row) (tree : ℕ) (f : StoreValue → StoreValue)
+pub record PutsRow {S : Type 0} (g : Ghosts S) (drop add : List ℕ) (key row : Row) (tree : ℕ) (f : StoreValue → StoreValue)
     (values count : ℕ) : Type 0 where
   pub lands : (old new : Held S) (count : ℕ) → IsStore (state g old).now → ExecutesInside 0 add row (state g old) (state g new) (Ok count)
       → Steps (state g old) (state g new) (f (value_of (state g old).now.trees)) × AreGrown 1 (state g old).now.trees (state g new).now.trees

@@ -127,12 +127,16 @@ BlamesIfOpen g old new result Why =
     HasCleanDisk (state g new) → IsTrue (state g old).in_transaction → IsTrue (state g old).is_open → IsStore (state g old).now → result ≡ Err fault.Refused
     → IsBlamed (state g old) (state g new) ⊎ Why (state g old).now.trees
 
+-- The statement fails inside a transaction, not for want of memory and not for a rule of its table.
+abbrev pub FailsUnruled : {S : Type 0} → Ghosts S → Held S → Held S → List ℕ → Row → Type 0
+FailsUnruled g old new sql params =
+    (e : Error) × (e ≢ SqliteFailure code.OutOfMemory) × ((rule : Constraint) → e ≢ SqliteFailure (code.ConstraintViolation rule))
+    × ExecutesInside 0 sql params (state g old) (state g new) (Err e)
+
 -- why a statement is refused that breaks no rule of its table: as the database says
 abbrev pub RefusesAdd : {S X : Type 0} → Ghosts S → Held S → Held S → Result X StoreFault → List ℕ → Row → Type 0
 RefusesAdd g old new result sql params =
-    HasCleanDisk (state g new) → IsTrue (state g old).in_transaction → result ≡ Err fault.Refused
-    → (e : Error) × (e ≢ SqliteFailure code.OutOfMemory) × ((rule : Constraint) → e ≢ SqliteFailure (code.ConstraintViolation rule))
-    × ExecutesInside 0 sql params (state g old) (state g new) (Err e)
+    HasCleanDisk (state g new) → IsTrue (state g old).in_transaction → result ≡ Err fault.Refused → FailsUnruled g old new sql params
 
 -- the tables whose rowids the database gives keep their rows, but for one
 abbrev pub KeepsRest : ℕ → Trees → Trees → Type 0

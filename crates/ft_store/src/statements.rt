@@ -13,7 +13,7 @@ ghost use Rattle.ft_rows.specs.Store.{cell_key_cmp, list_key_cmp, column_key_cmp
 ghost use Rattle.ft_values.specs.Cells.{shown_value};
 ghost use Rattle.ft_store.specs.Blame.{RefusesRun};
 ghost use Rattle.ft_store.specs.Puts.{IsFull, IsTooBig, IsBigEntry, GrowsIfAdded, KeepsRestOnOk, BlamesRows, RefusesAdd};
-ghost use Rattle.ft_store.specs.Changes.{TakesRows, ReplacesRow, Changes, Drops};
+ghost use Rattle.ft_store.specs.Changes.{TakesRows, PutsRow, Changes, Drops};
 ghost use Rattle.ft_rows.specs.Store.{StoreValue};
 ghost use Rattle.ft_store.specs.Rows.{cell_in, num_of, txt_of};
 ghost use Rattle.ft_store.specs.Inside.{DoneInside, RunsOnOk, RunsOrKeeps};
@@ -112,7 +112,7 @@ pub(crate) fn delete<S: Alter>(
 
 // Puts a row: one statement adds it, where its key is new. Otherwise another first takes out what
 // has its key, the first of its values.
-fn replace<S: Alter>(
+fn put<S: Alter>(
     tx: &mut Transaction<'_, S>,
     drop: &str,
     insert: &str,
@@ -121,12 +121,12 @@ fn replace<S: Alter>(
 ) -> Result<(), StoreFault>
     requires { keys ≤ length row.now }
     ensures changes { (tree : ℕ) (f : StoreValue → StoreValue) (values count : ℕ)
-        → ReplacesRow S.Store drop.now insert.now (bound (take keys row.now)) (bound row.now) tree f
+        → PutsRow S.Store drop.now insert.now (bound (take keys row.now)) (bound row.now) tree f
         values count
         → Changes S.Store tx.old.conn tx.new.conn result f 1
         (λ db. IsFull 1 (db tree) ⊎ IsTooBig values count) }
     ensures others { (tree : ℕ) (f : StoreValue → StoreValue) (values count : ℕ)
-        → ReplacesRow S.Store drop.now insert.now (bound (take keys row.now)) (bound row.now) tree f
+        → PutsRow S.Store drop.now insert.now (bound (take keys row.now)) (bound row.now) tree f
         values count
         → KeepsRestOnOk S.Store tx.old.conn.now tx.new.conn.now result tree }
 {
@@ -225,7 +225,7 @@ pub(crate) fn put_column<S: Alter>(
         (λ v. record v { columns = put column_key_cmp (tab, column) name.now v.columns })
         1 (λ db. IsFull 1 (db 3) ⊎ IsTooBig 4 (length name.now)) }
 {
-    replace(
+    put(
         tx,
         DROP_COLUMN,
         ADD_COLUMN,
@@ -244,7 +244,7 @@ pub(crate) fn put_skip<S: Alter>(
         (λ v. record v { skipped = put column_key_cmp (tab, column) tt v.skipped })
         1 (λ db. IsFull 1 (db 13)) }
 {
-    replace(tx, DROP_SKIP, ADD_SKIP, 2, &[tab.to_sql(), column.to_sql()])
+    put(tx, DROP_SKIP, ADD_SKIP, 2, &[tab.to_sql(), column.to_sql()])
 }
 
 /// Puts a cell.
@@ -263,7 +263,7 @@ pub(crate) fn put_cell<S: Alter>(
         1 (λ db. IsFull 1 (db 5)
         ⊎ IsTooBig 6 (length (bytes (txt_of (shown_value value.now))))) }
 {
-    replace(
+    put(
         tx,
         DROP_CELL,
         ADD_CELL,
@@ -285,7 +285,7 @@ pub(crate) fn put_note<S: Alter>(tx: &mut Transaction<'_, S>, name: &str) -> Res
         1 (λ db. IsFull 1 (db 11) ⊎ IsTooBig 2 (length name.now)) }
     ensures others { KeepsRestOnOk S.Store tx.old.conn.now tx.new.conn.now result 11 }
 {
-    replace(tx, DROP_NOTE, ADD_NOTE, 1, &[name.to_sql()])
+    put(tx, DROP_NOTE, ADD_NOTE, 1, &[name.to_sql()])
 }
 
 /// Puts the size of a cell.
@@ -300,7 +300,7 @@ pub(crate) fn put_size<S: Alter>(
         (λ v. record v { sizes = put cell_key_cmp (tab, docid, column) n v.sizes })
         1 (λ db. IsFull 1 (db 9)) }
 {
-    replace(
+    put(
         tx,
         DROP_SIZE,
         ADD_SIZE,
@@ -324,7 +324,7 @@ pub(crate) fn put_list<'a, S: Alter>(
         })
         1 (λ db. IsFull 1 (db 7) ⊎ IsTooBig 5 (length term.now + length list.now)) }
 {
-    replace(
+    put(
         tx,
         DROP_LIST,
         ADD_LIST,

@@ -2,7 +2,7 @@ use Rattle.ft_store.proofs.InsideLemmas.{landed, not_landed, replaced, rest_kept
 use Rattle.std.proofs.Common.{◌≡◌, ◌⊎◌, Err, sym, subst, arith, rules}
 use Rattle.ft_store.specs.Puts.{IsFull, IsTooBig}
 use Rattle.ft_store.specs.Changes.{Changes}
-use Rattle.ft_store.proofs.statements.replace.Goals as goal
+use Rattle.ft_store.proofs.statements.put.Goals as goal
 
 pub returns-in_err-add-clause-changes : goal.returns-in_err-add-clause-changes
 returns-in_err-add-clause-changes g c = λ tree f values count by.
