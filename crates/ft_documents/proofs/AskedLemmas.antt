@@ -3,7 +3,7 @@ use Rattle.std.proofs.Common.{map-id, ◌≡◌, ℕ, ℤ, ◌+◌, Bool, true, 
 use Rattle.std.proofs.lemmas.List.Elements.{recursion_from_All, filter_passes}
 use Rattle.std.proofs.lemmas.List.Sums.{sum_by-cons}
 use Rattle.sqlite_trees.specs.Tree.{IsAscending}
-use Rattle.sqlite_keyed.proofs.ListLemmas.{all_map, all_weaker, all-map, map-map, all-flat_map, ascending-append, ascending-map, ascending_weaker, ascending-filter, all_from_test, all-filter}
+use Rattle.sqlite_keyed.proofs.ListLemmas.{all_map, all_weaker, all-map, map-map, all-flat_map, ascending-append, ascending-map, ascending_weaker, ascending-filter, all-filter}
 use Rattle.sqlite_keyed.proofs.SortLemmas.{sorted_unique}
 use Rattle.ft_query.specs.declared.lists.place.Place.{Place}
 use Rattle.ft_values.specs.declared.rows.ListRow.{ListRow}
@@ -11,7 +11,7 @@ use Rattle.ft_values.specs.declared.rows.Spot.{Spot}
 use Rattle.ft_content.specs.Meaning.{entries_in, entry_cmp, entry_set, posting_of, with_entry, grouped, documents_in, lists_with_terms, all_places}
 use Rattle.ft_content.proofs.{entry_total, sorted_set}
 use Rattle.ft_rows.specs.declared.terms.Posting.{Posting as Row}
-use Rattle.ft_documents.proofs.Common.{AllByRecursion, and_parts, AllAdjacentBelow, IsAllAdjacentAnswer, length-map, IsPermutation-refl, IsPermutation-cons, IsPermutation-trans, IsPermutation-sym, IsPermutation-middle, IsPermutation-map, length_permutation, ordering_then, ordering_reverse, IsTotalOrder, nat_cmp_total, int_cmp_total, nat_cmp_is, int_cmp_is, tied_itself, on_total, then_total, by_order, put, find, length-put, where_key, recursion_from_All, nat_tests, ints, PlaceList, place_count, Posting, Document, IsBefore, AreDocuments, is_filled, has_places, places_with, lists_with, ListKey, list_key_cmp, shown_list, bare_list, spot_count, Entry, Key, joined_posting, lists_of_postings, place_of, spot_in, read_list, list_of, placed_in, all_in, posting_cmp, AreListsOf, is_before, rise, is_in_order, are_in_order}
+use Rattle.ft_documents.proofs.Common.{AllByRecursion, AllAdjacentBelow, IsAllAdjacentAnswer, length-map, IsPermutation-refl, IsPermutation-cons, IsPermutation-trans, IsPermutation-sym, IsPermutation-middle, IsPermutation-map, length_permutation, ordering_then, ordering_reverse, IsTotalOrder, nat_cmp_total, int_cmp_total, nat_cmp_is, int_cmp_is, tied_itself, on_total, then_total, by_order, put, find, length-put, where_key, recursion_from_All, PlaceList, place_count, Posting, Document, IsBefore, AreDocuments, is_filled, has_places, places_with, lists_with, ListKey, list_key_cmp, shown_list, bare_list, spot_count, Entry, Key, joined_posting, lists_of_postings, place_of, spot_in, read_list, list_of, placed_in, all_in, posting_cmp, AreListsOf, rise}
 use Rattle.ft_documents.proofs.KeyedRows.{same_int}
 
 -- ---- postings by document
@@ -47,32 +47,39 @@ same_postings ps = IsPermutation-refl ps
 abbrev bare : Entry → Row
 bare e = placed_in e.docid (posting_of e).place
 
-one_list : (t : List ℕ) (d : ℤ) (ss : List Spot) (xs : List Row) (ys : List Entry) → xs ≡ map bare ys →
+listed : (t : List ℕ) (d : ℤ) (ss : List Spot) (xs : List Row) (ys : List Entry) → xs ≡ map bare ys →
     map (placed_in d) (map place_of ss) ++ xs ≡ map bare (map (λ (s : Spot). record { term = t; docid = d; spot = s }) ss ++ ys)
-one_list t d [] xs ys rest = rest
-one_list t d (s ∷ ss) xs ys rest = ap (λ ps. placed_in d (place_of s) ∷ ps) (one_list t d ss xs ys rest)
+listed t d [] xs ys rest = rest
+listed t d (s ∷ ss) xs ys rest = ap (λ ps. placed_in d (place_of s) ∷ ps) (listed t d ss xs ys rest)
 
-abbrev of_table : ℤ → List (ListKey × List Spot) → List (Key × List Spot)
+abbrev pub of_table : ℤ → List (ListKey × List Spot) → List (Key × List Spot)
 of_table tab lists = map (λ (l : ListKey × List Spot). ((l.0.1, l.0.2), l.1)) (where_key list_key_cmp (λ k. int_eq tab k.0) lists)
 
-abbrev asked_places : List (ListKey × List Spot) → List Row
-asked_places lists = all_in (map read_list (map bare_list lists))
+-- a list without its term
+abbrev pub untold : Key × List Spot → ℤ × List Spot
+untold l = (l.0.1, l.1)
 
--- the places of the lists that are asked
-asked_entries : (tab : ℤ) (asks : ListKey → Bool) (test : List ℕ → Bool) → ((k : ListKey) → asks k ≡ (int_eq tab k.0 && test k.1)) → (lists : List (ListKey × List Spot)) →
-    all_in (map read_list (map bare_list (where_key list_key_cmp asks lists))) ≡ map bare (entries_in (lists_with_terms test (of_table tab lists)))
-asked_entries tab asks test same [] = refl
-asked_entries tab asks test same (l ∷ ls) =
-    ap (λ b. asked_places (cond b (l ∷ where_key list_key_cmp asks ls) (where_key list_key_cmp asks ls))) (same l.0)
-    ∙ elim (int_eq tab l.0.0) as (λ b. asked_places (cond (b && test l.0.1) (l ∷ where_key list_key_cmp asks ls) (where_key list_key_cmp asks ls))
-    ≡ map bare (entries_in (lists_with_terms test (map (λ (l : ListKey × List Spot). ((l.0.1, l.0.2), l.1)) (cond b (l ∷ where_key list_key_cmp (λ k. int_eq tab k.0) ls) (where_key list_key_cmp (λ k. int_eq tab k.0) ls)))))) [
-      | true ↦ elim (test l.0.1) as (λ b. asked_places (cond b (l ∷ where_key list_key_cmp asks ls) (where_key list_key_cmp asks ls))
-          ≡ map bare (entries_in (cond b (((l.0.1, l.0.2), l.1) ∷ lists_with_terms test (of_table tab ls)) (lists_with_terms test (of_table tab ls))))) [
-            | true ↦ one_list l.0.1 l.0.2 l.1 (asked_places (where_key list_key_cmp asks ls)) (entries_in (lists_with_terms test (of_table tab ls))) (asked_entries tab asks test same ls)
-            | false ↦ asked_entries tab asks test same ls
-          ]
-      | false ↦ asked_entries tab asks test same ls
+-- the lists that are asked are those of some terms
+pub asked_lists : (tab : ℤ) (asks : ListKey → Bool) (test : List ℕ → Bool) → ((k : ListKey) → asks k ≡ (int_eq tab k.0 && test k.1)) → (lists : List (ListKey × List Spot)) →
+    map bare_list (where_key list_key_cmp asks lists) ≡ map untold (lists_with_terms test (of_table tab lists))
+asked_lists tab asks test same [] = refl
+asked_lists tab asks test same (l ∷ ls) =
+    let more = where_key list_key_cmp asks ls in
+    let rest = asked_lists tab asks test same ls in
+    ap (λ b. map bare_list (cond b (l ∷ more) more)) (same l.0)
+    ∙ elim (int_eq tab l.0.0) as (λ b. map bare_list (cond (b && test l.0.1) (l ∷ more) more)
+    ≡ map untold (lists_with_terms test (map (λ (l : ListKey × List Spot). ((l.0.1, l.0.2), l.1)) (cond b (l ∷ where_key list_key_cmp (λ k. int_eq tab k.0) ls) (where_key list_key_cmp (λ k. int_eq tab k.0) ls))))) [
+      | true ↦ elim (test l.0.1) as (λ b. map bare_list (cond b (l ∷ more) more) ≡ map untold (cond b (((l.0.1, l.0.2), l.1) ∷ lists_with_terms test (of_table tab ls)) (lists_with_terms test (of_table tab ls)))) [
+        | true ↦ ap (λ xs. (l.0.2, l.1) ∷ xs) rest
+        | false ↦ rest
+      ]
+      | false ↦ rest
     ]
+
+-- the places of lists are their entries
+listed_entries : (ls : List (Key × List Spot)) → all_in (map read_list (map untold ls)) ≡ map bare (entries_in ls)
+listed_entries [] = refl
+listed_entries (l ∷ ls) = listed l.0.0 l.0.1 l.1 (all_in (map read_list (map untold ls))) (entries_in ls) (listed_entries ls)
 
 -- ---- a set of entries of which none comes twice has them in another order
 
@@ -174,7 +181,7 @@ lists_up (l ∷ ls) up each =
     (λ m h. all-map (Below (placed_in l.docid p)) (placed_in m.docid) (λ q. below_docid (placed_in l.docid p) (placed_in m.docid q) h) m.places) ls up.0)) l.places)
 
 module _ (test : List ℕ → Bool) where
-  one_rises : (d : Document) → AllPairs IsBefore d.postings → IsAscending Below (map (placed_in d.docid) (places_with test d).places)
+  pub one_rises : (d : Document) → AllPairs IsBefore d.postings → IsAscending Below (map (placed_in d.docid) (places_with test d).places)
   one_rises d pairs =
       let passing = filter (λ (p : Posting). test p.term) d.postings in
       ascending-map Below (placed_in d.docid) (map (λ (p : Posting). p.place) passing)
@@ -264,15 +271,18 @@ module _ (ds : List Document) (order : AreDocuments ds) (test : List ℕ → Boo
       (rows : List ListRow) → map shown_list rows ≡ map bare_list (where_key list_key_cmp asks stored) → (found : List PlaceList) → AreListsOf rows found → found ≡ lists_with test ds
   asked_answer means counted tab asks same stored its rows read =
       rows_answer means counted rows
-      (ap all_in (sym (map-map read_list shown_list rows) ∙ ap (map read_list) read) ∙ asked_entries tab asks test same stored ∙ ap (λ ls. map bare (entries_in (lists_with_terms test ls))) its)
+      (ap all_in (sym (map-map read_list shown_list rows) ∙ ap (map read_list) (read ∙ asked_lists tab asks test same stored)) ∙ listed_entries (lists_with_terms test (of_table tab stored)) ∙ ap (λ ls. map bare (entries_in (lists_with_terms test ls))) its)
 
 -- as many as the rows have
+pub lists_count : (rows : List ListRow) → place_count (map list_of rows) ≡ spot_count (map shown_list rows)
+lists_count rows = ap place_count (sym (map-map read_list shown_list rows)) ∙ same_count (map shown_list rows)
+
 pub rows_count : (rows : List ListRow) (found : List PlaceList) → AreListsOf rows found → place_count found ≡ spot_count (map shown_list rows)
 rows_count rows found shown =
     ap place_count shown.lists ∙ same_count (lists_of_postings shown.places) ∙ counted shown.places ∙ length_permutation (all_in (map list_of rows)) shown.places shown.same
-    ∙ all_count (map list_of rows) ∙ ap place_count (sym (map-map read_list shown_list rows)) ∙ same_count (map shown_list rows)
+    ∙ all_count (map list_of rows) ∙ lists_count rows
 
--- ---- rows that stand in order are lists
+-- ---- what stands before the next
 
 module _ {X : Type 0} (before : X → X → Bool) where
   each_next : (xs : List X) → AllAdjacentBelow (λ x y. true ≡ before x y) xs (length xs) → true ≡ rise before xs
@@ -298,16 +308,7 @@ module _ {X : Type 0} (before : X → X → Bool) where
   neighbours_tell xs true next = each_next xs next
   neighbours_tell xs false not = some_not xs not.0 not.1 not.2
 
--- ---- places that rise
-
--- what stands before each next one stands before all that come
-ascending_from_rise : {X : Type 0} (before : X → X → Bool) (R : X → X → Type 0) → ((a b : X) → before a b ≡ true → R a b) → ((a b c : X) → R a b → R b c → R a c) → (xs : List X) → rise before xs ≡ true → IsAscending R xs
-ascending_from_rise before R says after [] up = tt
-ascending_from_rise before R says after (x ∷ []) up = (tt, tt)
-ascending_from_rise before R says after (x ∷ y ∷ xs) up =
-    let first : R x y = says x y (and_parts _ _ up).0 in
-    let rest = ascending_from_rise before R says after (y ∷ xs) (and_parts (before x y) _ up).1 in
-    ((first, all_weaker (R y) (R x) (λ z h. after x y z first h) xs rest.0), rest)
+-- ---- lists in order are those of their rows
 
 sorted_up : (ps : List Row) → IsAscending Below ps → IsSorted posting_cmp ps
 sorted_up [] up k d low within = absurd (omega (arith, within))
@@ -315,53 +316,18 @@ sorted_up (p ∷ []) up k d low within = absurd (omega (arith, within))
 sorted_up (p ∷ q ∷ ps) up zero d low within = ap is_lt (posting_total.antisymm q p ∙ ap ordering_reverse up.0.0)
 sorted_up (p ∷ q ∷ ps) up (suc k) d low within = rw add-one (rw add-one at (sorted_up (q ∷ ps) up.1 k d (omega arith) (omega (arith, within))))
 
-before_below : (x : ℤ) (p q : Spot) → is_before p q ≡ true → Below (placed_in x (place_of p)) (placed_in x (place_of q))
-before_below x p q h = go (nat_lt p.column q.column) refl h
-  where
-    go : (b : Bool) → nat_lt p.column q.column ≡ b → (b || (p.column == q.column && nat_lt p.pos q.pos)) ≡ true → Below (placed_in x (place_of p)) (placed_in x (place_of q))
-    go true e h = below_column x (place_of p) (place_of q) (grind (arith, nat_tests))
-    go false e h =
-        let same = (and_parts (p.column == q.column) (nat_lt p.pos q.pos) h).0 in
-        let less = (and_parts (p.column == q.column) (nat_lt p.pos q.pos) h).1 in
-        below_pos x (place_of p) (place_of q) (grind (arith, nat_tests)) (grind (arith, nat_tests))
+-- a list of a document: its places rise, and there are some
+pub record IsList (l : PlaceList) : Type 0 where
+  pub rises : IsAscending Below (map (placed_in l.docid) l.places)
+  pub filled : has_places l ≡ true
 
-row_rises : (row : ListRow) → is_in_order row ≡ true → IsAscending Below (map (placed_in row.docid) (map place_of row.spots.items))
-row_rises row h =
-    ascending-map Below (placed_in row.docid) (map place_of row.spots.items)
-    (ascending-map (λ p q. Below (placed_in row.docid p) (placed_in row.docid q)) place_of row.spots.items
-    (ascending_from_rise is_before (λ s t. Below (placed_in row.docid (place_of s)) (placed_in row.docid (place_of t)))
-    (before_below row.docid) (λ a b c. posting_total.trans (placed_in row.docid (place_of a)) (placed_in row.docid (place_of b)) (placed_in row.docid (place_of c))) row.spots.items (and_parts (is_filled row.spots.items) _ h).1))
-
--- ---- rows that rise
-
-abbrev IsEarlier : ListRow → ListRow → Type 0
-IsEarlier a b = a.docid <ℤ b.docid
-
-earlier : (a b : ℤ) → int_lt a b ≡ true → a <ℤ b
-earlier (pos a) (pos b) h = grind (arith, nat_tests)
-earlier (pos a) (negsuc b) h = absurd (let no = h in cc)
-earlier (negsuc a) (pos b) h = omega arith
-earlier (negsuc a) (negsuc b) h = grind (arith, nat_tests)
-
-later : (a b c : ℤ) → a <ℤ b → b <ℤ c → a <ℤ c
-later a b c h k = omega (arith, ints)
-
-has_some : (row : ListRow) → is_in_order row ≡ true → has_places (list_of row) ≡ true
-has_some row h = go row.spots.items (and_parts _ _ h).0
-  where
-    go : (ss : List Spot) → is_filled ss ≡ true → is_filled (map place_of ss) ≡ true
-    go [] some = some
-    go (s ∷ ss) some = refl
-
-pub rows_in_order : (rows : List ListRow) → are_in_order rows ≡ true → AreListsOf rows (map list_of rows)
-rows_in_order rows h =
-    let each = all_from_test is_in_order rows (and_parts (rise (λ (a b : ListRow). int_lt a.docid b.docid) rows) _ h).1 in
-    let up = ascending_from_rise (λ (a b : ListRow). int_lt a.docid b.docid) IsEarlier (λ a b e. earlier a.docid b.docid e) (λ a b c. later a.docid b.docid c.docid) rows (and_parts _ _ h).0 in
-    let docids = ascending-map (λ a b. a.docid <ℤ b.docid) list_of rows up in
+pub lists_in_order : (rows : List ListRow) → IsAscending (λ a b. a.docid <ℤ b.docid) (map list_of rows) → AllByRecursion IsList (map list_of rows) → AreListsOf rows (map list_of rows)
+lists_in_order rows up are =
+    let lists = map list_of rows in
     let rises : PlaceList → Type 0 = λ l. IsAscending Below (map (placed_in l.docid) l.places) in
     record {
-      places = all_in (map list_of rows);
+      places = all_in lists;
       same = IsPermutation-refl _;
-      sorted = sorted_up (all_in (map list_of rows)) (lists_up (map list_of rows) docids (all_map rises list_of rows (all_weaker (λ row. is_in_order row ≡ true) (λ row. rises (list_of row)) row_rises rows each)));
-      lists = sym (all_groups (map list_of rows) (all_map (λ l. has_places l ≡ true) list_of rows (all_weaker (λ row. is_in_order row ≡ true) (λ row. has_places (list_of row) ≡ true) has_some rows each)) docids);
+      sorted = sorted_up (all_in lists) (lists_up lists up (all_weaker IsList rises (λ l is. is.rises) lists are));
+      lists = sym (all_groups lists (all_weaker IsList (λ l. has_places l ≡ true) (λ l is. is.filled) lists are) up);
     }

@@ -50,7 +50,7 @@ pub use Rattle.ft_documents.specs.Inserted.{AreKnown, IsNewIn, AreInserts, Makes
 pub use Rattle.ft_documents.specs.MadeIndex.{lists_in, sizes_in, HaveShortNumbers, AddsDocuments, IsIndexOf, IsTextOf}
 pub use Rattle.ft_documents.specs.Matched.{hit_read, chosen_hits, as_wanted, TellsHit}
 pub use Rattle.ft_documents.specs.NewDocuments.{shown_new, shown_documents, with_new, new_rewrite, AreBeside, Places}
-pub use Rattle.ft_documents.specs.Placed.{place_of, spot_in, read_list, list_of, placed_in, all_in, posting_cmp, AreListsOf, is_before, rise, is_in_order, are_in_order, docids_rise}
+pub use Rattle.ft_documents.specs.Placed.{place_of, spot_in, read_list, list_of, placed_in, all_in, posting_cmp, AreListsOf, rise}
 pub use Rattle.ft_documents.specs.Rewrite.{document_if, Rewrite, with_cells, rewritten, rewritten_content, rewritten_docids, under_docids, FitIfAny, AreOf, HasContent, AreRight, befores, afters, IsPackable, shown_rewrite, rewrite_bytes, IsSmall, cell_bytes, removal}
 pub use Rattle.ft_documents.specs.RewriteRows.{all_put, same_cell, was_there, numbered_cells, put_cells, rewrite_changes, with_spots, with_entries, entry_spot, sized, cell_entries, cell_sizes, AreShortNumbers, lists_joined_by, sizes_with, index_lists_of, sizes_of, gone, changed, same_spots, goes, dropped_documents, put_documents, dropped_lists, dropped_sizes, list_changes, IsShortNumber, put_lists, put_sizes, same_spot}
 pub use Rattle.ft_documents.specs.Standing.{AreContent, AreDocumentCells, columns_said, stands_after, follows, size_under_key, HaveContent, shown_row, numbered_column, listed_rows}

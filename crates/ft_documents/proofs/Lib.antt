@@ -23,12 +23,14 @@ mod StandingContent
 mod Steps
 mod StoreKeys
 mod TermOrder
+mod TermRows
 mod TableListLemmas
 -- rows of a table that is made, and of others
 pub use Rattle.ft_documents.proofs.AddLemmas.{added_in_order, added_index, added_rows, own_put}
 pub use Rattle.ft_documents.proofs.ChangeLemmas.{spares_others}
 -- rows that are asked for lists
-pub use Rattle.ft_documents.proofs.AskedLemmas.{asked_answer, rows_count}
+pub use Rattle.ft_documents.proofs.AskedLemmas.{asked_answer, lists_count, rows_count}
+pub use Rattle.ft_documents.proofs.TermRows.{term_rows}
 -- documents that are chosen, and their hits
 pub use Rattle.ft_documents.proofs.ChosenLemmas.{all_found, chosen_again, chosen_all, chosen_one, of_hits}
 pub use Rattle.ft_documents.proofs.MatchedLemmas.{hits_chosen, none_chosen}

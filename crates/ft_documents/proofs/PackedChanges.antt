@@ -92,35 +92,35 @@ in_order columns cells = document_rises postings_rise columns cells
 
 -- ---- spots that can be packed
 
-abbrev place_of : Posting → packing.Spot
-place_of p = record { column = p.place.column; pos = p.place.pos; place = p.place.start; size = p.place.size }
+abbrev pub spot_at : Posting → packing.Spot
+spot_at p = record { column = p.place.column; pos = p.place.pos; place = p.place.start; size = p.place.size }
 
-is_place : (p : Posting) → IsPlace p → packing.is_spot (place_of p) ≡ true
+is_place : (p : Posting) → IsPlace p → packing.is_spot (spot_at p) ≡ true
 is_place p is = grind (arith, nat_tests, is.0, is.1, is.2, is.3, is.4)
 
-is_behind : (p q : Posting) → IsBefore p q → packing.is_after (place_of p) (place_of q) ≡ true
+is_behind : (p q : Posting) → IsBefore p q → packing.is_after (spot_at p) (spot_at q) ≡ true
 is_behind p q (inl less) = grind (arith, nat_tests, less)
 is_behind p q (inr h) = grind (arith, nat_tests, h.0, h.1, h.2)
 
-places_rise : (p : Posting) (ps : List Posting) → All IsPlace ps → AllPairs IsBefore (p ∷ ps) → packing.rise_after (place_of p) (map place_of ps) ≡ true
+places_rise : (p : Posting) (ps : List Posting) → All IsPlace ps → AllPairs IsBefore (p ∷ ps) → packing.rise_after (spot_at p) (map spot_at ps) ≡ true
 places_rise p [] are rise = refl
 places_rise p (q ∷ qs) are rise = grind (arith, is_place q (All-head IsPlace q qs are), is_behind p q (All-head (IsBefore p) q qs (λ k d inside. rise 0 (suc k) d (omega arith) (omega arith))), places_rise q qs (All-tail IsPlace q qs are) (λ i j d before inside. rise (suc i) (suc j) d (omega arith) (omega arith)))
 
-are_places : (p : Posting) (ps : List Posting) → All IsPlace (p ∷ ps) → AllPairs IsBefore (p ∷ ps) → packing.are_spots (map place_of (p ∷ ps)) ≡ true
-are_places p ps are rise = and_from (packing.is_spot (place_of p)) (packing.rise_after (place_of p) (map place_of ps)) (is_place p (All-head IsPlace p ps are)) (places_rise p ps (All-tail IsPlace p ps are) rise)
+are_places : (p : Posting) (ps : List Posting) → All IsPlace (p ∷ ps) → AllPairs IsBefore (p ∷ ps) → packing.are_spots (map spot_at (p ∷ ps)) ≡ true
+are_places p ps are rise = and_from (packing.is_spot (spot_at p)) (packing.rise_after (spot_at p) (map spot_at ps)) (is_place p (All-head IsPlace p ps are)) (places_rise p ps (All-tail IsPlace p ps are) rise)
 
 -- the spots of a key are those of the postings with its term
-spots_of : (q : Key) (docid : ℤ) (ps : List Posting) → spots_of_key q (map (entry_at docid) ps) ≡ map place_of (filter (λ (p : Posting). eq_by_cmp key_cmp q (key_of (entry_at docid p))) ps)
+pub spots_of : (q : Key) (docid : ℤ) (ps : List Posting) → spots_of_key q (map (entry_at docid) ps) ≡ map spot_at (filter (λ (p : Posting). eq_by_cmp key_cmp q (key_of (entry_at docid p))) ps)
 spots_of q docid [] = refl
 spots_of q docid (p ∷ ps) =
     let entries = filter (λ (e : Entry). eq_by_cmp key_cmp q (key_of e)) (map (entry_at docid) ps) in
     let kept = filter (λ (p : Posting). eq_by_cmp key_cmp q (key_of (entry_at docid p))) ps in
-    elim (eq_by_cmp key_cmp q (key_of (entry_at docid p))) as (λ b. map (λ (e : Entry). e.spot) (cond b (entry_at docid p ∷ entries) entries) ≡ map place_of (cond b (p ∷ kept) kept)) [
-      | true ↦ ap (λ ss. place_of p ∷ ss) (spots_of q docid ps)
+    elim (eq_by_cmp key_cmp q (key_of (entry_at docid p))) as (λ b. map (λ (e : Entry). e.spot) (cond b (entry_at docid p ∷ entries) entries) ≡ map spot_at (cond b (p ∷ kept) kept)) [
+      | true ↦ ap (λ ss. spot_at p ∷ ss) (spots_of q docid ps)
       | false ↦ spots_of q docid ps
     ]
 
-some_packed : (ps : List Posting) (spots ss : List Spot) → spots ≡ map place_of ps → All IsPlace ps → AllPairs IsBefore ps → some_if_any spots ≡ Some ss → packing.CanPack ss
+some_packed : (ps : List Posting) (spots ss : List Spot) → spots ≡ map spot_at ps → All IsPlace ps → AllPairs IsBefore ps → some_if_any spots ≡ Some ss → packing.CanPack ss
 some_packed ps [] ss same are rise is = absurd (let no = is in cc)
 some_packed [] (s ∷ spots) ss same are rise is = absurd (let no = same in cc)
 some_packed (p ∷ ps) (s ∷ spots) ss same are rise is = subst packing.CanPack (sym same ∙ ap (λ o. unwrap_or o []) is) (are_places p ps are rise)

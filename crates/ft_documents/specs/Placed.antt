@@ -1,10 +1,10 @@
 -- Steps. Index rows, as the lists of places of documents that they mean (own choice).
-use Rattle.std.specs.Prelude.{◌≡◌, ℤ, Bool, true, nat_lt, int_lt, ◌==◌, ◌&&◌, ◌||◌, List, [], ◌∷◌, map, IsPermutation, IsSorted}
-use Rattle.std.specs.List.{flat_map, list_all}
+use Rattle.std.specs.Prelude.{◌≡◌, ℤ, Bool, true, ◌&&◌, List, [], ◌∷◌, map, IsPermutation, IsSorted}
+use Rattle.std.specs.List.{flat_map}
 use Rattle.std.specs.declared.cmp.Ordering.{Ordering}
 use Rattle.std.specs.Ordering.{nat_cmp, int_cmp, ordering_then}
 use Rattle.ft_query.specs.declared.lists.place.Place.{Place}
-use Rattle.ft_query.specs.Documents.{PlaceList, is_filled}
+use Rattle.ft_query.specs.Documents.{PlaceList}
 use Rattle.ft_values.specs.declared.rows.ListRow.{ListRow}
 use Rattle.ft_values.specs.declared.rows.Spot.{Spot}
 use Rattle.ft_rows.specs.declared.terms.Posting.{Posting}
@@ -40,26 +40,11 @@ posting_cmp a b =
     (ordering_then (nat_cmp a.spot.pos b.spot.pos)
     (ordering_then (nat_cmp a.spot.place b.spot.place) (nat_cmp a.spot.size b.spot.size))))
 
--- a spot before another of its document
-abbrev pub is_before : Spot → Spot → Bool
-is_before a b = nat_lt a.column b.column || (a.column == b.column && nat_lt a.pos b.pos)
-
 -- each stands before the next
 abbrev pub rise : {X : Type 0} → (X → X → Bool) → List X → Bool
 rise before [] = true
 rise before (x ∷ []) = true
 rise before (x ∷ y ∷ xs) = before x y && rise before (y ∷ xs)
-
--- a row with spots, in order
-abbrev pub is_in_order : ListRow → Bool
-is_in_order row = is_filled row.spots.items && rise is_before row.spots.items
-
-abbrev pub docids_rise : List ListRow → Bool
-docids_rise rows = rise (λ a b. int_lt a.docid b.docid) rows
-
--- rows by rising docid, each with spots in order
-abbrev pub are_in_order : List ListRow → Bool
-are_in_order rows = docids_rise rows && list_all is_in_order rows
 
 -- the lists of rows in any order: the rows' places in order, by docid
 pub record AreListsOf (rows : List ListRow) (found : List PlaceList) : Type 0 where

@@ -16,7 +16,7 @@ mod writes;
 
 pub use documents::{Document, gathered};
 pub use hits::{bare_hit, filter_query, taken};
-pub use lists::doc_lists;
+pub use lists::{doc_lists, row_lists};
 pub use new_documents::made_documents;
 pub use rewrite::{Rewrite, in_groups, row_changes};
 pub use standing_index::index_lists;

@@ -2,30 +2,14 @@
 ghost use Rattle.std.specs.Prelude.{◌≡◌, map, IfOk, OnOk, IsPermutation, IsSorted};
 ghost use Rattle.ft_query.specs.Documents.{plain_list};
 ghost use Rattle.ft_rows.specs.Terms.{lists_of_postings};
-ghost use Rattle.ft_documents.specs.Placed.{place_of, read_list, list_of, all_in, posting_cmp, is_in_order, are_in_order, AreListsOf};
+ghost use Rattle.ft_documents.specs.Placed.{place_of, read_list, list_of, all_in, posting_cmp, AreListsOf};
 
 use ft_query::{DocList, Place};
 use ft_rows::{Posting, split_list};
 use ft_values::{ListRow, Spot};
 use std::alloc::{AllocError, Global};
 
-// ---- rows in order, each a list
-
-// Whether a row has places, in order.
-fn is_in_order(row: &ListRow) -> bool
-    ensures { result ≡ is_in_order row.now }
-{
-    !row.spots.is_empty()
-        && row.spots.is_sorted_by(|one, other| (one.column, one.pos) < (other.column, other.pos))
-}
-
-// Whether rows stand by rising docid, each with places in order.
-fn are_in_order(rows: &[ListRow]) -> bool
-    ensures { result ≡ are_in_order rows.now }
-{
-    rows.is_sorted_by(|one, other| one.docid < other.docid)
-        && rows.iter().all(|row| is_in_order(row))
-}
+// ---- rows of one term
 
 // A spot as the walk has it.
 fn place_of(spot: &Spot) -> Place
@@ -34,8 +18,9 @@ fn place_of(spot: &Spot) -> Place
     Place::new(spot.column, spot.pos, spot.place, spot.size)
 }
 
-// The lists of rows. Each row goes as its list is made, so that the next list finds its room free.
-fn row_lists(alloc: Global, rows: Vec<ListRow>) -> Result<Vec<DocList>, AllocError>
+/// The list of each row, in the rows' order. Each row goes as its list is made, so that the next list
+/// finds its room free.
+pub fn row_lists(alloc: Global, rows: Vec<ListRow>) -> Result<Vec<DocList>, AllocError>
     ensures { IfOk result (λ lists. map plain_list lists.items ≡ map list_of rows.items) }
 {
     let mut lists = Vec::with_capacity(alloc, rows.len())?;
@@ -92,9 +77,6 @@ fn lists_by_document(alloc: Global, postings: &[Posting]) -> Result<Vec<DocList>
 pub fn doc_lists(alloc: Global, rows: Vec<ListRow>) -> Result<Vec<DocList>, AllocError>
     ensures { IfOk result (λ lists. AreListsOf rows.items (map plain_list lists.items)) }
 {
-    if are_in_order(rows.as_slice()) {
-        return row_lists(alloc, rows);
-    }
     let mut postings = postings_of(alloc, rows.as_slice())?;
     put_in_order(&mut postings)?;
     lists_by_document(alloc, postings.as_slice())

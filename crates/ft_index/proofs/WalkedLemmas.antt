@@ -1,20 +1,22 @@
 -- What lists mean that can be relied on, and what reads leave of them.
-use Rattle.std.proofs.Common.{◌≡◌, ℕ, ℤ, ◌&&◌, Bool, List, map, sym, ap, subst, ◌∙◌, arith, IsTrue, bytes_eq, int_eq, is_eq}
+use Rattle.std.proofs.Common.{◌≡◌, ℕ, ℤ, ◌+◌, ◌-◌, ◌^◌, ◌&&◌, min, true, Bool, List, map, sym, ap, subst, ◌∙◌, arith, IsTrue, bytes_eq, int_eq, is_eq}
 use Rattle.ft_index.proofs.Common.{eq_by_cmp_equiv, where_key, HasCleanDisk, Survives, Database, Ghosts, lists_with, StoreValue, ListKey}
 use Rattle.ft_index.proofs.Common.{list_key_cmp, name_cmp, value_of, StoreState, shows, value_in, Content, IsContent, IndexRows, index_rows}
 use Rattle.ft_index.proofs.Common.{content_documents, table_index, table_documents, IsIndexed}
 use Rattle.std.specs.Cmp.Lexicographic.{nat_list_cmp_total}
 use Rattle.std.proofs.lemmas.Map.Text.{is_eq-slice_cmp}
+use Rattle.std.proofs.lemmas.Slice.Eq.{bytes_eq-Decides}
 use Rattle.ft_query.specs.Documents.{AreDocuments, PlaceList}
 use Rattle.ft_query.proofs.{postings_rise, documents_are}
 use Rattle.ft_values.specs.declared.rows.ListRow.{ListRow}
-use Rattle.ft_rows.specs.Shown.{shown_list, bare_list}
+use Rattle.ft_rows.specs.Shown.{shown_list, bare_list, lists_under_term}
 use Rattle.ft_store.specs.Calls.{Keeps}
 use Rattle.ft_content.specs.Meaning.{documents_in, DocumentsAreInOrder}
 use Rattle.ft_content.proofs.{lists_mean, terms_are_their_lists, terms_are_counted, documents_are_in_order}
-use Rattle.ft_documents.specs.Placed.{AreListsOf}
-use Rattle.ft_index.specs.Walked.{AreReliable}
-use Rattle.ft_documents.proofs.{asked_answer}
+use Rattle.ft_documents.specs.Placed.{list_of, AreListsOf}
+use Rattle.ft_index.specs.Walked.{AreReliable, ReadsStore}
+use Rattle.ft_store.specs.Kept.{more_rows}
+use Rattle.ft_documents.proofs.{asked_answer, term_rows}
 
 in_order : DocumentsAreInOrder
 in_order = documents_are_in_order documents_are
@@ -36,6 +38,10 @@ reliable_of g tab store name content clean is_open is index = record {
   index = index;
   in_order = subst AreDocuments (sym (indexed_means g tab store name content is index)) (in_order name content is);
 }
+
+-- the test of a term
+pub asks_term : (tab : ℤ) (term : List ℕ) (k : ListKey) → (int_eq tab k.0 && is_eq (name_cmp term k.1)) ≡ (int_eq tab k.0 && bytes_eq k.1 term)
+asks_term tab term k = ap (λ b. int_eq tab k.0 && b) ((eq_by_cmp_equiv nat_list_cmp_total).symm term k.1 ∙ is_eq-slice_cmp k.1 term)
 
 module _ {S : Type 0} (g : Ghosts S) (tab : ℤ) (old new : StoreState S) (kept : HasCleanDisk (shows g new) → Keeps (shows g old) (shows g new)) where
   same_value : AreReliable g tab new → value_in g new ≡ value_in g old
@@ -67,9 +73,21 @@ module _ {S : Type 0} (g : Ghosts S) (tab : ℤ) (old new : StoreState S) (kept 
       tab asks same (value_in g new).lists (ap (λ (r : IndexRows). r.lists) h.index) rows (read h.clean ∙ ap (λ (v : StoreValue). map bare_list (where_key list_key_cmp asks v.lists)) (sym (same_value h))) found shown
       ∙ ap (lists_with test) (sym (indexed_means g tab new h.name h.content h.is_content h.index))
 
--- the test of a term
-pub asks_term : (tab : ℤ) (term : List ℕ) (k : ListKey) → (int_eq tab k.0 && is_eq (name_cmp term k.1)) ≡ (int_eq tab k.0 && bytes_eq k.1 term)
-asks_term tab term k = ap (λ b. int_eq tab k.0 && b) ((eq_by_cmp_equiv nat_list_cmp_total).symm term k.1 ∙ is_eq-slice_cmp k.1 term)
+  -- those of one term are its rows, as they come
+  pub term_answer : (term : List ℕ) (rows : List ListRow) → (HasCleanDisk (shows g new) → map shown_list rows ≡ map bare_list (lists_under_term tab term (value_in g old))) →
+      AreReliable g tab new → map list_of rows ≡ lists_with (λ t. bytes_eq t term) (table_documents g tab new)
+  term_answer term rows read h =
+      let test : List ℕ → Bool = λ t. bytes_eq t term in
+      let asks : ListKey → Bool = λ k. int_eq tab k.0 && is_eq (name_cmp term k.1) in
+      walk_answer asks test (asks_term tab term) rows read (map list_of rows)
+      (term_rows h.name h.content h.is_content test (λ a b here there. (bytes_eq-Decides a term).0 here ∙ sym ((bytes_eq-Decides b term).0 there)) tab asks (asks_term tab term) (value_in g new).lists
+      (ap (λ (r : IndexRows). r.lists) h.index) rows (read h.clean ∙ ap (λ (v : StoreValue). map bare_list (lists_under_term tab term v)) (sym (same_value h)))) h
+
+-- a read that is answered, which counts the places that it gives
+pub gives : {S : Type 0} (g : Ghosts S) (old new : StoreState S) (given n : ℕ) {now : StoreState S} {given_now : ℕ} → (HasCleanDisk (shows g new) → Keeps (shows g old) (shows g new)) → (HasCleanDisk (shows g new) → IsTrue (shows g new).is_open) →
+    Survives (shows g old) (shows g new) (λ _. IsTrue (shows g old).is_open → ⊥) → new.rows_read ≡ more_rows n old → now ≡ new → given_now ≡ min (given + n) (2 ^ 64 - 1) → ReadsStore g old given true now given_now
+gives g old new given n {now} {given_now} kept live survives counted same is =
+    subst (λ s. ReadsStore g old given true s given_now) (sym same) (record { kept = kept; live = λ clean _. live clean; survives = survives; counted = λ _. (n, counted, is) })
 
 -- the lists of a table that was indexed can be relied on after reads
 pub now_reliable : {S : Type 0} (g : Ghosts S) (tab at : ℤ) (old new : StoreState S) (content : Content) → at ≡ tab → (HasCleanDisk (shows g new) → Keeps (shows g old) (shows g new)) → IsIndexed g tab old new content →

@@ -1,11 +1,9 @@
 //! The posting lists of one table.
-ghost use Rattle.std.specs.Prelude.{◌≡◌, ◌+◌, ◌-◌, ◌^◌, ◌||◌, false, min, map, Err, IfOk, OnOk, OnErr};
+ghost use Rattle.std.specs.Prelude.{◌≡◌, ◌+◌, ◌-◌, ◌^◌, ◌||◌, false, min, map, Err};
 ghost use Rattle.ft_query.specs.Documents.{plain_list, place_count};
 ghost use Rattle.ft_query.specs.Lists.{is_failed};
-ghost use Rattle.ft_rows.specs.Shown.{shown_list, spot_count};
-ghost use Rattle.ft_documents.specs.Placed.{AreListsOf};
 
-use ft_documents::doc_lists;
+use ft_documents::{doc_lists, row_lists};
 use ft_query::{DocList, ListFault, Lists};
 use ft_store::{ListRow, Store, StoreFault};
 use sqlite::Alter;
@@ -46,19 +44,13 @@ impl<'s, S: Alter> TableLists<'s, S> {
         }
     }
 
-    // The lists of rows that were read.
-    fn answered(&mut self, alloc: Global, rows: Vec<ListRow>) -> Result<Vec<DocList>, AllocError>
-        ensures lists { IfOk result (λ lists. AreListsOf rows.items (map plain_list lists.items)) }
-        ensures counted { OnOk result (self.new
-            ≡ record self.old {
-              given = min (self.old.given + spot_count
-                  (map shown_list rows.items)) (2 ^ 64 - 1);
-            }) }
-        ensures err { OnErr result (self.new ≡ self.old) }
+    // Counts the places of lists that are given.
+    fn counts(&mut self, lists: &[DocList])
+        ensures { self.new ≡ record self.old {
+          given = min (self.old.given + place_count (map plain_list lists.now)) (2 ^ 64 - 1);
+        } }
     {
-        let lists = doc_lists(alloc, rows)?;
-        self.given = self.given.saturating_add(count_places(lists.as_slice()));
-        Ok(lists)
+        self.given = self.given.saturating_add(count_places(lists));
     }
 
     // Notes that a read was refused.
@@ -101,14 +93,22 @@ impl<'s, S: Alter> Lists for TableLists<'s, S> {
 
     fn word(&mut self, alloc: Global, term: &str) -> Result<Vec<DocList>, ListFault> {
         match self.store.term_lists(self.tab, term) {
-            Ok(rows) => Ok(self.answered(alloc, rows)?),
+            Ok(rows) => {
+                let lists = row_lists(alloc, rows)?;
+                self.counts(lists.as_slice());
+                Ok(lists)
+            }
             Err(fault) => Err(self.refused(fault)),
         }
     }
 
     fn prefix(&mut self, alloc: Global, begin: &str) -> Result<Vec<DocList>, ListFault> {
         match self.store.prefix_lists(self.tab, begin) {
-            Ok(rows) => Ok(self.answered(alloc, rows)?),
+            Ok(rows) => {
+                let lists = doc_lists(alloc, rows)?;
+                self.counts(lists.as_slice());
+                Ok(lists)
+            }
             Err(fault) => Err(self.refused(fault)),
         }
     }

@@ -1,33 +1,43 @@
 -- the rows of the terms that begin so
-use Rattle.std.proofs.Common.{◌≡◌, ◌⊎◌, true, subst, ℤ, ◌+◌, ◌-◌, ◌^◌, min, w64, SFits, to_z-of_z, ◌&&◌, map, nat_eq, refl, sym, ap, ◌∙◌, rules, int_eq}
+use Rattle.std.proofs.Common.{◌≡◌, ◌⊎◌, true, refl, subst, ℕ, ℤ, ◌+◌, ◌-◌, ◌^◌, min, w64, SFits, to_z-of_z, ◌&&◌, map, nat_eq, sym, ap, ◌∙◌, rules, int_eq}
 use Rattle.ft_index.proofs.Common.{plain_list, lists_with, table_documents, HasCleanDisk, IsBlamed, shows, value_in}
 use Rattle.std.specs.List.{starts_with}
 use Rattle.ft_documents.proofs.{rows_count}
+use Rattle.ft_query.specs.Documents.{place_count}
+use Rattle.ft_rows.specs.Shown.{shown_list, spot_count}
 use Rattle.ft_index.proofs.Doing.{none_damaged, read_failed}
-use Rattle.ft_index.proofs.WalkedLemmas.{still_after, walk_answer}
+use Rattle.ft_index.proofs.WalkedLemmas.{still_after, walk_answer, gives}
 use Rattle.ft_index.proofs.table_lists.TableListsLists.prefix.Goals as goal
 
-pub returns-in_ok-answered-in-Ok-clause-answer : goal.returns-in_ok-answered-in-Ok-clause-answer
-returns-in_ok-answered-in-Ok-clause-answer g c reliable =
-    let same = c.in_ok-answered-in-Ok.ensures.counted in
+pub returns-in_ok-lists-in-Ok-clause-answer : goal.returns-in_ok-lists-in-Ok-clause-answer
+returns-in_ok-lists-in-Ok-clause-answer g c reliable =
+    let same = c.counts.ensures in
     let tab : ℤ = c.args.self.now.tab in
     let fits : SFits w64 c.args.self.now.tab = search rules in
     let answer = walk_answer g.S.Store tab c.args.self.now.store.now c.prefix_lists.new.self c.in-Ok.ensures.read.kept (λ k. int_eq tab k.0 && starts_with nat_eq k.1 c.args.begin.now) (λ t. starts_with nat_eq t c.args.begin.now)
     (λ k. refl) c.in-Ok.rows.items (λ clean. (simp (to_z-of_z, fits) at (c.in-Ok.ensures.rows clean).0))
-    (map plain_list c.in_ok-answered-in-Ok.field-0.items) c.in_ok-answered-in-Ok.ensures.lists
+    (map plain_list c.in_ok-lists-in-Ok.lists.items) c.in_ok-lists-in-Ok.ensures
     (rw same at reliable) in
     answer ∙ sym (ap (λ l. lists_with (λ t. starts_with nat_eq t c.args.begin.now) (table_documents g.S.Store l.tab l.store.now)) same)
 
-pub returns-in_ok-answered-in-Ok-clause-clean : goal.returns-in_ok-answered-in-Ok-clause-clean
-returns-in_ok-answered-in-Ok-clause-clean g c = still_after g.S.Store c.args.self.now.tab c.args.self.now.store.now c.prefix_lists.new.self c.in-Ok.ensures.read.kept c.in-Ok.ensures.read.survives (ap (λ l. l.tab) c.in_ok-answered-in-Ok.ensures.counted) (ap (λ l. l.store.now) c.in_ok-answered-in-Ok.ensures.counted)
+pub returns-in_ok-lists-in-Ok-clause-clean : goal.returns-in_ok-lists-in-Ok-clause-clean
+returns-in_ok-lists-in-Ok-clause-clean g c = still_after g.S.Store c.args.self.now.tab c.args.self.now.store.now c.prefix_lists.new.self c.in-Ok.ensures.read.kept c.in-Ok.ensures.read.survives (ap (λ l. l.tab) c.counts.ensures) (ap (λ l. l.store.now) c.counts.ensures)
 
-pub returns-in_ok-answered-in-Ok-clause-given : goal.returns-in_ok-answered-in-Ok-clause-given
-returns-in_ok-answered-in-Ok-clause-given g c =
-    ap (λ l. l.given) c.in_ok-answered-in-Ok.ensures.counted
-    ∙ ap (λ n. min (c.args.self.now.given + n) (2 ^ 64 - 1)) (sym (rows_count c.in-Ok.rows.items (map plain_list c.in_ok-answered-in-Ok.field-0.items) c.in_ok-answered-in-Ok.ensures.lists))
+pub returns-in_ok-lists-in-Ok-clause-becomes : goal.returns-in_ok-lists-in-Ok-clause-becomes
+returns-in_ok-lists-in-Ok-clause-becomes g c =
+    let same = c.counts.ensures in
+    let read = c.in-Ok.ensures.read in
+    let given : ℕ = c.args.self.now.given in
+    let places = ap (λ ls. place_count (map plain_list ls)) c.as_slice.ensures.value ∙ rows_count c.in-Ok.rows.items (map plain_list c.in_ok-lists-in-Ok.lists.items) c.in_ok-lists-in-Ok.ensures in (
+      search rules,
+      search rules,
+      gives g.S.Store c.args.self.now.store.now c.prefix_lists.new.self given (spot_count (map shown_list c.in-Ok.rows.items)) read.kept read.live read.survives read.counted (ap (λ l. l.store.now) same)
+          (ap (λ l. l.given) same ∙ ap (λ n. min (given + n) (2 ^ 64 - 1)) places),
+      search rules,
+    )
 
-pub returns-in_err-answered-in-Ok-clause-clean : goal.returns-in_err-answered-in-Ok-clause-clean
-returns-in_err-answered-in-Ok-clause-clean g c = still_after g.S.Store c.args.self.now.tab c.args.self.now.store.now c.prefix_lists.new.self c.in-Ok.ensures.read.kept c.in-Ok.ensures.read.survives (ap (λ l. l.tab) c.in_err-answered-in-Ok.ensures.err) (ap (λ l. l.store.now) c.in_err-answered-in-Ok.ensures.err)
+pub returns-in_err-lists-in-Ok-clause-clean : goal.returns-in_err-lists-in-Ok-clause-clean
+returns-in_err-lists-in-Ok-clause-clean g c = still_after g.S.Store c.args.self.now.tab c.args.self.now.store.now c.prefix_lists.new.self c.in-Ok.ensures.read.kept c.in-Ok.ensures.read.survives refl refl
 
 pub returns-in-Err-clause-clean : goal.returns-in-Err-clause-clean
 returns-in-Err-clause-clean g c = still_after g.S.Store c.args.self.now.tab c.args.self.now.store.now c.prefix_lists.new.self c.in-Err.ensures.read.kept c.in-Err.ensures.read.survives (ap (λ l. l.tab) c.refused.ensures.noted) (ap (λ l. l.store.now) c.refused.ensures.noted)
