@@ -2,10 +2,10 @@
 use Rattle.std.proofs.Common.{◌≡◌, ℕ, true, false, List, [], ◌∷◌, ◌++◌, Option, Some, None, Result, Ok, Err, ℤ, pos, negsuc, codes, refl}
 use Rattle.std.specs.Fmt.{digits}
 use Rattle.ft_query.specs.Reads.{query_of}
-use Rattle.ft_content.proofs.Common.{Fault, Cell, Null, Int, Text, Content, EntryRow, SizeRow, size_row, entry_rows, Filter, All, Docid, Match, Item, AllColumns, Named, OffsetsOf, Counted, Listed, Command, Create, Drop, Insert, Update, Delete, Select, Rebuild, Check, Optimize, Reply, Done, Rows, TableState, Sound, Stale, Loose, Contents}
+use Rattle.ft_content.proofs.Common.{Fault, Cell, Null, Int, Text, Content, EntryRow, SizeRow, entry_rows, Filter, All, Docid, Match, Item, AllColumns, Named, OffsetsOf, Counted, Listed, Command, Create, Drop, Insert, Update, Delete, Select, Rebuild, Check, Optimize, Reply, Done, Rows, TableState, Sound, Stale, Loose, Contents}
 use Rattle.ft_content.specs.Index.{entries, spot_lists, sizes, index_rows}
 use Rattle.ft_content.specs.Answer.{reading, chosen, answer}
-use Rattle.ft_content.specs.Deserved.{inserted_rows, deserved}
+use Rattle.ft_content.specs.Step.{inserted_rows, deserved}
 use Rattle.ft_content.specs.Step.{after, reply_to, step}
 use Rattle.ft_values.specs.declared.fault.Fault.TheVariants as faults
 
@@ -118,7 +118,7 @@ abbrev pub entry : List ℕ → ℤ → ℕ → ℕ → ℕ → ℕ → EntryRow
 entry term docid column position place size = record { term = term; docid = docid; spot = record { column = column; pos = position; place = place; size = size } }
 
 abbrev pub size_of : ℤ → ℕ → ℕ → SizeRow
-size_of docid column n = size_row (record { docid = docid; column = column; n = n })
+size_of docid column n = record { docid = docid; column = pos column; n = pos n }
 
 abbrev pub entries_after : List Command → List EntryRow
 entries_after commands = entry_rows (index_rows (first_content (after_all [] commands))).lists

@@ -1,10 +1,12 @@
 -- What a command makes of a content is a content.
+use Rattle.std.specs.Option.{option_or}
+use Rattle.std.specs.Result.{result_unwrap_or}
 use Rattle.std.proofs.Common.{◌≡◌, ℕ, suc, pred, Bool, true, false, cond, not, T, ◌&&◌, ◌||◌, List, [], ◌∷◌, map, length, ◌==◌, Option, Some, None, Result, Ok, Err, ℤ, refl, sym, ap, subst, ◌∙◌, eqb-true, eq-eqb, le-leb, nat_lt, nat_le, filter, zip, unwrap_or, option_map}
 use Rattle.std.specs.List.{find}
-use Rattle.ft_content.proofs.Common.{list_any, list_all, Less, Equal, Greater, int_cmp, int_eq, is_lt, int_cmp_total, int_cmp-IsAntisymmetric, by_order, put, below_all, is_sorted, is_sorted-put, is_sorted-where_key, and_parts, and_from, ltb-false, Fault, Cell, Null, Documents, same_name, is_name, names_of, names_clash, is_too_long, has_nul, is_cell, is_document, is_chosen, or_else, listed_columns, docids_named, value_under, with_values, new_cells, next_docid, append_document, insert_row, then_rows, has_docid, without_docid, made_column, moved, inserted_into, InsertKeepsContent, UpdateKeepsContent, DeleteKeepsContent, CreateMakesContent}
+use Rattle.ft_content.proofs.Common.{list_any, list_all, Less, Equal, Greater, int_cmp, int_eq, is_lt, int_cmp_total, int_cmp-IsAntisymmetric, by_order, put, below_all, is_sorted, is_sorted-put, is_sorted-where_key, and_parts, and_from, ltb-false, Fault, Cell, Null, Documents, same_name, is_name, names_of, names_clash, is_too_long, has_nul, is_cell, is_document, is_chosen, listed_columns, docids_named, value_under, with_values, new_cells, next_docid, append_document, insert_row, then_rows, has_docid, without_docid, made_column, moved, InsertKeepsContent, UpdateKeepsContent, DeleteKeepsContent, CreateMakesContent}
 use Rattle.ft_content.specs.Content.{Column}
 use Rattle.ft_content.specs.Answer.{chosen}
-use Rattle.ft_content.specs.Deserved.{inserted_rows}
+use Rattle.ft_content.specs.Step.{inserted_rows}
 use Rattle.ft_values.specs.declared.fault.Fault.TheVariants as faults
 
 true_of : (b : Bool) → T b → b ≡ true
@@ -72,7 +74,7 @@ delete_keeps_content table content f h = record {
 
 -- ---- faults that don't apply
 
-no_first : (a b : Option Fault) → or_else a b ≡ None → (a ≡ None) × (b ≡ None)
+no_first : (a b : Option Fault) → option_or a b ≡ None → (a ≡ None) × (b ≡ None)
 no_first None b h = (refl, h)
 no_first (Some fault) b h = absurd (let no = h in cc)
 
@@ -171,7 +173,7 @@ insert_rows_fine columns (values ∷ rows) documents h are =
     (insert_row_fine (AreDocuments (length columns)) documents (docids_named values) (new_cells values columns) (λ docid. put_documents (length columns) documents docid (new_cells values columns) (new_document docid values columns parts.0) are))
     (λ after fine. insert_rows_fine columns rows after parts.1 fine)
 
-inserted_fine : (width : ℕ) (documents : Documents) (r : Result Documents Fault) → AreDocuments width documents → IfFine (AreDocuments width) r → AreDocuments width (inserted_into documents r)
+inserted_fine : (width : ℕ) (documents : Documents) (r : Result Documents Fault) → AreDocuments width documents → IfFine (AreDocuments width) r → AreDocuments width (result_unwrap_or r documents)
 inserted_fine width documents (Ok after) are fine = fine
 inserted_fine width documents (Err fault) are fine = are
 

@@ -6,7 +6,7 @@ use Rattle.std.specs.Fmt.{digits}
 use Rattle.ft_query.specs.Reads.{query_of}
 use Rattle.ft_content.proofs.Common.{Fault, Cell, Int, Text, All, Match, Named, OffsetsOf, Listed, Command, Create, Insert, Select, Check, Reply, Done}
 use Rattle.ft_content.specs.Answer.{reading, chosen, answer}
-use Rattle.ft_content.specs.Deserved.{inserted_rows, deserved}
+use Rattle.ft_content.specs.Step.{inserted_rows, deserved}
 use Rattle.ft_content.specs.Step.{after, reply_to, step}
 use Rattle.ft_content.proofs.CommandRows.{answers_to, after_all, create_d, texts_into_d, rows_under, docids, not_indexed}
 use Rattle.ft_values.specs.declared.fault.Fault.TheVariants as faults

@@ -1,4 +1,5 @@
 -- The posting lists of a content mean its documents.
+use Rattle.std.specs.Result.{result_unwrap_or}
 use Rattle.std.proofs.Common.{◌≡◌, ℕ, ◌+◌, ◌<◌, Bool, true, false, cond, T, ◌&&◌, ◌||◌, inl, inr, List, [], ◌∷◌, ◌++◌, map, Some, None, Option, ℤ, suc, length, refl, sym, ap, subst, ◌∙◌, arith, filter, unwrap_or, AllPairs, slice_index_or, ◌<ℤ◌}
 use Rattle.std.specs.Cmp.Lexicographic.{slice_cmp, nat_list_cmp_total}
 use Rattle.std.proofs.lemmas.List.Elements.{All-map, All-from_recursion}
@@ -9,7 +10,7 @@ use Rattle.std.proofs.lemmas.Map.Lookups.{exact_unsigned, exact_signed, exact_by
 use Rattle.ft_query.specs.Tokens.{PlainToken, tokens_of}
 use Rattle.ft_query.specs.Documents.{Posting, Document, IsBefore, AreDocuments, PlaceList, is_filled, postings_of, documents_of, lists_with, place_count}
 use Rattle.ft_query.specs.Occurs.{PlainHit, accepts, offsets_of, hits_of}
-use Rattle.ft_content.proofs.Common.{option_map_or, list_any, list_all, flat_map, AllByRecursion, Ordering, Less, Equal, Greater, MatchOrdering, nat_cmp, int_cmp, int_eq, eq_by_cmp, is_eq, is_lt, ordering_then, IsTotalOrder, ranks, int_ranks, nat_cmp_total, int_cmp_total, tied_itself, by_order, put, find, below_all, is_sorted, is_sorted-put, find-put, same_entries, and_parts, and_from, list_any-append, Tree, Cell, Documents, Content, indexed_text, document_tokens, document_postings, Spot, Entry, entry_at, document_entries, Key, key_cmp, key_of, SpotLists, spots_at, query_read}
+use Rattle.ft_content.proofs.Common.{option_map_or, list_any, list_all, flat_map, AllByRecursion, Ordering, Less, Equal, Greater, MatchOrdering, nat_cmp, int_cmp, int_eq, eq_by_cmp, is_eq, is_lt, ordering_then, IsTotalOrder, ranks, int_ranks, nat_cmp_total, int_cmp_total, tied_itself, by_order, put, find, below_all, is_sorted, is_sorted-put, find-put, same_entries, and_parts, and_from, list_any-append, Tree, Cell, Documents, Content, indexed_text, document_tokens, document_postings, Spot, Entry, entry_at, document_entries, Key, key_cmp, key_of, SpotLists, spots_at}
 use Rattle.ft_content.specs.Content.{Column}
 use Rattle.ft_content.specs.Index.{entries, spot_lists, index_rows}
 use Rattle.ft_content.specs.Answer.{chosen}
@@ -536,4 +537,4 @@ unfolding chosen
 hits_are_chosen rise left_out table content name text tree h reads =
     ap (hits_of tree) (lists_mean rise table content h ∙ documents_are content content.documents)
     ∙ hit_all content.columns tree (left_out tree) content.documents
-    ∙ ap (λ r. map (hit_in content tree) (filter (λ (d : ℤ × List Cell). option_map_or (accepts (document_postings content.columns d.1)) (query_read r) false) content.documents)) (sym reads)
+    ∙ ap (λ r. map (hit_in content tree) (filter (λ (d : ℤ × List Cell). option_map_or (accepts (document_postings content.columns d.1)) (result_unwrap_or r None) false) content.documents)) (sym reads)

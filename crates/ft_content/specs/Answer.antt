@@ -1,59 +1,47 @@
 -- Meaning. What a Select answers ("Simple FTS Queries").
 use Rattle.std.specs.Prelude.{ℕ, Bool, true, false, if◌then◌else◌, List, [], ◌∷◌, ◌++◌, map, length, take, drop, filter, position, Option}
-use Rattle.std.specs.Prelude.{Some, None, Result, Ok, Err, ℤ, pos, codes, unwrap_or, option_and_then, slice_get}
+use Rattle.std.specs.Prelude.{Some, None, Result, ℤ, pos, codes, unwrap_or, option_and_then, slice_get}
 use Rattle.std.specs.List.{flat_map}
 use Rattle.std.specs.Option.{option_map_or}
+use Rattle.std.specs.Result.{result_unwrap_or}
 use Rattle.std.specs.Ordering.{int_eq}
 use Rattle.ft_query.specs.declared.query.QueryFault.{QueryFault}
-use Rattle.ft_query.specs.Trees.{Tree}
+pub use Rattle.ft_query.specs.Trees.{Tree}
 use Rattle.ft_query.specs.Reads.{query_of}
 use Rattle.ft_query.specs.Occurs.{accepts, offsets_of, offsets_text}
-use Rattle.ft_values.specs.Cells.{Cell, Null, Int, Text}
-use Rattle.ft_content.specs.Content.{Documents, Content, same_name, is_docid, names_of}
+use Rattle.ft_content.specs.Content.{Cell, Null, Int, Text, Documents, Content, same_name, is_docid, names_of}
 use Rattle.ft_content.specs.Index.{document_postings}
 use Rattle.ft_content.specs.Command.{Filter, All, Docid, Match, Item, AllColumns, Named, OffsetsOf, Items, Counted, Listed, Grid}
 
--- the column with this name. A MATCH name that is no column is the table, and stands for every
--- column ("Simple FTS Queries")
+-- the column with this name. A MATCH name that is no column is the table, and stands for every column ("Simple FTS Queries")
 abbrev pub column_place : Content → List ℕ → Option ℕ
 column_place content name = position (same_name name) (names_of content.columns)
 
--- What the text of a MATCH reads as over a content's columns: a query, none where it has no lexeme,
--- or a fault. A phrase without filter is of the column that the MATCH names, and of any column
--- where it names the table.
+-- What the text of a MATCH reads as over a content's columns: a query, none where it has no lexeme, or a fault. A phrase without filter is
+-- of the column that the MATCH names, and of any column where it names the table.
 unfoldable pub reading : Content → List ℕ → List ℕ → Result (Option Tree) QueryFault
 reading content name text = query_of (names_of content.columns) (column_place content name) text
 
-abbrev pub query_read : Result (Option Tree) QueryFault → Option Tree
-query_read (Ok query) = query
-query_read (Err fault) = None
-
 -- the query of a filter, if it has one
 abbrev pub query_in : Content → Filter → Option Tree
-query_in content All = None
-query_in content (Docid docid) = None
-query_in content (Match name text) = query_read (reading content name text)
-
-abbrev pub accepts_read : Content → Option Tree → ℤ × List Cell → Bool
-accepts_read content query document = option_map_or (accepts (document_postings content.columns document.1)) query false
+query_in content (Match name text) = result_unwrap_or (reading content name text) None
+query_in content f = None
 
 -- Whether a filter chooses a document. A text without lexemes chooses none (own choice).
 abbrev pub is_chosen : Content → Filter → ℤ × List Cell → Bool
 is_chosen content All = λ document. true
 is_chosen content (Docid docid) = λ document. int_eq docid document.0
-is_chosen content (Match name text) = accepts_read content (query_in content (Match name text))
+is_chosen content (Match name text) =
+    λ document. option_map_or (accepts (document_postings content.columns document.1)) (query_in content (Match name text)) false
 
 -- the documents that a filter chooses, by rising docid (own choice)
 unfoldable pub chosen : Content → Filter → Documents
 chosen content f = filter (is_chosen content f) content.documents
 
-abbrev pub docid_header : List ℕ → List ℕ
-docid_header name = if same_name name (codes "docid") then codes "docid" else codes "rowid"
-
 -- a column's name as declared (own choice)
 abbrev pub header : Content → List ℕ → List ℕ
 header content name =
-    if is_docid name then docid_header name
+    if is_docid name then (if same_name name (codes "docid") then codes "docid" else codes "rowid")
     else unwrap_or (option_and_then (slice_get (names_of content.columns)) (column_place content name)) []
 
 abbrev pub item_headers : List ℕ → Content → Item → List (List ℕ)
@@ -84,8 +72,7 @@ item_cells query content document (OffsetsOf name) = offsets_cell query content 
 abbrev pub item_rows : Option Tree → Content → List Item → Documents → List (List Cell)
 item_rows query content items documents = map (λ (document : ℤ × List Cell). flat_map (item_cells query content document) items) documents
 
--- First offset rows are dropped, then at most limit kept. The one row of a count is cut in the same
--- way (own choice).
+-- First offset rows are dropped, then at most limit kept. The one row of a count is cut in the same way (own choice).
 abbrev pub cut : {A : Type 0} → Option ℕ → ℕ → List A → List A
 cut None offset rows = drop offset rows
 cut (Some limit) offset rows = take limit (drop offset rows)

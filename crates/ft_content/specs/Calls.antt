@@ -11,7 +11,7 @@ use Rattle.ft_values.specs.Cells.{Cell, Text}
 use Rattle.ft_content.specs.Content.{Content}
 use Rattle.ft_content.specs.Command.{Match, Item}
 use Rattle.ft_content.specs.Answer.{reading, offsets_cell, cells_with, item_cells}
-use Rattle.ft_content.specs.Deserved.{Contents, is_offsets, query_fault}
+use Rattle.ft_content.specs.Step.{Contents, is_offsets, query_fault}
 use Rattle.ft_content.specs.Step.{free_id_from}
 use Rattle.ft_content.specs.Views.{table_ids}
 
@@ -21,8 +21,8 @@ pub record ReadsQuery (content : Content) (name text : List ℕ) (result : Resul
   pub fine : OnOk result (query_fault content (Match name text) ≡ None)
   pub fault : IfErr result (λ fault. fault ≢ faults.Memory → query_fault content (Match name text) ≡ Some fault)
 
--- The row of a document, given its offsets: it is the one of a query which has these offsets in it
--- (asked), and where no offsets are asked for, the one of any query (unasked).
+-- The row of a document, given its offsets: it is the one of a query which has these offsets in it (asked), and where no offsets are asked
+-- for, the one of any query (unasked).
 pub record IsItemRow (content : Content) (items : List Item) (document : ℤ × List Cell) (offsets : List ℕ) (row : List Cell) : Type 0 where
   pub asked : (query : Option Tree) → offsets_cell query content document ≡ Text offsets → row ≡ flat_map (item_cells query content document) items
   pub unasked : (query : Option Tree) → list_any is_offsets items ≡ false → row ≡ flat_map (item_cells query content document) items

@@ -1,6 +1,5 @@
--- Meaning. Commands on full-text tables and their replies: "Creating and Destroying FTS Tables",
--- "Populating FTS Tables", "Simple FTS Queries", and "Special Commands For FTS3 and FTS4". Texts
--- are lists of bytes here.
+-- Meaning. Commands on full-text tables and their replies: "Creating and Destroying FTS Tables", "Populating FTS Tables", "Simple FTS
+-- Queries", and "Special Commands For FTS3 and FTS4". Texts are lists of bytes here.
 use Rattle.std.specs.Prelude.{ℕ, Bool, List, Option, ℤ}
 use Rattle.ft_values.specs.Cells.{Cell}
 

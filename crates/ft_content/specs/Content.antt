@@ -1,6 +1,5 @@
--- Meaning. What a table contains: columns, and documents by rising docid. A section named in quotes
--- in a comment of these files is one of the SQLite document "SQLite FTS3 and FTS4 Extensions"; what
--- that document leaves open is marked as an own choice.
+-- Meaning. What a table contains: columns, and documents by rising docid. A section named in quotes in a comment of these files is one of
+-- the SQLite document "SQLite FTS3 and FTS4 Extensions"; what that document leaves open is marked as an own choice.
 use Rattle.std.specs.Prelude.{◌≡◌, ℕ, ◌+◌, Bool, false, if◌then◌else◌, not, ◌&&◌, ◌||◌, List, [], ◌∷◌, map, length, nat_lt, nat_le, ◌==◌, codes, ℤ, pos, IsTrue}
 use Rattle.std.specs.List.{list_any, list_all, flat_map, enumerate_from}
 use Rattle.std.specs.Ordering.{int_cmp, int_eq}
@@ -9,8 +8,7 @@ use Rattle.std.specs.FinMap.Entries.{is_sorted}
 pub use Rattle.ft_values.specs.Cells.{Cell, Null, Int, Text}
 pub use Rattle.ft_values.specs.Names.{same_name, repeats_name}
 
--- The text of a cell: nothing, the decimal text, or the text. A cell is NULL, an integer or a text
--- (own choice).
+-- The text of a cell: nothing, the decimal text, or the text. A cell is NULL, an integer or a text (own choice).
 abbrev pub cell_text : Cell → List ℕ
 cell_text Null = []
 cell_text (Int number) = signed_decimal number
@@ -21,8 +19,7 @@ pub record Column : Type 0 where
   pub name : List ℕ
   pub indexed : Bool
 
--- a document is its docid and one cell for each column ("Populating FTS Tables"). They stand by
--- rising docid
+-- a document is its docid and one cell for each column ("Populating FTS Tables"). They stand by rising docid
 abbrev pub Documents : Type 0
 Documents = List (ℤ × List Cell)
 
@@ -30,8 +27,7 @@ pub record Content : Type 0 where
   pub columns : List Column
   pub documents : Documents
 
--- docid goes by two names ("Populating FTS Tables"; the document's other names aren't taken, an own
--- choice)
+-- docid goes by two names ("Populating FTS Tables"; the document's other names aren't taken, an own choice)
 abbrev pub is_docid : List ℕ → Bool
 is_docid name = same_name name (codes "docid") || same_name name (codes "rowid")
 
@@ -42,21 +38,18 @@ names_of columns = map (λ c. c.name) columns
 abbrev pub is_name : List ℕ → Bool
 is_name name = nat_lt 0 (length name) && nat_le (length name) 100 && not (list_any (λ b. b == 0) name)
 
--- whether columns of a table clash: two of one name, or one named as docid or as the table (own
--- choice)
+-- whether columns of a table clash: two of one name, or one named as docid or as the table (own choice)
 abbrev pub names_clash : List ℕ → List (List ℕ) → Bool
 names_clash table names = repeats_name names || list_any is_docid names || list_any (same_name table) names
 
 -- A text has at most 1,000,000 bytes, and no U+0000 (own choice).
 abbrev pub is_too_long : Cell → Bool
-is_too_long Null = false
-is_too_long (Int number) = false
 is_too_long (Text bytes) = nat_lt 1000000 (length bytes)
+is_too_long cell = false
 
 abbrev pub has_nul : Cell → Bool
-has_nul Null = false
-has_nul (Int number) = false
 has_nul (Text bytes) = list_any (λ b. b == 0) bytes
+has_nul cell = false
 
 -- Docids and numbers are of 64 bits by the types of the rows that hold them.
 abbrev pub is_cell : Cell → Bool
@@ -78,8 +71,8 @@ pub record IsContent (table : List ℕ) (content : Content) : Type 0 where
   pub documents : IsTrue (list_all (is_document (length content.columns)) content.documents)
   pub rising : IsTrue (is_sorted int_cmp content.documents)
 
--- A table's rows in the store, in key order: the columns' names under their numbers, the numbers of
--- those that are not indexed, and the cells.
+-- A table's rows in the store, in key order: the columns' names under their numbers, the numbers of those that are not indexed, and the
+-- cells.
 pub record CellRow : Type 0 where
   pub docid : ℤ
   pub column : ℤ
@@ -107,8 +100,7 @@ content_rows content = record {
   cells = flat_map document_rows content.documents;
 }
 
--- The documents that cell rows in key order are of: a row joins the document that the next row is
--- of, if that has its docid.
+-- The documents that cell rows in key order are of: a row joins the document that the next row is of, if that has its docid.
 abbrev pub with_cell : CellRow → Documents → Documents
 with_cell row [] = (row.docid, row.value ∷ []) ∷ []
 with_cell row (d ∷ ds) = if int_eq row.docid d.0 then ((d.0, row.value ∷ d.1) ∷ ds) else ((row.docid, row.value ∷ []) ∷ d ∷ ds)

@@ -1,5 +1,5 @@
--- Meaning. The index of a content: its entries, the rows that hold them, and the sizes of its
--- cells. Its rows are an own choice; the document's own are those of "Data Structures".
+-- Meaning. The index of a content: its entries, the rows that hold them, and the sizes of its cells. Its rows are an own choice; the
+-- document's own are those of "Data Structures".
 use Rattle.std.specs.Prelude.{if◌then◌else◌, ℕ, List, [], ◌∷◌, map, length, filter, ℤ, pos, nat_lt, unwrap_or}
 use Rattle.std.specs.List.{flat_map, enumerate_from}
 use Rattle.std.specs.declared.cmp.Ordering.{Ordering}
@@ -9,11 +9,9 @@ use Rattle.std.specs.FinMap.Entries.{put, find}
 pub use Rattle.ft_values.specs.declared.rows.Spot.{Spot}
 use Rattle.ft_query.specs.Tokens.{PlainToken, tokens_of}
 use Rattle.ft_query.specs.Documents.{Posting, postings_of}
-use Rattle.ft_values.specs.Cells.{Cell}
-use Rattle.ft_content.specs.Content.{Column, Content, cell_text}
+use Rattle.ft_content.specs.Content.{Cell, Column, Content, cell_text}
 
--- the text of a cell that is indexed: none in a column that is not indexed ("The notindexed=
--- option")
+-- the text of a cell that is indexed: none in a column that is not indexed ("The notindexed= option")
 abbrev pub indexed_text : Column → Cell → List ℕ
 indexed_text column cell = if column.indexed then cell_text cell else []
 
@@ -22,9 +20,8 @@ cell_tokens column cell = tokens_of (indexed_text column cell)
 
 -- the tokens of each column of a document ("Tokenizers")
 abbrev pub document_tokens : List Column → List Cell → List (List PlainToken)
-document_tokens [] cells = []
-document_tokens (column ∷ columns) [] = []
 document_tokens (column ∷ columns) (cell ∷ cells) = cell_tokens column cell ∷ document_tokens columns cells
+document_tokens columns cells = []
 
 -- the tokens of a document under their terms
 abbrev pub document_postings : List Column → List Cell → List Posting
@@ -74,41 +71,32 @@ unfoldable pub spot_lists : List Entry → SpotLists
 spot_lists [] = []
 spot_lists (e ∷ es) = put key_cmp (key_of e) (e.spot ∷ spots_at (spot_lists es) (key_of e)) (spot_lists es)
 
--- how many tokens a cell has, where it has any
-pub record Size : Type 0 where
-  pub docid : ℤ
-  pub column : ℕ
-  pub n : ℕ
-
-abbrev pub document_sizes : List Column → ℤ × List Cell → List Size
-document_sizes columns document =
-    filter (λ (s : Size). nat_lt 0 s.n) (map (λ (c : ℕ × List PlainToken). record { docid = document.0; column = c.0; n = length c.1 })
-    (enumerate_from 0 (document_tokens columns document.1)))
-
--- by rising docid and then column
-unfoldable pub sizes : Content → List Size
-sizes content = flat_map (document_sizes content.columns) content.documents
-
--- A table's index rows: under each key its spots, and sizes under docid and column, as the store
--- shows them.
+-- how many tokens a cell has
 pub record SizeRow : Type 0 where
   pub docid : ℤ
   pub column : ℤ
   pub n : ℤ
 
+abbrev pub size_row : ℤ → ℕ × List PlainToken → SizeRow
+size_row docid column = record { docid = docid; column = pos column.0; n = pos (length column.1) }
+
+-- a size for each column of a document that has tokens
+abbrev pub document_sizes : List Column → ℤ × List Cell → List SizeRow
+document_sizes columns document = map (size_row document.0)
+    (filter (λ (column : ℕ × List PlainToken). nat_lt 0 (length column.1)) (enumerate_from 0 (document_tokens columns document.1)))
+
+-- by rising docid and then column
+unfoldable pub sizes : Content → List SizeRow
+sizes content = flat_map (document_sizes content.columns) content.documents
+
+-- A table's index rows: under each key its spots, and the sizes.
 pub record IndexRows : Type 0 where
   pub lists : List (Key × List Spot)
   pub sizes : List SizeRow
 
-abbrev pub size_row : Size → SizeRow
-size_row s = record { docid = s.docid; column = pos s.column; n = pos s.n }
-
 -- the index rows made from scratch out of a content
 unfoldable pub index_rows : Content → IndexRows
-index_rows content = record {
-  lists = spot_lists (entries content);
-  sizes = map size_row (sizes content);
-}
+index_rows content = record { lists = spot_lists (entries content); sizes = sizes content }
 
 -- a row for each spot, as the store reads them
 pub record EntryRow : Type 0 where

@@ -5,7 +5,7 @@ use Rattle.std.specs.FinMap.Entries.{put, find}
 use Rattle.ft_values.specs.Cells.{Cell}
 use Rattle.ft_content.specs.Content.{Column, Documents, Content, IsContent}
 use Rattle.ft_content.specs.Command.{Filter}
-use Rattle.ft_content.specs.Deserved.{Contents, has_docid, listed_columns, create_fault, insert_fault, update_fault}
+use Rattle.ft_content.specs.Step.{Contents, has_docid, listed_columns, create_fault, insert_fault, update_fault}
 use Rattle.ft_content.specs.Answer.{cut}
 use Rattle.ft_content.specs.Index.{Spot, Entry, Key, key_cmp, key_of, SpotLists, spot_lists, document_entries}
 use Rattle.ft_content.specs.Step.{made_column, inserted, updated, deleted}

@@ -4,7 +4,6 @@ pub mod Index
 pub mod Command
 pub mod Views
 pub mod Answer
-pub mod Deserved
 pub mod Step
 pub mod Laws
 pub mod Meaning

@@ -1,5 +1,4 @@
--- Meaning. What posting lists mean: documents with their postings, as a walk over the lists sees
--- them (own choice).
+-- Meaning. What posting lists mean: documents with their postings, as a walk over the lists sees them (own choice).
 use Rattle.std.specs.Prelude.{◌≡◌, ℕ, Bool, if◌then◌else◌, List, [], ◌∷◌, map, filter, Some, Ok, ℤ, length}
 use Rattle.std.specs.List.{flat_map}
 use Rattle.std.specs.declared.cmp.Ordering.{Ordering}
@@ -43,8 +42,7 @@ entry_set (e ∷ es) = put entry_cmp e tt (entry_set es)
 abbrev pub posting_of : Entry → Posting
 posting_of e = record { term = e.term; place = record { column = e.spot.column; pos = e.spot.pos; start = e.spot.place; size = e.spot.size } }
 
--- entries one after another, as the documents that have them: an entry joins the document after it,
--- if that has its docid
+-- entries one after another, as the documents that have them: an entry joins the document after it, if that has its docid
 abbrev pub with_entry : Entry → List Document → List Document
 with_entry e [] = record { docid = e.docid; postings = posting_of e ∷ [] } ∷ []
 with_entry e (d ∷ ds) =
@@ -67,8 +65,7 @@ ListsMeanDocuments = (table : List ℕ) (content : Content) → IsContent table 
 abbrev pub hit_in : Content → Tree → ℤ × List Cell → PlainHit
 hit_in content tree document = record { docid = document.0; offsets = offsets_of (document_postings content.columns document.1) tree }
 
--- So the hits of a query over the lists are the documents that a MATCH with its text chooses, each
--- with its offsets.
+-- So the hits of a query over the lists are the documents that a MATCH with its text chooses, each with its offsets.
 abbrev pub HitsAreChosen : Type 0
 HitsAreChosen = (table : List ℕ) (content : Content) (name text : List ℕ) (tree : Tree) → IsContent table content → reading content name text ≡ Ok (Some tree) →
     hits_of tree (documents_in (index_rows content).lists) ≡ map (hit_in content tree) (chosen content (Match name text))
@@ -79,8 +76,7 @@ lists_with_terms test lists = filter (λ (l : Key × List Spot). test l.0.0) lis
 abbrev pub all_places : Document → PlaceList
 all_places d = record { docid = d.docid; places = map (λ (p : Posting). p.place) d.postings }
 
--- What a walk over a content's documents is answered for the terms that pass a test is what the
--- lists of those terms mean.
+-- What a walk over a content's documents is answered for the terms that pass a test is what the lists of those terms mean.
 abbrev pub TermsAreTheirLists : Type 0
 TermsAreTheirLists = (table : List ℕ) (content : Content) (test : List ℕ → Bool) → IsContent table content →
     lists_with test (content_documents content) ≡ map all_places (documents_in (lists_with_terms test (index_rows content).lists))

@@ -27,7 +27,7 @@ use Rattle.ft_values.specs.declared.table.TableInfo.{TableInfo as RustTableInfo}
 pub use Rattle.ft_values.specs.Names.{info_names, info_ids}
 use Rattle.ft_content.specs.Content as content
 use Rattle.ft_content.specs.Command as plain
-use Rattle.ft_content.specs.Deserved.{Contents}
+use Rattle.ft_content.specs.Step.{Contents}
 
 abbrev pub filter_of : Filter → plain.Filter
 filter_of filters.All = plain.All

@@ -3,7 +3,7 @@ ghost use Rattle.std.specs.Prelude.{◌≡◌, map, string_bytes, IfOk};
 ghost use Rattle.std.specs.List.{list_any};
 ghost use Rattle.ft_content.specs.Content as content;
 ghost use Rattle.ft_content.specs.Answer as answer;
-ghost use Rattle.ft_content.specs.Deserved as deserved;
+ghost use Rattle.ft_content.specs.Step as step;
 ghost use Rattle.ft_content.specs.Views.{bare_content, column_of, filter_of};
 
 use crate::command::Filter;
@@ -28,14 +28,14 @@ pub(crate) fn is_column(columns: &[Column], name: &str) -> bool
 
 /// Whether a value may stand under this name: that of a column, or of the docid.
 pub fn has_column(columns: &[Column], name: &str) -> bool
-    ensures { result ≡ deserved.has_column (bare_content columns.now) name.now }
+    ensures { result ≡ step.has_column (bare_content columns.now) name.now }
 {
     is_docid(name) || is_column(columns, name)
 }
 
 /// Whether a MATCH of the filter has a name that is neither the table's nor a column's.
 pub(crate) fn names_unknown(table: &str, columns: &[Column], filter: &Filter) -> bool
-    ensures { result ≡ deserved.names_unknown table.now (bare_content columns.now)
+    ensures { result ≡ step.names_unknown table.now (bare_content columns.now)
         (filter_of filter.now) }
 {
     match filter {

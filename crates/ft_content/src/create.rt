@@ -3,9 +3,8 @@ ghost use Rattle.std.specs.Prelude.{◌≡◌, ◌-◌, ◌^◌, ◌<◌, ◌&&�
 ghost use Rattle.std.specs.List.{list_any};
 ghost use Rattle.ft_content.specs.Calls.{IsFreeId};
 ghost use Rattle.ft_content.specs.Content as content;
-ghost use Rattle.ft_content.specs.Deserved as deserved;
-ghost use Rattle.ft_content.specs.Deserved.{Contents};
 ghost use Rattle.ft_content.specs.Step as step;
+ghost use Rattle.ft_content.specs.Step.{Contents};
 ghost use Rattle.ft_content.specs.Views.{option_of, column_of, table_names, info_names, info_ids};
 
 use crate::command::Creation;
@@ -16,7 +15,7 @@ use std::alloc::{AllocError, Global};
 /// The names of the columns that a Create makes: those given, or `content` where there are none.
 pub fn made_names(alloc: Global, columns: &[String]) -> Result<Vec<String>, AllocError>
     ensures { IfOk result (λ names. map string_bytes names.items
-        ≡ deserved.made_columns (map string_bytes columns.now)) }
+        ≡ step.made_columns (map string_bytes columns.now)) }
 {
     let mut names = columns.to_vec(alloc)?;
     if names.is_empty() {
@@ -43,20 +42,20 @@ pub fn made_columns(
 }
 
 fn is_tokenize(option: &(String, String)) -> bool
-    ensures { result ≡ deserved.is_tokenize (option_of option.now) }
+    ensures { result ≡ step.is_tokenize (option_of option.now) }
 {
     same_name(option.0.as_str(), "tokenize")
 }
 
 fn is_notindexed(option: &(String, String)) -> bool
-    ensures { result ≡ deserved.is_notindexed (option_of option.now) }
+    ensures { result ≡ step.is_notindexed (option_of option.now) }
 {
     same_name(option.0.as_str(), "notindexed")
 }
 
 // Whether no option says that the column of this name isn't indexed.
 fn is_indexed(options: &[(String, String)], name: &str) -> bool
-    ensures { result ≡ not (list_any (λ o. deserved.is_notindexed o && content.same_name o.1
+    ensures { result ≡ not (list_any (λ o. step.is_notindexed o && content.same_name o.1
         name.now) (map option_of options.now)) }
 {
     !options.iter().any(|option| is_notindexed(option) && same_name(option.1.as_str(), name))
@@ -71,7 +70,7 @@ pub fn create_fault(
     names: &[String],
 ) -> Option<Fault>
     ensures { (contents : Contents) → table_names contents ≡ info_names tables.now
-        → result ≡ deserved.create_fault contents (string_bytes creation.now.table)
+        → result ≡ step.create_fault contents (string_bytes creation.now.table)
         (string_bytes creation.now.module) (map option_of creation.now.options.items)
         (map string_bytes names.now) creation.now.if_new }
 {

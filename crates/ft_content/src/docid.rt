@@ -4,7 +4,6 @@ ghost use Rattle.std.specs.Ordering.{int_cmp};
 ghost use Rattle.std.specs.FinMap.Entries.{put, is_sorted};
 ghost use Rattle.ft_values.specs.Cells.{Cell};
 ghost use Rattle.ft_content.specs.Content.{Documents};
-ghost use Rattle.ft_content.specs.Deserved as deserved;
 ghost use Rattle.ft_content.specs.Step as step;
 ghost use Rattle.ft_content.specs.Views.{last_docid, placed};
 
@@ -20,8 +19,8 @@ use ft_values::Fault;
 pub fn docid_for_row(last: Option<i64>, given: Option<i64>, is_taken: bool) -> Result<i64, Fault>
     ensures { (documents : Documents) (docids : List ℤ) (cells : List Cell)
         → last_docid documents ≡ last → slice_get docids 0 ≡ given
-        → IfSome given (λ docid. deserved.has_docid documents docid ≡ is_taken)
-        → deserved.insert_row documents docids cells ≡ placed documents cells result }
+        → IfSome given (λ docid. step.has_docid documents docid ≡ is_taken)
+        → step.insert_row documents docids cells ≡ placed documents cells result }
 {
     match given {
         Some(docid) if is_taken => Err(Fault::DocidTaken(docid)),
@@ -38,8 +37,8 @@ pub fn docid_for_row(last: Option<i64>, given: Option<i64>, is_taken: bool) -> R
 pub fn moves_fault(chosen: &[i64], given: Option<i64>, is_taken: bool) -> Option<Fault>
     ensures { (documents picked : Documents) (docids : List ℤ) → step.docids_of picked ≡ chosen.now
         → slice_get docids 0 ≡ given
-        → IfSome given (λ docid. deserved.has_docid documents docid ≡ is_taken)
-        → result ≡ deserved.moves_fault documents picked docids }
+        → IfSome given (λ docid. step.has_docid documents docid ≡ is_taken)
+        → result ≡ step.moves_fault documents picked docids }
 {
     let docid = given?;
     match chosen {

@@ -4,7 +4,7 @@ ghost use Rattle.std.specs.List.{list_any};
 ghost use Rattle.ft_values.specs.Cells.{shown_value};
 ghost use Rattle.ft_values.specs.Cells as stored;
 ghost use Rattle.ft_content.specs.Content as content;
-ghost use Rattle.ft_content.specs.Deserved as deserved;
+ghost use Rattle.ft_content.specs.Step as step;
 ghost use Rattle.ft_content.specs.Views.{bare_content, cells_of, column_of};
 
 use crate::columns::has_column;
@@ -20,7 +20,7 @@ pub fn listed_names<'a>(
     names: Option<&'a [String]>,
 ) -> Result<Vec<&'a str>, AllocError>
     ensures { IfOk result (λ listed. map (λ n. n.now) listed.items
-        ≡ deserved.listed_columns (bare_content columns.now)
+        ≡ step.listed_columns (bare_content columns.now)
         (option_map (λ n. map string_bytes n.now) names.entry)) }
 {
     match names {
@@ -31,7 +31,7 @@ pub fn listed_names<'a>(
 
 // Whether a text is given as the docid.
 fn gives_text(names: &[&str], row: &[Value]) -> bool
-    ensures { result ≡ list_any (λ v. content.is_docid v.0 && deserved.is_text v.1)
+    ensures { result ≡ list_any (λ v. content.is_docid v.0 && step.is_text v.1)
         (zip (map (λ n. n.now) names.now) (map shown_value row.now)) }
 {
     let mut values = names.iter().zip(row.iter());
@@ -40,7 +40,7 @@ fn gives_text(names: &[&str], row: &[Value]) -> bool
 
 // How many docids a row gives.
 fn docid_count(names: &[&str], row: &[Value]) -> usize
-    ensures { result ≡ length (deserved.docids_named
+    ensures { result ≡ length (step.docids_named
         (zip (map (λ n. n.now) names.now) (map shown_value row.now))) }
 {
     names
@@ -52,7 +52,7 @@ fn docid_count(names: &[&str], row: &[Value]) -> usize
 
 /// The first test of an Insert that refuses it, before those of the docids that its rows give.
 pub fn insert_tests(columns: &[Column], names: &[&str], rows: &[Vec<Value>]) -> Option<Fault>
-    ensures { result ≡ deserved.insert_tests (bare_content columns.now) (map (λ n. n.now) names.now)
+    ensures { result ≡ step.insert_tests (bare_content columns.now) (map (λ n. n.now) names.now)
         (map cells_of rows.now) }
 {
     if !names.iter().all(|name| has_column(columns, name)) {
@@ -74,7 +74,7 @@ pub fn insert_tests(columns: &[Column], names: &[&str], rows: &[Vec<Value>]) -> 
 
 /// The first docid that a row gives.
 pub fn row_docid(names: &[&str], row: &[Value]) -> Option<i64>
-    ensures { result ≡ slice_get (deserved.docids_named
+    ensures { result ≡ slice_get (step.docids_named
         (zip (map (λ n. n.now) names.now) (map shown_value row.now))) 0 }
 {
     names
@@ -87,7 +87,7 @@ pub fn row_docid(names: &[&str], row: &[Value]) -> Option<i64>
 // What a row has for a column.
 fn cell_under(names: &[&str], row: &[Value], column: &Column) -> Result<Value, AllocError>
     ensures { IfOk result (λ cell. shown_value cell
-        ≡ deserved.value_under (zip (map (λ n. n.now) names.now) (map shown_value row.now))
+        ≡ step.value_under (zip (map (λ n. n.now) names.now) (map shown_value row.now))
         (column_of column.now) stored.Null) }
 {
     let mut values = names.iter().zip(row.iter());
@@ -105,7 +105,7 @@ pub fn new_cells(
     row: &[Value],
 ) -> Result<Vec<Value>, AllocError>
     ensures { IfOk result (λ cells. cells_of cells
-        ≡ deserved.new_cells (zip (map (λ n. n.now) names.now) (map shown_value row.now))
+        ≡ step.new_cells (zip (map (λ n. n.now) names.now) (map shown_value row.now))
         (map column_of columns.now)) }
 {
     let mut cells = Vec::new(alloc);

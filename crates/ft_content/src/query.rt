@@ -1,6 +1,6 @@
 //! MATCH texts as queries over a table's columns.
 ghost use Rattle.std.specs.Prelude.{◌≡◌, Err, Some};
-ghost use Rattle.ft_content.specs.Deserved.{reading_fault};
+ghost use Rattle.ft_content.specs.Step.{reading_fault};
 ghost use Rattle.ft_content.specs.Calls.{ReadsQuery};
 ghost use Rattle.ft_content.specs.Views.{bare_content};
 

@@ -5,7 +5,7 @@ ghost use Rattle.ft_values.specs.Cells as stored;
 ghost use Rattle.ft_values.specs.Cells.{shown_value};
 ghost use Rattle.ft_content.specs.Answer as answer;
 ghost use Rattle.ft_content.specs.Calls.{IsItemRow};
-ghost use Rattle.ft_content.specs.Deserved as deserved;
+ghost use Rattle.ft_content.specs.Step as step;
 ghost use Rattle.ft_content.specs.Views.{bare_content, cells_of, names_in, rows_of, item_of, items_of, filter_of};
 
 use crate::columns::{column_names, column_place, has_column, names_unknown};
@@ -16,7 +16,7 @@ use std::alloc::{AllocError, Global};
 
 /// Whether offsets are among the items.
 pub fn any_offsets(items: &[Item]) -> bool
-    ensures { result ≡ list_any deserved.is_offsets (map item_of items.now) }
+    ensures { result ≡ list_any step.is_offsets (map item_of items.now) }
 {
     items.iter().any(|item| matches!(item, Item::Offsets(_)))
 }
@@ -28,7 +28,7 @@ pub fn select_tests(
     items: &Items,
     filter: &Filter,
 ) -> Option<Fault>
-    ensures { result ≡ deserved.select_tests table.now (bare_content columns.now)
+    ensures { result ≡ step.select_tests table.now (bare_content columns.now)
         (items_of items.now) (filter_of filter.now) }
 {
     let listed = match items {
@@ -51,7 +51,7 @@ pub fn select_tests(
 
 /// The test of a Delete that refuses it, before its query.
 pub fn delete_tests(table: &str, columns: &[Column], filter: &Filter) -> Option<Fault>
-    ensures { result ≡ deserved.delete_tests table.now (bare_content columns.now)
+    ensures { result ≡ step.delete_tests table.now (bare_content columns.now)
         (filter_of filter.now) }
 {
     names_unknown(table, columns, filter).then_some(Fault::NoSuchColumn)

@@ -2,7 +2,7 @@
 ghost use Rattle.std.specs.Prelude.{◌≡◌, map, slice_get, string_bytes, IfOk};
 ghost use Rattle.ft_values.specs.Cells.{shown_value};
 ghost use Rattle.ft_content.specs.Content as content;
-ghost use Rattle.ft_content.specs.Deserved as deserved;
+ghost use Rattle.ft_content.specs.Step as step;
 ghost use Rattle.ft_content.specs.Views.{bare_content, cells_of, column_of, set_of, filter_of};
 
 use crate::columns::{has_column, names_unknown};
@@ -35,7 +35,7 @@ pub fn update_tests(
     sets: &[(String, Value)],
     filter: &Filter,
 ) -> Option<Fault>
-    ensures { result ≡ deserved.update_tests table.now (bare_content columns.now)
+    ensures { result ≡ step.update_tests table.now (bare_content columns.now)
         (map set_of sets.now) (filter_of filter.now) }
 {
     let docids = sets
@@ -61,7 +61,7 @@ pub fn update_tests(
 
 /// The first docid that is set.
 pub fn set_docid(sets: &[(String, Value)]) -> Option<i64>
-    ensures { result ≡ slice_get (deserved.docids_named (map set_of sets.now)) 0 }
+    ensures { result ≡ slice_get (step.docids_named (map set_of sets.now)) 0 }
 {
     sets.iter()
         .filter_map(|(name, value)| docid_under(name, value))
@@ -71,7 +71,7 @@ pub fn set_docid(sets: &[(String, Value)]) -> Option<i64>
 // A cell after these values are set.
 fn cell_after(sets: &[(String, Value)], column: &Column, cell: &Value) -> Result<Value, AllocError>
     ensures { IfOk result (λ after. shown_value after
-        ≡ deserved.value_under (map set_of sets.now) (column_of column.now)
+        ≡ step.value_under (map set_of sets.now) (column_of column.now)
         (shown_value cell.now)) }
 {
     match sets.iter().find(|set| same_name(&set.0, &column.name)) {
@@ -88,7 +88,7 @@ pub fn with_values(
     cells: &[Value],
 ) -> Result<Vec<Value>, AllocError>
     ensures { IfOk result (λ after. cells_of after
-        ≡ deserved.with_values (map set_of sets.now) (map column_of columns.now)
+        ≡ step.with_values (map set_of sets.now) (map column_of columns.now)
         (map shown_value cells.now)) }
 {
     let mut after = Vec::new(alloc);

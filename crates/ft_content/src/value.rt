@@ -2,7 +2,7 @@
 ghost use Rattle.std.specs.Prelude.{◌≡◌, [], if◌then◌else◌, slice_get};
 ghost use Rattle.ft_values.specs.Cells.{shown_value};
 ghost use Rattle.ft_content.specs.Content as content;
-ghost use Rattle.ft_content.specs.Deserved as deserved;
+ghost use Rattle.ft_content.specs.Step as step;
 
 use crate::names::is_docid;
 use ft_values::Value;
@@ -23,7 +23,7 @@ pub fn has_nul(value: &Value) -> bool
 
 /// The docid that a value gives under this name, if it gives one.
 pub(crate) fn docid_under(name: &str, value: &Value) -> Option<i64>
-    ensures { result ≡ slice_get (if content.is_docid name.now then deserved.docid_of_value
+    ensures { result ≡ slice_get (if content.is_docid name.now then step.docid_of_value
         (shown_value value.now) else []) 0 }
 {
     match value {

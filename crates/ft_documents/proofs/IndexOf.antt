@@ -5,11 +5,10 @@ use Rattle.std.specs.Char.{to_ascii_lowercase}
 use Rattle.std.specs.BTreeMap.{insert_entry}
 use Rattle.ft_content.specs.Index.{entries, sizes, index_rows}
 use Rattle.ft_content.proofs.{lists_are_entries, sorted_lists}
-use Rattle.ft_documents.proofs.Common.{enumerate_from, map-append, nat_tests, eq_by_cmp, match_ordering, put, by_order, flat_map-append, All-nil, All-append, PlainToken, Scan, is_eligible, token_of, ended, tokens_from, tokens_of, posting, Cell, column_key_cmp, Column, Documents, cell_text, Entry, entry_at, Key, Spot, Size, size_row, document_tokens, key_cmp, key_of, document_entries, spots_of_key, some_if_any, with_spots, with_entries, entry_spot, all_put, sized, cell_entries, cell_sizes, AreShortNumbers, lists_joined_by, sizes_with, index_lists_of, sizes_of, lists_in, sizes_in, HaveShortNumbers, AddsDocuments, IsIndexOf, IsTextOf}
+use Rattle.ft_documents.proofs.Common.{enumerate_from, map-append, nat_tests, eq_by_cmp, match_ordering, put, by_order, flat_map-append, All-nil, All-append, PlainToken, Scan, is_eligible, token_of, ended, tokens_from, tokens_of, posting, Cell, column_key_cmp, Column, Documents, cell_text, Entry, entry_at, Key, Spot, size_row, document_tokens, key_cmp, key_of, document_entries, spots_of_key, some_if_any, with_spots, with_entries, entry_spot, all_put, sized, cell_entries, cell_sizes, AreShortNumbers, lists_joined_by, sizes_with, index_lists_of, sizes_of, lists_in, sizes_in, HaveShortNumbers, AddsDocuments, IsIndexOf, IsTextOf}
 use Rattle.ft_documents.specs.declared.document_index.DocumentIndex.{DocumentIndex}
 use Rattle.ft_documents.proofs.TermOrder.{with_spots-append, spots_under, joined, made_of}
 use Rattle.ft_documents.proofs.KeyedRows.{true_of}
-use Rattle.ft_documents.proofs.RowKinds.{size_at}
 
 -- ---- the entries and sizes of a document, cell by cell
 
@@ -18,7 +17,7 @@ abbrev pub entries_from : ℤ → ℕ → List (List PlainToken) → List Entry
 entries_from docid k columns = map (entry_at docid) (flat_map (λ c. map (posting c.0) c.1) (enumerate_from k columns))
 
 abbrev pub sizes_from : ℤ → ℕ → List (List PlainToken) → List ((ℤ × ℤ) × ℤ)
-sizes_from docid k columns = sized (map size_row (filter (λ (s : Size). nat_lt 0 s.n) (map (size_at docid) (enumerate_from k columns))))
+sizes_from docid k columns = sized (map (size_row docid) (filter (λ (c : ℕ × List PlainToken). nat_lt 0 (length c.1)) (enumerate_from k columns)))
 
 pub with_entries-append : (es fs : List Entry) (lists : List (Key × List Spot)) → with_entries (es ++ fs) lists ≡ with_entries fs (with_entries es lists)
 with_entries-append es fs lists = ap (λ xs. with_spots xs lists) (map-append entry_spot es fs) ∙ with_spots-append (map entry_spot es) (map entry_spot fs) lists
@@ -33,18 +32,19 @@ lists_more docid k tokens columns old new all grown so_far =
     ap (with_entries (entries_from docid (k + 1) columns)) grown ∙ sym (with_entries-append (cell_entries docid k tokens) (entries_from docid (k + 1) columns) old)
     ∙ ap (λ es. with_entries es old) (sym (entries_first docid k tokens columns)) ∙ so_far
 
-size_more : (docid : ℤ) (k n : ℕ) (rest : List Size) (old : List ((ℤ × ℤ) × ℤ)) →
-    all_put column_key_cmp (sized (map size_row rest)) (all_put column_key_cmp (sized (cell_sizes docid k n)) old) ≡ all_put column_key_cmp (sized (map size_row (cond (nat_lt 0 n) (record { docid = docid; column = k; n = n } ∷ rest) rest))) old
-size_more docid k zero rest old = refl
-size_more docid k (suc n) rest old =
-    let yes : nat_lt 0 (suc n) ≡ true = grind (arith, nat_tests) in
-    ap (λ b. all_put column_key_cmp (sized (map size_row (cond b (record { docid = docid; column = k; n = suc n } ∷ rest) rest))) old) (sym yes)
+size_more : (docid : ℤ) (k : ℕ) (tokens : List PlainToken) (rest : List (ℕ × List PlainToken)) (old : List ((ℤ × ℤ) × ℤ)) →
+    all_put column_key_cmp (sized (map (size_row docid) rest)) (all_put column_key_cmp (sized (cell_sizes docid k (length tokens))) old)
+    ≡ all_put column_key_cmp (sized (map (size_row docid) (cond (nat_lt 0 (length tokens)) ((k, tokens) ∷ rest) rest))) old
+size_more docid k [] rest old = refl
+size_more docid k (t ∷ ts) rest old =
+    let yes : nat_lt 0 (length (t ∷ ts)) ≡ true = grind (arith, nat_tests) in
+    ap (λ b. all_put column_key_cmp (sized (map (size_row docid) (cond b ((k, t ∷ ts) ∷ rest) rest))) old) (sym yes)
 
 pub sizes_more : (docid : ℤ) (k : ℕ) (tokens : List PlainToken) (columns : List (List PlainToken)) (old new all : List ((ℤ × ℤ) × ℤ)) → new ≡ all_put column_key_cmp (sized (cell_sizes docid k (length tokens))) old →
     all_put column_key_cmp (sizes_from docid k (tokens ∷ columns)) old ≡ all → all_put column_key_cmp (sizes_from docid (k + 1) columns) new ≡ all
 sizes_more docid k tokens columns old new all grown so_far =
     ap (all_put column_key_cmp (sizes_from docid (k + 1) columns)) grown
-    ∙ size_more docid k (length tokens) (filter (λ (s : Size). nat_lt 0 s.n) (map (size_at docid) (enumerate_from (k + 1) columns))) old ∙ so_far
+    ∙ size_more docid k tokens (filter (λ (c : ℕ × List PlainToken). nat_lt 0 (length c.1)) (enumerate_from (k + 1) columns)) old ∙ so_far
 
 -- where one list is at its end no column is left
 pub none_left : (k : ℕ) (columns : List Column) (cells : List Cell) → min (length columns) (length cells) ≤ k → (document_tokens (drop k columns) (drop k cells) ≡ []) × AreShortNumbers (drop k columns) (drop k cells)

@@ -1,7 +1,7 @@
 -- Rows of an Insert one after another, and the rewrites that they make.
 use Rattle.std.proofs.Common.{◌≡◌, ◌^◌, ◌-◌, Bool, true, false, cond, ◌||◌, List, [], ◌∷◌, map, Option, Some, None, Result, Ok, Err, ℤ, pos, refl, sym, ap, ◌∙◌, arith, inl, inr, ◌+ℤ◌, unwrap_or, is_some, IfSome, ◌⊎◌, Vec, Global, Less, Equal, Greater, int_cmp, int_eq, is_eq, is_lt, ℕ, zero, suc, ◌&&◌, zip, subst, slice_get, option_map}
 use Rattle.std.proofs.Math.Bool.{or-false, or-true}
-use Rattle.ft_content.specs.Deserved.{inserted_rows}
+use Rattle.ft_content.specs.Step.{inserted_rows}
 use Rattle.ft_documents.proofs.Common.{eq_by_cmp, int_cmp_total, int_cmp_is, eq_by_cmp_equiv, by_order, put, find, below_all, is_sorted, find-put, is_sorted-put, same_entries, and_parts, Decides-int_eq, ints, exact_signed, AllByRecursion, slice_get-map, same_Some, Value, Cell, Fault, Documents, Column, next_docid, has_docid, insert_row, append_document, then_rows, docids_named, new_cells, cells_of, shown_new, shown_documents, with_new, new_rewrite, AreBeside, all_put, NewDocuments, Rewrite, under_docids, rewritten, has_given, AreKnown, IsNewIn, AreInserts}
 use Rattle.ft_documents.proofs.FoundLemmas.{not_some}
 use Rattle.ft_documents.proofs.KeyedRows.{itself, true_of, of_true, sorted_put, or_else, find_all_put, less}

@@ -1,4 +1,5 @@
 -- The hits of a query are the documents that its text chooses, and the first hits of a walk.
+use Rattle.std.specs.Result.{result_unwrap_or}
 use Rattle.std.proofs.Common.{◌≡◌, ℕ, ℤ, false, List, [], ◌∷◌, Option, Some, None, Ok, map, refl, sym, ap, ◌∙◌, filter, ◌≤◌, ◌<◌, Bool, true, ◌++◌, length, take, unwrap_or, ◌^◌, arith, take_all}
 use Rattle.std.proofs.Math.Seq.{take-append_seam}
 use Rattle.ft_query.proofs.{postings_rise, accepts_nothing}
@@ -8,14 +9,14 @@ use Rattle.ft_query.specs.Walk.{Walk, Walked, WalkedTo, hit_list, hit_at}
 use Rattle.ft_content.specs.Answer.{chosen}
 use Rattle.ft_content.specs.Meaning.{content_documents}
 use Rattle.ft_content.proofs.{lists_mean, hits_are_chosen}
-use Rattle.ft_documents.proofs.Common.{option_map_or, map-append, Tree, tree_of, PlainHit, accepts, hits_of, Document, Cell, Content, Documents, IsContent, document_postings, Match, reading, query_read, cut, hit_read, chosen_hits, as_wanted, TellsHit}
+use Rattle.ft_documents.proofs.Common.{option_map_or, map-append, Tree, tree_of, PlainHit, accepts, hits_of, Document, Cell, Content, Documents, IsContent, document_postings, Match, reading, cut, hit_read, chosen_hits, as_wanted, TellsHit}
 
 -- of a query
 pub hits_chosen : (table : List ℕ) (content : Content) (name text : List ℕ) (tree : Tree) → IsContent table content → reading content name text ≡ Ok (Some tree) → hits_of tree (content_documents content) ≡ chosen_hits content (Match name text)
 hits_chosen table content name text tree is read =
     ap (hits_of tree) (sym (lists_mean postings_rise table content is))
     ∙ hits_are_chosen postings_rise accepts_nothing table content name text tree is read
-    ∙ ap (λ r. map (hit_read content (query_read r)) (chosen content (Match name text))) (sym read)
+    ∙ ap (λ r. map (hit_read content (result_unwrap_or r None)) (chosen content (Match name text))) (sym read)
 
 none_pass : (ds : Documents) → filter (λ (d : ℤ × List Cell). false) ds ≡ []
 none_pass [] = refl
@@ -25,7 +26,7 @@ none_pass (d ∷ ds) = none_pass ds
 pub none_chosen : (content : Content) (name text : List ℕ) → reading content name text ≡ Ok None → chosen_hits content (Match name text) ≡ []
 unfolding chosen
 none_chosen content name text read =
-    ap (λ r. map (hit_read content (query_read r)) (filter (λ (d : ℤ × List Cell). option_map_or (accepts (document_postings content.columns d.1)) (query_read r) false) content.documents)) read
+    ap (λ r. map (hit_read content (result_unwrap_or r None)) (filter (λ (d : ℤ × List Cell). option_map_or (accepts (document_postings content.columns d.1)) (result_unwrap_or r None) false) content.documents)) read
     ∙ ap (map (hit_read content None)) (none_pass content.documents)
 
 -- ---- the first hits of a walk

@@ -1,7 +1,7 @@
 -- The row changes of rewrites name their documents alone.
 use Rattle.std.proofs.Common.{ℕ, List, [], ◌∷◌, ◌++◌, map, Option, Some, None, ℤ, refl, sym, filter, length, All, Contains, unwrap_or, nat_lt, flat_map, Ordering, int_cmp, int_eq}
 use Rattle.ft_content.specs.Index.{sizes, index_rows}
-use Rattle.ft_documents.proofs.Common.{AllByRecursion, enumerate_from, put, find, recursion_from_All, All-from_recursion, All-nil, All-cons, All-head, All-tail, All-append, All-map, All-filter, All-weaker, All-same, All-contains_itself, PlainToken, Cell, column_key_cmp, Change, PutCell, DropCells, PutEntries, DropEntries, PutSize, DropSize, Column, Documents, Entry, Key, key_cmp, key_of, Spot, Size, SizeRow, size_row, document_tokens, document_postings, entry_at, document_entries, document_sizes, IsOfDocids, Rewrite, befores, afters, document_if, rewritten_docids, with_entries, all_put, sized, same_cell, same_spots, gone, changed, numbered_cells, goes, dropped_documents, put_cells, put_documents, dropped_lists, dropped_sizes, lists_joined_by, index_lists_of, sizes_of, list_changes}
+use Rattle.ft_documents.proofs.Common.{AllByRecursion, enumerate_from, put, find, recursion_from_All, All-from_recursion, All-nil, All-cons, All-head, All-tail, All-append, All-map, All-filter, All-weaker, All-same, All-contains_itself, PlainToken, Cell, column_key_cmp, Change, PutCell, DropCells, PutEntries, DropEntries, PutSize, DropSize, Column, Documents, Entry, Key, key_cmp, key_of, Spot, SizeRow, size_row, document_tokens, document_postings, entry_at, document_entries, document_sizes, IsOfDocids, Rewrite, befores, afters, document_if, rewritten_docids, with_entries, all_put, sized, same_cell, same_spots, gone, changed, numbered_cells, goes, dropped_documents, put_cells, put_documents, dropped_lists, dropped_sizes, lists_joined_by, index_lists_of, sizes_of, list_changes}
 use Rattle.ft_documents.specs.RewriteRows.{rewrite_changes}
 use Rattle.ft_documents.proofs.IndexOf.{lists_made}
 use Rattle.ft_documents.proofs.KeyedRows.{keys_put}
@@ -63,18 +63,17 @@ module _ (D : ℤ → Type 0) where
       All-same (λ (l : Key × List Spot). D l.0.1) (index_lists_of columns documents) (lists_joined_by columns documents []) (sym (lists_made columns documents))
       (All-from_recursion _ _ (joined_near es [] (recursion_from_All (λ (e : Entry). D e.docid) es (entries_near columns documents h)) tt))
 
-  document_near : (columns : List Column) (d : ℤ × List Cell) → D d.0 → All (λ (s : Size). D s.docid) (document_sizes columns d)
+  document_near : (columns : List Column) (d : ℤ × List Cell) → D d.0 → All (λ (s : SizeRow). D s.docid) (document_sizes columns d)
   document_near columns d is =
-      let size : ℕ × List PlainToken → Size = λ c. record { docid = d.0; column = c.0; n = length c.1 } in
-      All-filter (λ (s : Size). nat_lt 0 s.n) (λ (s : Size). D s.docid) (map size (enumerate_from 0 (document_tokens columns d.1))) (All-map (λ (s : Size). D s.docid) size (enumerate_from 0 (document_tokens columns d.1)) (λ _ _ _. is))
+      All-map (λ (s : SizeRow). D s.docid) (size_row d.0) (filter (λ (c : ℕ × List PlainToken). nat_lt 0 (length c.1)) (enumerate_from 0 (document_tokens columns d.1))) (λ _ _ _. is)
 
   pub sizes_near : (columns : List Column) (documents : Documents) → OfDocuments documents → All (λ (s : (ℤ × ℤ) × ℤ). D s.0.0) (sizes_of columns documents)
   unfolding index_rows sizes
   sizes_near columns documents h =
       let ss = flat_map (document_sizes columns) documents in
-      let near : All (λ (s : Size). D s.docid) ss = All-flat_map (λ (s : Size). D s.docid) (document_sizes columns) documents (All-weaker (λ (d : ℤ × List Cell). D d.0) (λ d. All (λ (s : Size). D s.docid) (document_sizes columns d)) (document_near columns) documents h) in
+      let near : All (λ (s : SizeRow). D s.docid) ss = All-flat_map (λ (s : SizeRow). D s.docid) (document_sizes columns) documents (All-weaker (λ (d : ℤ × List Cell). D d.0) (λ d. All (λ (s : SizeRow). D s.docid) (document_sizes columns d)) (document_near columns) documents h) in
       let S : (ℤ × ℤ) × ℤ → Type 0 = λ s. D s.0.0 in
-      All-from_recursion S _ (keys_all_put column_key_cmp (λ (k : ℤ × ℤ). D k.0) (sized (map size_row ss)) [] (recursion_from_All S (sized (map size_row ss)) (All-map S (λ (s : SizeRow). ((s.docid, s.column), s.n)) (map size_row ss) (All-map (λ (s : SizeRow). D s.docid) size_row ss near))) tt)
+      All-from_recursion S _ (keys_all_put column_key_cmp (λ (k : ℤ × ℤ). D k.0) (sized ss) [] (recursion_from_All S (sized ss) (All-map S (λ (s : SizeRow). ((s.docid, s.column), s.n)) ss near)) tt)
 
   if_near : (docid : ℤ) (cells : Option (List Cell)) → D docid → OfDocuments (document_if docid cells)
   if_near docid None is = All-nil (λ (d : ℤ × List Cell). D d.0)

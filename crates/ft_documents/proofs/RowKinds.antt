@@ -3,7 +3,7 @@ use Rattle.std.proofs.Common.{◌≡◌, ℕ, ◌+◌, ◌<◌, Bool, true, fals
 use Rattle.std.proofs.lemmas.Simd.{map-map}
 use Rattle.ft_content.specs.Index.{sizes, index_rows}
 use Rattle.ft_content.proofs.{sorted_lists, old_found}
-use Rattle.ft_documents.proofs.Common.{enumerate_from, ordering_then, IsTotalOrder, int_cmp_total, tied_itself, option_or, int_cmp-IsAntisymmetric, find, below_all, is_sorted, and_parts, and_from, map-append, PlainToken, Cell, column_key_cmp, Column, Documents, CellRow, document_rows, Key, key_cmp, Spot, Size, SizeRow, size_row, document_tokens, document_sizes, entries, content_with, document_lists, sized, numbered_cells, all_put, index_lists_of, sizes_of}
+use Rattle.ft_documents.proofs.Common.{enumerate_from, ordering_then, IsTotalOrder, int_cmp_total, tied_itself, option_or, int_cmp-IsAntisymmetric, find, below_all, is_sorted, and_parts, and_from, map-append, PlainToken, Cell, column_key_cmp, Column, Documents, CellRow, document_rows, Key, key_cmp, Spot, SizeRow, size_row, document_tokens, document_sizes, entries, content_with, document_lists, sized, numbered_cells, all_put, index_lists_of, sizes_of}
 use Rattle.ft_documents.proofs.KeyedRows.{none_below, true_of, of_true, put_in_order}
 use Rattle.ft_documents.proofs.CellSteps.{numbered_from, pos_less}
 use Rattle.ft_documents.proofs.StoreKeys.{column_total, column_exact}
@@ -186,20 +186,11 @@ token_count ts = pos (length ts)
 abbrev pub counts : List Column → List Cell → List (ℤ × ℤ)
 counts columns cells = passed_from has_tokens token_count 0 (document_tokens columns cells)
 
-abbrev pub size_at : ℤ → ℕ × List PlainToken → Size
-size_at docid c = record { docid = docid; column = c.0; n = length c.1 }
-
-kept_sizes : (docid : ℤ) (es : List (ℕ × List PlainToken)) → sized (map size_row (filter (λ (s : Size). nat_lt 0 s.n) (map (size_at docid) es))) ≡ under docid (map (λ (c : ℕ × List PlainToken). (pos c.0, token_count c.1)) (filter (λ (c : ℕ × List PlainToken). has_tokens c.1) es))
+kept_sizes : (docid : ℤ) (es : List (ℕ × List PlainToken)) → sized (map (size_row docid) es) ≡ under docid (map (λ (c : ℕ × List PlainToken). (pos c.0, token_count c.1)) es)
 kept_sizes docid [] = refl
-kept_sizes docid (e ∷ es) =
-    let rest = filter (λ (s : Size). nat_lt 0 s.n) (map (size_at docid) es) in
-    let others = filter (λ (c : ℕ × List PlainToken). has_tokens c.1) es in
-    elim (has_tokens e.1) as (λ b. sized (map size_row (cond b (size_at docid e ∷ rest) rest)) ≡ under docid (map (λ (c : ℕ × List PlainToken). (pos c.0, token_count c.1)) (cond b (e ∷ others) others))) [
-      | true ↦ ap (λ xs. ((docid, pos e.0), token_count e.1) ∷ xs) (kept_sizes docid es)
-      | false ↦ kept_sizes docid es
-    ]
+kept_sizes docid (e ∷ es) = ap (λ xs. ((docid, pos e.0), token_count e.1) ∷ xs) (kept_sizes docid es)
 
-sizes_keyed : (columns : List Column) (documents : Documents) → sized (map size_row (flat_map (document_sizes columns) documents)) ≡ rows_by (counts columns) documents
+sizes_keyed : (columns : List Column) (documents : Documents) → sized (flat_map (document_sizes columns) documents) ≡ rows_by (counts columns) documents
 sizes_keyed columns [] = refl
 sizes_keyed columns (d ∷ ds) = simp (map-append, kept_sizes, sizes_keyed columns ds)
 

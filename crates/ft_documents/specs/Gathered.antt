@@ -4,7 +4,7 @@ use Rattle.std.specs.Ordering.{int_eq}
 use Rattle.ft_values.specs.declared.rows.CellRow as source
 use Rattle.ft_values.specs.Cells.{Cell, shown_value}
 use Rattle.ft_content.specs.Content.{CellRow, Documents}
-use Rattle.ft_content.specs.Deserved.{has_docid}
+use Rattle.ft_content.specs.Step.{has_docid}
 use Rattle.ft_documents.specs.declared.documents.Document.{Document}
 
 -- a document as it is read
@@ -14,8 +14,7 @@ shown_document d = (d.docid, map shown_value d.cells.items)
 abbrev pub gathered_row : source.CellRow → CellRow
 gathered_row row = record { docid = row.docid; column = row.column; value = shown_value row.value }
 
--- the documents with one more cell, which joins the last document, if that has its docid (own
--- choice)
+-- the documents with one more cell, which joins the last document, if that has its docid (own choice)
 abbrev pub with_last : CellRow → Documents → Documents
 with_last row [] = (row.docid, row.value ∷ []) ∷ []
 with_last row (d ∷ []) = if int_eq d.0 row.docid then ((d.0, d.1 ++ row.value ∷ []) ∷ []) else (d ∷ (row.docid, row.value ∷ []) ∷ [])

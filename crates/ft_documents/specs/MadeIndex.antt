@@ -1,5 +1,4 @@
--- Steps. What calls make of an index that is kept in memory, its lists and its sizes together. All
--- of it is our own choice.
+-- Steps. What calls make of an index that is kept in memory, its lists and its sizes together. All of it is our own choice.
 use Rattle.std.specs.Prelude.{◌≡◌, ◌<◌, ◌^◌, ℕ, ℤ, List, length, All}
 use Rattle.ft_values.specs.Cells.{Cell}
 use Rattle.ft_query.specs.declared.text.Token.{Token}

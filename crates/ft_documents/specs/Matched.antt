@@ -25,8 +25,8 @@ chosen_hits content f = map (hit_read content (query_in content f)) (chosen cont
 abbrev pub as_wanted : Bool → PlainHit → PlainHit
 as_wanted wanted hit = record { docid = hit.docid; offsets = if wanted then hit.offsets else [] }
 
--- From before these documents the walk went on to stand before the rest, with this hit between,
--- with its offsets if they are wanted. Without one there is no rest.
+-- From before these documents the walk went on to stand before the rest, with this hit between, with its offsets if they are wanted.
+-- Without one there is no rest.
 pub record TellsHit (wanted : Bool) (old new : Walk) (hit : Option Hit) (documents : List Document) : Type 0 where
   pub rest : List Document
   pub stands : StandsBefore new rest

@@ -1,5 +1,4 @@
--- Steps. Documents that rows of an Insert make, beside those that a table has. All of it is our own
--- choice.
+-- Steps. Documents that rows of an Insert make, beside those that a table has. All of it is our own choice.
 use Rattle.std.specs.Prelude.{◌≡◌, ◌⊎◌, ℤ, List, map, Some, None, IsTrue}
 use Rattle.std.specs.List.{AllByRecursion}
 use Rattle.std.specs.Ordering.{int_cmp}
@@ -27,16 +26,14 @@ shown_documents new = map shown_new new.documents.entries
 abbrev pub with_new : NewDocuments → Documents → Documents
 with_new new documents = all_put int_cmp (shown_documents new) documents
 
--- New documents for a table with these documents: none has a docid that is there, and the last
--- docid of all is known.
+-- New documents for a table with these documents: none has a docid that is there, and the last docid of all is known.
 pub record AreBeside (documents : Documents) (new : NewDocuments) : Type 0 where
   pub sorted : IsTrue (is_sorted int_cmp documents)
   pub rising : IsTrue (is_sorted int_cmp (shown_documents new))
   pub apart : AllByRecursion (λ (d : ℤ × List Cell). find int_cmp d.0 documents ≡ None) (shown_documents new)
   pub last : last_docid (with_new new documents) ≡ new.last
 
--- What comes of a row: the documents with its document, or the fault of its docid, but for want of
--- memory.
+-- What comes of a row: the documents with its document, or the fault of its docid, but for want of memory.
 abbrev pub Places : Documents → Result Documents Fault → NewDocuments → Result (Unit {0}) Fault → Type 0
 Places documents placed new (Ok u) = AreBeside documents new × (placed ≡ Ok (with_new new documents))
 Places documents placed new (Err fault) = (fault ≡ faults.Memory) ⊎ (placed ≡ Err fault)

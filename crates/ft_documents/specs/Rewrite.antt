@@ -1,5 +1,4 @@
--- Meaning. Documents that are written anew, and what row changes of them do. All of it is our own
--- choice.
+-- Meaning. Documents that are written anew, and what row changes of them do. All of it is our own choice.
 use Rattle.std.specs.Prelude.{◌≡◌, ℕ, ◌+◌, ◌-◌, ◌<◌, ℤ, List, [], ◌∷◌, map, length, take, sum_by, All}
 use Rattle.std.specs.Prelude.{Option, Some, None, option_map, IsTrue, IfSome}
 use Rattle.std.specs.List.{flat_map}
@@ -16,8 +15,7 @@ use Rattle.ft_content.specs.Views.{cells_of}
 use Rattle.ft_documents.specs.declared.rewrite.Rewrite as source
 use Rattle.ft_documents.specs.Tables.{table_rows, table_index}
 
--- a document that is written anew: the cells that it had, if it was there, and those that it gets,
--- if it stays
+-- a document that is written anew: the cells that it had, if it was there, and those that it gets, if it stays
 pub record Rewrite : Type 0 where
   pub docid : ℤ
   pub before : Option (List Cell)
@@ -61,8 +59,7 @@ rewritten_docids rewrites = map (λ (r : Rewrite). r.docid) rewrites
 abbrev pub FitIfAny : ℕ → Rewrite → Type 0
 FitIfAny width r = IfSome r.after (λ cells. IsTrue (is_document width (r.docid, cells)))
 
--- Rewrites of a content by rising docid: each knows what its document was, and makes a document of
--- it.
+-- Rewrites of a content by rising docid: each knows what its document was, and makes a document of it.
 pub record AreOf (content : Content) (rewrites : List Rewrite) : Type 0 where
   pub rising : IsTrue (is_sorted int_cmp (under_docids rewrites))
   pub befores : All (λ (r : Rewrite). r.before ≡ find int_cmp r.docid content.documents) rewrites
@@ -78,8 +75,7 @@ pub record HasContent (name : List ℕ) (content : Content) (tab : ℤ) (store :
 abbrev pub rewritten_content : List Rewrite → Content → Content
 rewritten_content rewrites content = record content { documents = rewritten rewrites content.documents }
 
--- Row changes of rewrites are right: they lead to the rows and the index rows made from scratch out
--- of the new content.
+-- Row changes of rewrites are right: they lead to the rows and the index rows made from scratch out of the new content.
 abbrev pub AreRight : ℤ → List Column → List Rewrite → List Change → Type 0
 AreRight tab columns rewrites changes = (name : List ℕ) (content : Content) (store : StoreValue) → HasContent name content tab store
     → content.columns ≡ columns → AreOf content rewrites →

@@ -1,5 +1,4 @@
--- Meaning. The row changes that follow from documents which are written anew. All of it is our own
--- choice.
+-- Meaning. The row changes that follow from documents which are written anew. All of it is our own choice.
 use Rattle.std.specs.Prelude.{◌≡◌, ◌≤◌, length, ℕ, zero, suc, Bool, true, false, not, ◌&&◌, ◌==◌, List, [], ◌∷◌, ◌++◌, map, filter, Option}
 use Rattle.std.specs.Prelude.{Some, None, ℤ, pos, is_some, unwrap_or, bytes_eq}
 use Rattle.std.specs.List.{flat_map, enumerate_from}
@@ -14,7 +13,7 @@ use Rattle.ft_query.specs.Tokens.{PlainToken}
 use Rattle.ft_query.specs.Documents.{posting}
 use Rattle.ft_content.specs.Content.{Column, Documents}
 use Rattle.ft_content.specs.Index.{Entry, document_entries, document_sizes, entry_at, Key, key_cmp, key_of, Spot}
-use Rattle.ft_content.specs.Index.{SizeRow, size_row, index_rows}
+use Rattle.ft_content.specs.Index.{SizeRow, index_rows}
 use Rattle.ft_content.specs.Laws.{content_with}
 use Rattle.ft_documents.specs.Rewrite.{Rewrite, befores, afters}
 
@@ -94,8 +93,7 @@ AreShortNumbers [] cells = Unit {0}
 AreShortNumbers (column ∷ columns) [] = Unit {0}
 AreShortNumbers (column ∷ columns) (cell ∷ cells) = (column.indexed ≡ true → IsShortNumber cell) × AreShortNumbers columns cells
 
--- Lists with spots that join them one after another, each at the end of the list under its key, and
--- rows that are put one after another.
+-- Lists with spots that join them one after another, each at the end of the list under its key, and rows that are put one after another.
 abbrev pub with_spots : List (Key × Spot) → List (Key × List Spot) → List (Key × List Spot)
 with_spots [] lists = lists
 with_spots (s ∷ ss) lists = with_spots ss (put key_cmp s.0 (unwrap_or (find key_cmp s.0 lists) [] ++ s.1 ∷ []) lists)
@@ -116,14 +114,14 @@ cell_entries docid column tokens = map (λ (t : PlainToken). entry_at docid (pos
 
 abbrev pub cell_sizes : ℤ → ℕ → ℕ → List SizeRow
 cell_sizes docid column zero = []
-cell_sizes docid column (suc n) = size_row (record { docid = docid; column = column; n = suc n }) ∷ []
+cell_sizes docid column (suc n) = record { docid = docid; column = pos column; n = pos (suc n) } ∷ []
 
 -- lists and sizes that those of documents join
 abbrev pub lists_joined_by : List Column → Documents → List (Key × List Spot) → List (Key × List Spot)
 lists_joined_by columns documents lists = with_entries (flat_map (document_entries columns) documents) lists
 
 abbrev pub sizes_with : List Column → Documents → List ((ℤ × ℤ) × ℤ) → List ((ℤ × ℤ) × ℤ)
-sizes_with columns documents sizes = all_put column_key_cmp (sized (map size_row (flat_map (document_sizes columns) documents))) sizes
+sizes_with columns documents sizes = all_put column_key_cmp (sized (flat_map (document_sizes columns) documents)) sizes
 
 -- the lists and sizes of documents under their keys
 abbrev pub index_lists_of : List Column → Documents → List (Key × List Spot)
@@ -132,8 +130,8 @@ index_lists_of columns documents = (index_rows (content_with columns documents))
 abbrev pub sizes_of : List Column → Documents → List ((ℤ × ℤ) × ℤ)
 sizes_of columns documents = all_put column_key_cmp (sized (index_rows (content_with columns documents)).sizes) []
 
--- The row changes from one index to another: kind by kind, each by rising keys. A list that differs
--- is dropped first, so that no list is put under a key that is there.
+-- The row changes from one index to another: kind by kind, each by rising keys. A list that differs is dropped first, so that no list is
+-- put under a key that is there.
 abbrev pub list_changes : ℤ → List (Key × List Spot) → List (Key × List Spot) → List Change
 list_changes tab old new = dropped_lists tab (changed key_cmp same_spots new old) ++ put_lists tab (changed key_cmp same_spots old new)
 

@@ -40,8 +40,7 @@ pub record AreDocumentCells (width : ℕ) (cells : List CellRow) : Type 0 where
   pub rising : IsTrue (is_sorted int_cmp documents)
   pub are : cells ≡ flat_map document_rows documents
 
--- A document's first cell has a docid above that of the cell before it, and each other has the
--- same.
+-- A document's first cell has a docid above that of the cell before it, and each other has the same.
 abbrev pub stands_after : ℕ → Option ℤ → ℤ → Bool
 stands_after place None docid = place == 0
 stands_after place (Some last) docid = if place == 0 then is_lt (int_cmp last docid) else int_eq last docid
@@ -70,8 +69,8 @@ pub record HaveContent (columns : List Column) (rows : List CellRow) (content : 
   pub columns_are : content.columns ≡ columns
   pub cells_are : rows ≡ (content_rows content).cells
 
--- The sizes are those of a content made from scratch, and lists by their terms are its posting
--- lists. Where the sizes are others there are no lists to compare.
+-- The sizes are those of a content made from scratch, and lists by their terms are its posting lists. Where the sizes are others there are
+-- no lists to compare.
 abbrev pub AreTheirs : Content → List ((ℤ × ℤ) × ℤ) → Option (Vec TermLists Global) → Type 0
 AreTheirs content sizes None = sizes ≢ sized (index_rows content).sizes
 AreTheirs content sizes (Some lists) = (sizes ≡ sized (index_rows content).sizes) × (lists_of_terms lists.items ≡ (index_rows content).lists)

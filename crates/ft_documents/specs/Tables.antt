@@ -1,12 +1,10 @@
--- Meaning. What a store holds of one table. The store's value and its row changes are those of the
--- crate below.
+-- Meaning. What a store holds of one table. The store's value and its row changes are those of the crate below.
 use Rattle.std.specs.Prelude.{◌≡◌, ℕ, List, map, ℤ, Contains}
 use Rattle.std.specs.Ordering.{int_eq}
 use Rattle.std.specs.FinMap.Entries.{where_key}
-use Rattle.ft_values.specs.Cells.{Cell}
-use Rattle.ft_rows.specs.Store.{StoreValue, CellKey, ListKey, ColumnKey, cell_key_cmp, list_key_cmp, column_key_cmp, Change, AddTable}
-use Rattle.ft_rows.specs.Store.{DropTable, PutCell, DropCells, PutEntries, DropEntries, PutSize, DropSize, ClearIndex, Note}
-use Rattle.ft_content.specs.Content.{TableRows}
+use Rattle.ft_rows.specs.Store.{StoreValue, CellKey, ListKey, ColumnKey, cell_key_cmp, list_key_cmp, column_key_cmp}
+use Rattle.ft_rows.specs.Store.{Change, PutCell, DropCells, PutEntries, DropEntries, PutSize, DropSize}
+use Rattle.ft_content.specs.Content.{Cell, TableRows}
 use Rattle.ft_content.specs.Index.{Spot, IndexRows}
 
 -- what is read of one table: its columns, the numbers of those that aren't indexed, and its cells
@@ -26,13 +24,10 @@ table_index tab store = record {
 
 -- A change names rows of one table and of these documents alone: no change of whole tables.
 abbrev pub IsOfDocids : ℤ → List ℤ → Change → Type 0
-IsOfDocids id docids (AddTable tab name columns skipped) = ⊥
-IsOfDocids id docids (DropTable tab) = ⊥
 IsOfDocids id docids (PutCell tab docid column value) = (tab ≡ id) × Contains docids docid
 IsOfDocids id docids (DropCells tab docid) = (tab ≡ id) × Contains docids docid
 IsOfDocids id docids (PutEntries tab term docid spots) = (tab ≡ id) × Contains docids docid
 IsOfDocids id docids (DropEntries tab term docid) = (tab ≡ id) × Contains docids docid
 IsOfDocids id docids (PutSize tab docid column n) = (tab ≡ id) × Contains docids docid
 IsOfDocids id docids (DropSize tab docid column) = (tab ≡ id) × Contains docids docid
-IsOfDocids id docids (ClearIndex tab) = ⊥
-IsOfDocids id docids (Note name) = ⊥
+IsOfDocids id docids change = ⊥

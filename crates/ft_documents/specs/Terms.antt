@@ -34,8 +34,7 @@ Group = String Global × Vec Posting Global
 abbrev pub group_spots : Group → List (Key × Spot)
 group_spots g = map (λ (p : Posting). ((string_bytes g.0, p.docid), p.spot)) g.1.items
 
--- The lists of a map of terms: the spots of each term in the order in which they came. The order of
--- terms has no part in it.
+-- The lists of a map of terms: the spots of each term in the order in which they came. The order of terms has no part in it.
 abbrev pub lists_in_groups : List Group → List (Key × List Spot)
 lists_in_groups groups = with_spots (flat_map group_spots groups) []
 

@@ -5,7 +5,7 @@ use Rattle.ft_values.specs.Cells.{Cell}
 use Rattle.ft_content.specs.Content.{Column, Content}
 use Rattle.ft_content.specs.Command.{Filter}
 use Rattle.ft_content.specs.Answer.{chosen}
-use Rattle.ft_content.specs.Deserved.{docids_named, with_values}
+use Rattle.ft_content.specs.Step.{docids_named, with_values}
 use Rattle.ft_content.specs.Step.{docids_of, docid_if_any}
 use Rattle.ft_documents.specs.Rewrite.{Rewrite}
 

@@ -1,7 +1,7 @@
 //! The query of a filter, and the hits of its walk.
 ghost use Rattle.std.specs.Prelude.{◌≡◌, ◌≢◌, option_map, None, Some, IfOk, IfErr, OnOk, List, [], map};
 ghost use Rattle.ft_query.specs.Trees.{tree_of};
-ghost use Rattle.ft_content.specs.Deserved.{query_fault};
+ghost use Rattle.ft_content.specs.Step.{query_fault};
 ghost use Rattle.ft_content.specs.Views.{bare_content, filter_of};
 ghost use Rattle.ft_documents.specs.Chosen.{ReadsFilterAs};
 ghost use Rattle.ft_query.specs.Documents.{Document};

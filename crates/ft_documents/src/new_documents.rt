@@ -3,7 +3,7 @@ ghost use Rattle.std.specs.Prelude.{◌≡◌, map, zip, IsTrue};
 ghost use Rattle.std.specs.Ordering.{int_cmp};
 ghost use Rattle.std.specs.FinMap.Entries.{is_sorted};
 ghost use Rattle.ft_content.specs.Content.{Documents};
-ghost use Rattle.ft_content.specs.Deserved.{inserted_rows};
+ghost use Rattle.ft_content.specs.Step.{inserted_rows};
 ghost use Rattle.ft_content.specs.Views as views;
 ghost use Rattle.ft_content.specs.Views.{cells_of, column_of};
 ghost use Rattle.ft_documents.specs.Inserted.{AreKnown, MakesDocuments};
@@ -25,7 +25,7 @@ impl NewDocuments {
     ghost use Rattle.std.specs.Prelude.{map, zip, slice_get, IfSome};
     ghost use Rattle.ft_values.specs.Cells.{shown_value};
     ghost use Rattle.ft_content.specs.Content.{Documents};
-    ghost use Rattle.ft_content.specs.Deserved as deserved;
+    ghost use Rattle.ft_content.specs.Step as step;
     ghost use Rattle.ft_content.specs.Views.{column_of};
     ghost use Rattle.ft_documents.specs.NewDocuments.{with_new, AreBeside, Places};
 
@@ -39,12 +39,12 @@ impl NewDocuments {
         is_stored: bool,
     ) -> Result<(), Fault>
         ensures { (documents : Documents) → AreBeside documents self.old
-            → IfSome (slice_get (deserved.docids_named
+            → IfSome (slice_get (step.docids_named
             (zip (map (λ n. n.now) names.now) (map shown_value row.now))) 0)
-            (λ docid. deserved.has_docid documents docid ≡ is_stored)
-            → Places documents (deserved.insert_row (with_new self.old documents)
-            (deserved.docids_named (zip (map (λ n. n.now) names.now) (map shown_value row.now)))
-            (deserved.new_cells (zip (map (λ n. n.now) names.now) (map shown_value row.now))
+            (λ docid. step.has_docid documents docid ≡ is_stored)
+            → Places documents (step.insert_row (with_new self.old documents)
+            (step.docids_named (zip (map (λ n. n.now) names.now) (map shown_value row.now)))
+            (step.new_cells (zip (map (λ n. n.now) names.now) (map shown_value row.now))
             (map column_of columns.now))) self.new result }
     {
         let given = row_docid(names, row);

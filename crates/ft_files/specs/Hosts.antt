@@ -1,5 +1,4 @@
--- Meaning. What a host of databases holds under each name, and what is left there of a database
--- that was opened (own choice).
+-- Meaning. What a host of databases holds under each name, and what is left there of a database that was opened (own choice).
 use Rattle.std.specs.Prelude.{◌≡◌, ◌≢◌, ◌⊎◌, ℕ, Bool, List, [], Result, Ok, Err, IsTrue, IfOk, IfErr}
 use Rattle.sqlite_disk.specs.declared.Disk as disk
 use Rattle.sqlite_disk.specs.declared.Files.{Files}
@@ -47,16 +46,15 @@ abbrev pub files_in : {D : Type 0} → Result (Files D) (Files D) → Files D
 files_in (Ok files) = files
 files_in (Err files) = files
 
--- The close is refused, for a fault of the files or want of memory: a crash leaves what it could
--- leave before.
+-- The close is refused, for a fault of the files or want of memory: a crash leaves what it could leave before.
 pub record IsRefusedClose {D : Type 0} {g : disk.Ghosts D} (c : Held (FileStore D g)) (files : Files D) : Type 0 where
   pub last : FileStore D g
   pub are : (files.log, files.db) ≡ store.files last
   pub closed : IsClosed c last
   pub cause : IsClean (store.view last) → (e : Error) × FailsToClose c last e
 
--- Of a database that is closed the last commit stands in its file alone, as that reads now and
--- after a crash, if the disk returned what was written.
+-- Of a database that is closed the last commit stands in its file alone, as that reads now and after a crash, if the disk returned what was
+-- written.
 abbrev pub IsLeft : {D : Type 0} {g : disk.Ghosts D} → Held (FileStore D g) → Result (Files D) (Files D) → Type 0
 IsLeft {D} {g} c (Ok files) = AreClean g files.log files.db → IsCopied c files
 IsLeft c (Err files) = IsRefusedClose c files
@@ -73,8 +71,7 @@ pub record IsUnopened {D : Type 0} (g : disk.Ghosts D) (before after : Image) : 
   pub are : (now.log, now.db) ≡ files_left rest
   pub left : after ≡ image_of g now
 
--- It was opened, and closed again: what was found, and perhaps asked whether it is a store, without
--- being taken as one.
+-- It was opened, and closed again: what was found, and perhaps asked whether it is a store, without being taken as one.
 pub record IsClosedAgain {D : Type 0} (g : disk.Ghosts D) (before after : Image) : Type 0 where
   pub conn : Held (FileStore D g)
   pub found : IsNewFrom before conn
@@ -104,8 +101,8 @@ pub record OpensStoreIn {D : Type 0} (g : disk.Ghosts D) (tells : Bool) (name : 
   pub let_go : IfErr result (λ f. IsTrue tells → IsLetGo g (old name) (new name))
   pub others : IsTrue tells → StayBut name old new
 
--- Both, under the name of a FILE and the one beside it. Where one is not opened, neither is: what was
--- opened is let go, and no other name is touched.
+-- Both, under the name of a FILE and the one beside it. Where one is not opened, neither is: what was opened is let go, and no other name
+-- is touched.
 pub record OpensBothIn {D : Type 0} (g : disk.Ghosts D) (tells : Bool) (path beside : List ℕ) (old new : Names)
     (result : Result (Held (FileStore D g) × StoreState (FileStore D g)) OpenFault) : Type 0 where
   pub plain : IfOk result (λ both. (image : Image) × IsHeld tells (old path) image × IsNewFrom image both.0)

@@ -37,9 +37,8 @@ has_long_name path = option_map_or (λ name. nat_lt 242 (length name)) (path_fil
 abbrev pub store_path : List ℕ → List ℕ
 store_path path = path ++ codes "-fts4"
 
--- Who may do what with the file of a new store: its owner, its group and all others what they may
--- do with the file of the plain tables, by the nine lowest bits of its mode; but for the group, with
--- three of them, where that is another.
+-- Who may do what with the file of a new store: its owner, its group and all others what they may do with the file of the plain tables, by
+-- the nine lowest bits of its mode; but for the group, with three of them, where that is another.
 abbrev pub mode_beside : ℕ → Bool → ℕ
 mode_beside mode true = bit_and mode 0x1ff
 mode_beside mode false = bit_and mode 0x1c7
@@ -66,8 +65,7 @@ pub record IsStoreFrom {D : Type 0} {g : disk.Ghosts D} (image : Image) (store :
   pub opened : IsOpenedFrom image store.held
   pub unread : store.rows_read ≡ 0
 
--- why it is not opened: a plain fault, or the database that is found in them is not taken as a
--- store
+-- why it is not opened: a plain fault, or the database that is found in them is not taken as a store
 abbrev pub IsNoStoreFor : {D : Type 0} → disk.Ghosts D → Image → OpenFault → Type 0
 IsNoStoreFor g image f = (cause : StoreFault) × (f ≡ open_fault_of cause) × (IsPlainFault cause ⊎ IsNotTakenFrom g image cause)
 

@@ -3,9 +3,8 @@ use Rattle.std.proofs.Common.{◌≡◌, ℕ, Bool, true, false, cond, List, [],
 use Rattle.ft_index.proofs.Common.{list_any, Fault, Command, Contents, deserved, step, step_by, after, HasCleanDisk, Ghosts, Trees, StoreValue}
 use Rattle.ft_index.proofs.Common.{applied, Note, shows, StoreHolds, FullText, IsUp, store_value, Holds, Answers, is_outside, SurvivesCrash, left_by}
 use Rattle.ft_content.specs.Command.{Reply}
-use Rattle.ft_index.specs.Refused.{BlamesCommand}
-use Rattle.ft_index.specs.Crashes.{HoldsLeft, Name}
-use Rattle.ft_index.specs.Called.{Call, Executed, Looked, Noted, DoesCall, Runs, is_answered, accepted, with_name, noted_by, contents_with, names_with, AreAnswered, StandsAfter, LeftAfter, at_rest, running, KeptByCalls}
+use Rattle.ft_index.specs.Refused.{DoesForCause}
+use Rattle.ft_index.specs.Kept.{HoldsLeft, Name, Call, Executed, Looked, Noted, DoesCall, Runs, is_answered, accepted, with_name, noted_by, contents_with, names_with, AreAnswered, StandsAfter, LeftAfter, at_rest, running, KeptByCalls}
 
 -- a step that is done leaves what comes after it, and one that is refused leaves the contents
 done : (due : Option Fault) (first mid : Contents) (command : Command) (reply : Reply) → step_by due first command ≡ (Ok reply, mid) → mid ≡ after first command
@@ -39,6 +38,10 @@ left_next first command rest (Err fault) = refl
 
 -- ---- calls one after another
 
+runs_split : {S : Type 0} (Does : FullText S → Call → FullText S → Type 0) (start end : FullText S) (xs ys : List Call) → Runs Does start (xs ++ ys) end → (mid : FullText S) × Runs Does start xs mid × Runs Does mid ys end
+runs_split Does start end [] ys runs = (start, refl, runs)
+runs_split Does start end (call ∷ xs) ys runs = let it = runs_split Does runs.0 end xs ys runs.2 in (it.0, (runs.0, runs.1, it.1), it.2)
+
 module _ {S : Type 0} (g : Ghosts S) where
   abbrev pub IsCleanAt : FullText S → Type 0
   IsCleanAt known = HasCleanDisk (shows g known.store)
@@ -56,18 +59,14 @@ module _ {S : Type 0} (g : Ghosts S) where
   call_leaves old new _ does = record { clean = λ c. omega (arith, does.1.survives.clean, c); up = λ u. does.0.was_up u; live = λ done c. record { clean = c; is_open = does.1.live c done }; settled = does.1.settled }
 
   -- the disk did what it was told at each call
-  pub clean_before : (start end : FullText S) (calls : List Call) → Runs g start calls end → IsCleanAt end → IsCleanAt start
+  pub clean_before : (start end : FullText S) (calls : List Call) → Runs (DoesCall g) start calls end → IsCleanAt end → IsCleanAt start
   clean_before start end [] same clean = subst IsCleanAt same clean
   clean_before start end (call ∷ calls) runs clean = (call_leaves start runs.0 call runs.1).clean (clean_before runs.0 end calls runs.2 clean)
 
   -- what is up in the end was so at each call
-  up_before : (start end : FullText S) (calls : List Call) → IsUp g end → Runs g start calls end → IsUp g start
+  up_before : (start end : FullText S) (calls : List Call) → IsUp g end → Runs (DoesCall g) start calls end → IsUp g start
   up_before start end [] up runs = subst (IsUp g) runs up
   up_before start end (call ∷ calls) up runs = (call_leaves start runs.0 call runs.1).up (up_before runs.0 end calls up runs.2)
-
-  pub runs_split : (start end : FullText S) (xs ys : List Call) → Runs g start (xs ++ ys) end → (mid : FullText S) × Runs g start xs mid × Runs g mid ys end
-  runs_split start end [] ys runs = (start, refl, runs)
-  runs_split start end (call ∷ xs) ys runs = let it = runs_split runs.0 end xs ys runs.2 in (it.0, (runs.0, runs.1, it.1), it.2)
 
   -- a note changes no table
   pub note_holds : (old new : FullText S) (name : List ℕ) (is_done : Bool) (contents : Contents) →
@@ -123,7 +122,7 @@ module _ {S : Type 0} (g : Ghosts S) where
   answered_more first old new _ calls does up holds rest = rest
 
   -- what stands after calls, where the store is up
-  stands_up : (start end : FullText S) (calls : List Call) (first : Contents) → IsUp g end → Holds g start first → Runs g start calls end → StandsAfter g first (store_value g start).noted calls end
+  stands_up : (start end : FullText S) (calls : List Call) (first : Contents) → IsUp g end → Holds g start first → Runs (DoesCall g) start calls end → StandsAfter g first (store_value g start).noted calls end
   unfolding left_by AreAnswered
   stands_up start end [] first up holds same = record { up = up; holds = subst (λ k. Holds g k first) (sym same) holds; noted = ap (λ (k : FullText S). (store_value g k).noted) same; answered = tt }
   stands_up start end (call ∷ calls) first up holds runs =
@@ -137,21 +136,29 @@ module _ {S : Type 0} (g : Ghosts S) where
         answered = answered_more first start runs.0 call calls runs.1 up_now holds rest.answered;
       }
 
-  -- after a call that was answered
-  stands_behind : (start end : FullText S) (calls before more : List Call) (call : Call) (first : Contents) → IsCleanAt end → Holds g start first → Runs g start calls end → calls ≡ before ++ call ∷ more → is_answered call ≡ true →
-      (mid : FullText S) × Runs g start (before ++ call ∷ []) mid × Runs g mid more end × StandsAfter g first (store_value g start).noted (before ++ call ∷ []) mid
-  stands_behind start end calls before more call first clean holds runs is done =
-      let cut = runs_split start end (before ++ call ∷ []) more (subst (λ cs. Runs g start cs end) (is ∙ sym (append_assoc before (call ∷ []) more)) runs) in
-      let last = runs_split start cut.0 before (call ∷ []) cut.1 in
-      let mid_clean = clean_before cut.0 end more cut.2 clean in
-      let up : IsUp g cut.0 = subst (IsUp g) (sym last.2.2) ((call_leaves last.0 last.2.0 call last.2.1).live done (subst IsCleanAt last.2.2 mid_clean)) in
-      (cut.0, cut.1, cut.2, stands_up start cut.0 (before ++ call ∷ []) first up holds cut.1)
+  -- ---- where more is known of each call
 
-  refused_behind : (start end : FullText S) (calls before more : List Call) (command : Command) (fault : Fault) → Runs g start calls end → calls ≡ before ++ Executed command (Err fault) ∷ more →
-      (was now : FullText S) × Runs g start before was × Runs g now more end × (IsUp g now → (store_value g now ≡ store_value g was) × (now.tables ≡ was.tables)) × BlamesCommand g was command (Err fault) now
-  refused_behind start end calls before more command fault runs is =
-      let cut = runs_split start end before (Executed command (Err fault) ∷ more) (subst (λ cs. Runs g start cs end) is runs) in
-      (cut.0, cut.2.0, cut.1, cut.2.2, λ up. cut.2.1.0.unchanged refl up, cut.2.1.2)
+  module _ (Does : FullText S → Call → FullText S → Type 0) (does_call : (old new : FullText S) (call : Call) → Does old call new → DoesCall g old call new) where
+    runs_plainly : (start end : FullText S) (calls : List Call) → Runs Does start calls end → Runs (DoesCall g) start calls end
+    runs_plainly start end [] same = same
+    runs_plainly start end (call ∷ calls) runs = (runs.0, does_call start runs.0 call runs.1, runs_plainly runs.0 end calls runs.2)
+
+    -- after a call that was answered
+    stands_behind : (start end : FullText S) (calls before more : List Call) (call : Call) (first : Contents) → IsCleanAt end → Holds g start first → Runs Does start calls end → calls ≡ before ++ call ∷ more → is_answered call ≡ true →
+        (mid : FullText S) × Runs Does start (before ++ call ∷ []) mid × Runs Does mid more end × StandsAfter g first (store_value g start).noted (before ++ call ∷ []) mid
+    stands_behind start end calls before more call first clean holds runs is done =
+        let cut = runs_split Does start end (before ++ call ∷ []) more (subst (λ cs. Runs Does start cs end) (is ∙ sym (append_assoc before (call ∷ []) more)) runs) in
+        let last = runs_split Does start cut.0 before (call ∷ []) cut.1 in
+        let mid_clean = clean_before cut.0 end more (runs_plainly cut.0 end more cut.2) clean in
+        let leaves = call_leaves last.0 last.2.0 call (does_call last.0 last.2.0 call last.2.1) in
+        let up : IsUp g cut.0 = subst (IsUp g) (sym last.2.2) (leaves.live done (subst IsCleanAt last.2.2 mid_clean)) in
+        (cut.0, cut.1, cut.2, stands_up start cut.0 (before ++ call ∷ []) first up holds (runs_plainly start cut.0 (before ++ call ∷ []) cut.1))
+
+    refused_behind : (start end : FullText S) (calls before more : List Call) (command : Command) (fault : Fault) → Runs Does start calls end → calls ≡ before ++ Executed command (Err fault) ∷ more →
+        (was now : FullText S) × Runs Does start before was × Does was (Executed command (Err fault)) now × Runs Does now more end × (IsUp g now → (store_value g now ≡ store_value g was) × (now.tables ≡ was.tables))
+    refused_behind start end calls before more command fault runs is =
+        let cut = runs_split Does start end before (Executed command (Err fault) ∷ more) (subst (λ cs. Runs Does start cs end) is runs) in
+        (cut.0, cut.2.0, cut.1, cut.2.1, cut.2.2, λ up. (does_call cut.0 cut.2.0 (Executed command (Err fault)) cut.2.1).0.unchanged refl up)
 
   -- ---- a crash
 
@@ -165,7 +172,7 @@ module _ {S : Type 0} (g : Ghosts S) where
   shut_call old new _ does shut clean db may = kept_only old shut (does.1.survives.crash clean db may)
 
   -- what calls leave that found it so, and that none of them was answered
-  shut_calls : (start end : FullText S) (calls : List Call) → Runs g start calls end → (IsUp g start → ⊥) → IsCleanAt end → (db : Trees) → (shows g end.store).may_leave db → (shows g start.store).may_leave db
+  shut_calls : (start end : FullText S) (calls : List Call) → Runs (DoesCall g) start calls end → (IsUp g start → ⊥) → IsCleanAt end → (db : Trees) → (shows g end.store).may_leave db → (shows g start.store).may_leave db
   shut_calls start end [] same shut clean db may = subst (λ (k : FullText S). (shows g k.store).may_leave db) same may
   shut_calls start end (call ∷ calls) runs shut clean db may =
       shut_call start runs.0 call runs.1 shut (clean_before runs.0 end calls runs.2 clean) db
@@ -178,7 +185,7 @@ module _ {S : Type 0} (g : Ghosts S) where
       go true is = absurd (refused is)
       go false is = is
 
-  none_answered : (start end : FullText S) (calls : List Call) → Runs g start calls end → (IsUp g start → ⊥) → IsCleanAt end → list_any is_answered calls ≡ false
+  none_answered : (start end : FullText S) (calls : List Call) → Runs (DoesCall g) start calls end → (IsUp g start → ⊥) → IsCleanAt end → list_any is_answered calls ≡ false
   none_answered start end [] same shut clean = refl
   none_answered start end (call ∷ calls) runs shut clean =
       let mid_clean = clean_before runs.0 end calls runs.2 clean in
@@ -220,7 +227,7 @@ module _ {S : Type 0} (g : Ghosts S) where
       running (call ∷ front) more one (ap (λ cs. call ∷ cs) is) none
       (subst₂ (λ c n. HoldsLeft (contents_with one c) (names_with one n) db) (left_after first call front) (names_after names call front) it)
 
-  crash_after : (start end : FullText S) (calls : List Call) (first : Contents) → Runs g start calls end → IsCleanAt end → IsUp g start → Holds g start first → SurvivesCrash g start → (db : Trees) → (shows g end.store).may_leave db → LeftAfter first (store_value g start).noted calls db
+  crash_after : (start end : FullText S) (calls : List Call) (first : Contents) → Runs (DoesCall g) start calls end → IsCleanAt end → IsUp g start → Holds g start first → SurvivesCrash g start → (db : Trees) → (shows g end.store).may_leave db → LeftAfter first (store_value g start).noted calls db
   unfolding left_by
   crash_after start end [] first same clean up holds settled db may =
       at_rest (left_here start first holds settled up db (subst (λ (k : FullText S). (shows g k.store).may_leave db) same may))
@@ -249,10 +256,30 @@ module _ {S : Type 0} (g : Ghosts S) where
               at_rest (subst₂ (λ c n. HoldsLeft c n db) (sym same.0) (sym same.1) it)
           shut (inr it) = running [] calls call refl none it
 
-pub kept : {S : Type 0} (g : Ghosts S) → KeptByCalls g
-kept g start end calls first clean holds settled runs = record {
-  stands = λ before more call is done. stands_behind g start end calls before more call first clean holds runs is done;
-  ends = λ is_open. stands_up g start end calls first (record { clean = clean; is_open = is_open }) holds runs;
-  refused = λ before more command fault is. refused_behind g start end calls before more command fault runs is;
-  crash = λ up db may. crash_after g start end calls first runs clean up holds settled db may;
+kept_by : {S : Type 0} (g : Ghosts S) (Does : FullText S → Call → FullText S → Type 0) → ((old new : FullText S) (call : Call) → Does old call new → DoesCall g old call new) → KeptByCalls g Does
+kept_by g Does does_call start end calls first clean holds settled runs = record {
+  stands = λ before more call is done. stands_behind g Does does_call start end calls before more call first clean holds runs is done;
+  ends = λ is_open. stands_up g start end calls first (record { clean = clean; is_open = is_open }) holds plainly;
+  refused = λ before more command fault is. refused_behind g Does does_call start end calls before more command fault runs is;
+  crash = λ up db may. crash_after g start end calls first plainly clean up holds settled db may;
 }
+  where
+    plainly : Runs (DoesCall g) start calls end
+    plainly = runs_plainly g Does does_call start end calls runs
+
+pub kept : {S : Type 0} (g : Ghosts S) → KeptByCalls g (DoesCall g)
+kept g = kept_by g (DoesCall g) (λ old new call does. does)
+
+-- ---- where the causes are known
+
+pub does_plainly : {S : Type 0} (g : Ghosts S) (old new : FullText S) (call : Call) → DoesForCause g old call new → DoesCall g old call new
+does_plainly g old new (Executed command answer) does = (does.0, does.1)
+does_plainly g old new (Noted name is_done) does = does
+does_plainly g old new (Looked is_done) does = does
+
+pub kept_for_causes : {S : Type 0} (g : Ghosts S) → KeptByCalls g (DoesForCause g)
+kept_for_causes g = kept_by g (DoesForCause g) (does_plainly g)
+
+-- the disk did what it was told at each call
+pub clean_at_first : {S : Type 0} (g : Ghosts S) (start end : FullText S) (calls : List Call) → Runs (DoesForCause g) start calls end → HasCleanDisk (shows g end.store) → HasCleanDisk (shows g start.store)
+clean_at_first g start end calls runs clean = clean_before g start end calls (runs_plainly g (DoesForCause g) (does_plainly g) start end calls runs) clean

@@ -1,4 +1,5 @@
 -- The names that several proofs cite, passed on from one place. Declares nothing.
+pub use Rattle.std.specs.Option.{option_or}
 pub use Rattle.std.proofs.lemmas.Bool.{and_parts, and_from, or_parts}
 pub use Rattle.std.proofs.lemmas.Iterator.{YieldsList-from_slice, YieldsList-from_map, items_from_collect}
 pub use Rattle.std.proofs.lemmas.List.{length-map, map-append, take_all, take_more}
@@ -47,10 +48,10 @@ pub use Rattle.ft_content.specs.Command.{Done, Command, Filter, Match, Delete, D
 pub use Rattle.ft_content.specs.Command.{OffsetsOf, Rebuild, Update, Check, Item, Optimize, Rows, Select}
 pub use Rattle.ft_content.specs.Content.{Content, IsContent, Documents, same_name, Column, content_rows, repeats_name, names_of, TableRows}
 pub use Rattle.ft_content.specs.Content.{skipped_from, CellRow, document_rows, is_docid}
-unfoldable pub use Rattle.ft_content.specs.Deserved.{deserved, inserted_rows}
-pub use Rattle.ft_content.specs.Deserved.{Contents, Table, TableState, table_named, Sound, Loose, query_fault, Stale, docids_named, made_columns}
-pub use Rattle.ft_content.specs.Deserved.{or_else, first_of, has_docid, is_offsets, create_fault, is_match, moves_fault, on_found, on_sound}
-pub use Rattle.ft_content.specs.Deserved.{delete_tests, has_column, items_in, listed_columns, update_tests}
+unfoldable pub use Rattle.ft_content.specs.Step.{deserved, inserted_rows}
+pub use Rattle.ft_content.specs.Step.{Contents, Table, TableState, table_named, Sound, Loose, query_fault, Stale, docids_named, made_columns}
+pub use Rattle.ft_content.specs.Step.{held_content, first_of, has_docid, is_offsets, create_fault, is_match, moves_fault, on_found, on_sound}
+pub use Rattle.ft_content.specs.Step.{delete_tests, has_column, items_in, listed_columns, update_tests}
 unfoldable pub use Rattle.ft_content.specs.Index.{index_rows}
 pub use Rattle.ft_content.specs.Index.{IndexRows, Spot, Key}
 pub use Rattle.ft_content.specs.Meaning.{content_documents}
@@ -69,13 +70,12 @@ pub use Rattle.ft_documents.specs.Rewrite.{shown_rewrite, Rewrite, AreRight, rew
 pub use Rattle.ft_documents.specs.Rewrite.{under_docids, removal, rewritten_content}
 pub use Rattle.ft_documents.specs.Tables.{table_rows, table_index, IsOfDocids}
 pub use Rattle.ft_documents.specs.declared.documents.Document.{Document}
-unfoldable pub use Rattle.ft_index.specs.Called.{left_by}
+unfoldable pub use Rattle.ft_index.specs.Kept.{left_by}
 pub use Rattle.ft_index.specs.Changed.{with_tables, Does, MakesRows}
-pub use Rattle.ft_index.specs.Crashes.{LeavesRead, SurvivesCrash}
+pub use Rattle.ft_index.specs.Kept.{Leaves, SurvivesCrash}
 pub use Rattle.ft_index.specs.DocumentsRead.{Looks, HasRows}
-pub use Rattle.ft_index.specs.Kept.{AreHeld, StoreHolds, table_info, PlansFrom, Stands, FullText, IsUp, ReachesStep, Answers, Executes, held_columns}
+pub use Rattle.ft_index.specs.Kept.{AreHeld, StoreHolds, table_info, PlansFrom, Stands, FullText, IsUp, ReachesStep, Answers, Executes}
 pub use Rattle.ft_index.specs.Kept.{is_outside, KeepsOthers, HoldsTable, is_sound, IsOutside, store_value, AreSound, Holds, OnlyLooks, StaysNear}
-pub use Rattle.ft_index.specs.Kept.{no_rows}
 pub use Rattle.ft_index.specs.Opened.{IsListed, state_of, AreMarked, HasState, HasTableMark, IsNamed}
 pub use Rattle.ft_index.specs.Planned.{table_change, PlansTable, changes_of}
 pub use Rattle.ft_index.specs.Refused.{AreThere, BlamesMade, AreRewrites, BlamesDone, alone, behind}

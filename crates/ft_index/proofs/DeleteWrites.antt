@@ -1,11 +1,11 @@
 -- What a Delete writes.
 use Rattle.std.proofs.Common.{◌≡◌, ◌⊎◌, inl, inr, ℕ, Bool, true, false, cond, not, List, [], ◌∷◌, ◌++◌, map, filter, Option, Some, None, ℤ, refl, sym, ap, ◌∙◌, ◌≢◌}
 use Rattle.ft_index.proofs.Common.{Cell, Fault, Content, Documents, IsContent, Filter, Delete, Done, is_chosen, chosen, bare_content, column_of}
-use Rattle.ft_index.proofs.Common.{Contents, first_of, or_else, delete_tests, query_fault, deserved, deleted, docids_of, with_documents, on_table}
+use Rattle.ft_index.proofs.Common.{Contents, first_of, option_or, delete_tests, query_fault, deserved, deleted, docids_of, with_documents, on_table}
 use Rattle.ft_index.proofs.Common.{after, touched, reply_to, removal, LeadsTo, WritesTable}
 use Rattle.ft_values.specs.declared.fault.Fault.TheVariants as faults
 use Rattle.ft_values.specs.declared.table.Column as source
-use Rattle.ft_content.specs.Deserved.{delete_fault}
+use Rattle.ft_content.specs.Step.{delete_fault}
 use Rattle.ft_content.proofs.{delete_keeps_content}
 use Rattle.ft_index.proofs.SelectAnswers.{unnamed_bare, query_bare}
 use Rattle.ft_index.proofs.ChosenWrites.{each_rewritten, chosen_lead, own_docids}
@@ -59,14 +59,14 @@ module _ (f : Filter) where
 
     -- a test that refuses it, and a text that does
     pub tested_due : (fault : Fault) → delete_tests table (bare_content cols) f ≡ Some fault → due table content ≡ Some fault
-    tested_due fault tested = ap (λ o. or_else o (query_fault content f)) (tests_are ∙ tested)
+    tested_due fault tested = ap (λ o. option_or o (query_fault content f)) (tests_are ∙ tested)
 
     pub text_due : (fault : Fault) → delete_tests table (bare_content cols) f ≡ None → (fault ≢ faults.Memory → query_fault (bare_content cols) f ≡ Some fault) → ((fault ≡ faults.Store) ⊎ (fault ≡ faults.Memory)) ⊎ (due table content ≡ Some fault)
     text_due fault tested refused = go (memory_or fault)
       where
         go : (fault ≡ faults.Memory) ⊎ (fault ≢ faults.Memory) → ((fault ≡ faults.Store) ⊎ (fault ≡ faults.Memory)) ⊎ (due table content ≡ Some fault)
         go (inl memory) = inl (inr memory)
-        go (inr other) = inr (ap (λ o. or_else o (query_fault content f)) (tests_are ∙ tested) ∙ sym (query_bare (map column_of cols) content f columns_are) ∙ refused other)
+        go (inr other) = inr (ap (λ o. option_or o (query_fault content f)) (tests_are ∙ tested) ∙ sym (query_bare (map column_of cols) content f columns_are) ∙ refused other)
 
     pub none_due : delete_tests table (bare_content cols) f ≡ None → query_fault (bare_content cols) f ≡ None → due table content ≡ None
-    none_due tested fine = ap (λ o. or_else o (query_fault content f)) (tests_are ∙ tested) ∙ sym (query_bare (map column_of cols) content f columns_are) ∙ fine
+    none_due tested fine = ap (λ o. option_or o (query_fault content f)) (tests_are ∙ tested) ∙ sym (query_bare (map column_of cols) content f columns_are) ∙ fine

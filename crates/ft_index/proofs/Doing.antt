@@ -7,11 +7,11 @@ use Rattle.ft_index.proofs.Common.{with_documents, on_table, with_tables, Reache
 use Rattle.ft_index.proofs.Common.{is_outside, table_info, Answers, StoreHolds, doubt, Documents, same_name, survives_weaker, IsStored}
 use Rattle.ft_index.proofs.Common.{AllByRecursion, All-weaker, All-from_recursion, RowChange, shown_change, TakesOut, IsPlainFault, IsChangeFault}
 use Rattle.ft_index.proofs.Common.{fault_of_read, StoreFault, AddTable, Note, RustReply, Select, Filter, Items, Rows, table_named}
-use Rattle.ft_index.proofs.Common.{answer_of, FullText, OnlyLooks, store_value, SurvivesCrash, LeavesRead, Does, MakesRows, CountsFound, CountsHeld}
+use Rattle.ft_index.proofs.Common.{answer_of, FullText, OnlyLooks, store_value, SurvivesCrash, Leaves, Does, MakesRows, CountsFound, CountsHeld}
 use Rattle.ft_index.proofs.Common.{CountsRows, CountsCommand, All-nil, put, find, by_order, where_key, map-map, Hit, PlainHit, plain_hit, AreInOrder}
 use Rattle.ft_index.proofs.Common.{ListKey, list_key_cmp, IsBlamed, Cell, chosen, is_chosen, cut, query_in, Column, IsContent, hit_read, chosen_hits}
 use Rattle.ft_index.proofs.Common.{as_wanted, AreThere, AreRewrites, BlamesMade, Key, Spot, IndexRows, index_rows, HasContent, table_index}
-use Rattle.ft_index.proofs.Common.{IsSoundNamed, info_named, held_columns, PlansTo, BlamesDone}
+use Rattle.ft_index.proofs.Common.{IsSoundNamed, info_named, held_content, PlansTo, BlamesDone}
 use Rattle.ft_query.specs.Lists.{Reaches, Stays, Goes, Ends}
 use Rattle.ft_store.proofs.{kept_then}
 use Rattle.ft_content.specs.Command.{Reply}
@@ -19,7 +19,7 @@ use Rattle.ft_index.specs.Changed.{Changed, DoesAsked, LooksAsked, MakesAsked}
 use Rattle.ft_index.proofs.NameLemmas.{apart_after}
 use Rattle.ft_index.proofs.OneTable.{keeps_same, sound_rows, sound_table}
 use Rattle.ft_index.proofs.TablePlans.{refused_answers}
-use Rattle.ft_index.specs.Crashes.{CommandSurvives, HoldsAfter}
+use Rattle.ft_index.specs.Kept.{CommitsCommand, HoldsLeft}
 use Rattle.ft_values.specs.declared.rows.RowChange.TheVariants as row
 use Rattle.ft_rows.specs.Changes.{CanApply}
 use Rattle.ft_store.specs.Kept.{Pings, ReadsRows}
@@ -236,7 +236,7 @@ module _ {S : Type 0} (g : Ghosts S) where
 
   -- row changes after reads that lead to it
   pub crash_reached : (old mid new : StoreState S) (tables others : List TableInfo) (command : Command) (changes : List Change) → Looks g old mid → (HasCleanDisk (shows g mid) → IsTrue (shows g old).is_open → IsTrue (shows g mid).is_open) →
-      (IsUp g (with_tables mid tables) → (first : Contents) → AreHeld (value_in g old) tables first → ReachesStep first command (value_in g old) changes) → Survives (shows g mid) (shows g new) (CommitsRows mid changes) → CommandSurvives g (with_tables old tables) command (with_tables new others)
+      (IsUp g (with_tables mid tables) → (first : Contents) → AreHeld (value_in g old) tables first → ReachesStep first command (value_in g old) changes) → Survives (shows g mid) (shows g new) (CommitsRows mid changes) → Survives (shows g old) (shows g new) (CommitsCommand g (with_tables old tables) command)
   crash_reached old mid new tables others command changes looks live reaches survives =
       survives_then (shows g old) (shows g mid) (shows g new) _ _ _ (λ clean db none up first holds. absurd (none up.is_open)) (λ clean db commits up first holds.
       let c : doubt (shows g new).is_clean ≡ 0 = clean in
@@ -340,7 +340,7 @@ module _ {S : Type 0} (g : Ghosts S) (old mid : StoreState S) (result : Result (
       crash = survives_then (shows g old) (shows g mid) (shows g new.store) (λ _. ⊥) _ _ (λ clean db none. absurd none) (λ clean db commits.
           let up = up_mid tables (clean_before (shows g mid) (shows g new.store) does.crash clean) in
           let same : value_in g mid ≡ value_in g old = looks_same g old mid tables pinged up in
-          (looks_up g old mid tables tables pinged up, λ old_up first holds. subst (λ v. HoldsAfter v first command db) same (commits up first (subst (λ v. AreHeld v tables first) (sym same) holds)))) it.survives does.crash;
+          (looks_up g old mid tables tables pinged up, λ old_up first holds. subst (λ (v : StoreValue). HoldsLeft (step first command).1 v.noted db) same (commits up first (subst (λ v. AreHeld v tables first) (sym same) holds)))) it.survives does.crash;
       live = λ clean. on_ok_from answer _ _ (λ done stays. stays (asked (clean_before (shows g mid) (shows g new.store) does.crash clean))) (does.live clean);
     }
       where
@@ -378,7 +378,7 @@ read_looks g old new tables read it =
     record { was_up = λ up. looks_up g old new tables tables looks up; value = λ up. looks_same g old new tables looks up; survives = looks.survives; tables = refl }
 
 -- and what it leaves of full-text tables
-pub read_leaves : {S X : Type 0} (g : Ghosts S) (old new : StoreState S) (tables : List TableInfo) (read : Result X StoreFault) → LooksAsked g old new read → SurvivesCrash g (with_tables old tables) → LeavesRead g (with_tables old tables) (is_ok read) (with_tables new tables)
+pub read_leaves : {S X : Type 0} (g : Ghosts S) (old new : StoreState S) (tables : List TableInfo) (read : Result X StoreFault) → LooksAsked g old new read → SurvivesCrash g (with_tables old tables) → Leaves g (with_tables old tables) (with_tables new tables) (is_ok read) (λ _. ⊥)
 read_leaves g old new tables read it settled =
     let only = read_looks g old new tables read it in
     record {
@@ -554,7 +554,7 @@ over_sound store tables contents name known order held named =
     record {
       content = t.content;
       has = subst (λ (k : TableInfo). HasContent k.name t.content k.id store) t.told (sound_rows store tables contents name known t order held);
-      columns_are = ap held_columns (sym t.held) ∙ ap (λ (k : TableInfo). k.columns) t.told;
+      columns_are = ap (λ (h : TableState). (held_content h).columns) (sym t.held) ∙ ap (λ (k : TableInfo). k.columns) t.told;
     }
 
 -- what a call is answered by a fault

@@ -1,13 +1,14 @@
 -- What an Insert writes.
 use Rattle.std.proofs.Common.{◌≡◌, inl, inr, ℕ, Bool, true, false, cond, not, List, [], ◌∷◌, map, filter, zip, Option, Some, None, Result, Ok, Err, ℤ, refl, sym, ap, subst, ◌∙◌, Contains, Vec, is_some, Global, int_cmp, int_eq}
 use Rattle.ft_index.proofs.Common.{Contains-append_left, Contains-push, same_int, unwrap_or, AllByRecursion, find, Cell, Fault, Content}
-use Rattle.ft_index.proofs.Common.{Documents, IsContent, names_of, repeats_name, Insert, Done, bare_content, column_of, Contents, or_else}
+use Rattle.ft_index.proofs.Common.{Documents, IsContent, names_of, repeats_name, Insert, Done, bare_content, column_of, Contents, option_or}
 use Rattle.ft_index.proofs.Common.{listed_columns, inserted_rows, has_docid, inserted, with_documents, on_table, after, touched, reply_to, Rewrite}
 use Rattle.ft_index.proofs.Common.{shown_rewrite, rewritten, WritesDocuments, WritesTable}
 use Rattle.std.proofs.lemmas.List.Elements.{Contains-append_right}
 use Rattle.ft_values.specs.declared.table.Column.{Column}
-use Rattle.ft_content.specs.Deserved.{insert_tests, insert_fault, fault_if_any}
-use Rattle.ft_content.specs.Step.{inserted_into, new_docids}
+use Rattle.std.specs.Result.{result_err, result_unwrap_or}
+use Rattle.ft_content.specs.Step.{insert_tests, insert_fault}
+use Rattle.ft_content.specs.Step.{new_docids}
 use Rattle.ft_content.proofs.{insert_keeps_content}
 use Rattle.ft_documents.specs.declared.rewrite.Rewrite as source
 use Rattle.ft_documents.specs.Inserted.{IsNewIn, MakesDocuments}
@@ -85,8 +86,8 @@ module _ (columns : Option (List (List ℕ))) (rows : List (List Cell)) where
       WritesDocuments content (due content) (made content) (news content) result
   writes name content (Ok rewrites) is tested h =
       let rs = map shown_rewrite rewrites.items in
-      let fine : due content ≡ None = ap (λ o. or_else o (fault_if_any (Made content))) tested ∙ ap fault_if_any h.made in
-      let leads : rewritten rs content.documents ≡ made content = sym (ap (inserted_into content.documents) h.made) in (
+      let fine : due content ≡ None = ap (λ o. option_or o (result_err (Made content))) tested ∙ ap result_err h.made in
+      let leads : rewritten rs content.documents ≡ made content = sym (ap (λ r. result_unwrap_or r content.documents) h.made) in (
         fine,
         record {
           are_of = are_of name content rs h.rising h.befores (subst (λ ds. IsContent name (record content { documents = ds })) (sym leads) (insert_keeps_content name content columns rows is fine));
@@ -95,11 +96,11 @@ module _ (columns : Option (List (List ℕ))) (rows : List (List Cell)) where
         },
       )
   writes name content (Err fault) is tested (inl memory) = inl (inr memory)
-  writes name content (Err fault) is tested (inr fails) = inr (ap (λ o. or_else o (fault_if_any (Made content))) tested ∙ ap fault_if_any fails)
+  writes name content (Err fault) is tested (inr fails) = inr (ap (λ o. option_or o (result_err (Made content))) tested ∙ ap result_err fails)
 
   -- a test that refuses it
   pub tested_writes : (content : Content) (fault : Fault) → insert_tests content (listed_columns content columns) rows ≡ Some fault → due content ≡ Some fault
-  tested_writes content fault tested = ap (λ o. or_else o (fault_if_any (Made content))) tested
+  tested_writes content fault tested = ap (λ o. option_or o (result_err (Made content))) tested
 
   -- tests of the columns alone are tests of the content
   pub names_are : (content : Content) (cols : List Column) (names : List (List ℕ)) → content.columns ≡ map column_of cols → names ≡ listed_columns (bare_content cols) columns → names ≡ listed_columns content columns

@@ -18,4 +18,4 @@ mod SelectAnswers
 mod AskedRows
 mod Doing
 -- a clean disk at the end of calls was clean at their start
-pub use Rattle.ft_index.proofs.Calls.{clean_before}
+pub use Rattle.ft_index.proofs.Calls.{clean_at_first}

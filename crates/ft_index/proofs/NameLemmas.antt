@@ -5,7 +5,7 @@ use Rattle.ft_index.proofs.Common.{Update, Delete, Rebuild, TableState, Table, C
 use Rattle.ft_index.proofs.Common.{updated, deleted, with_documents, rebuilt, on_table, after, table_names, left_by, Content, Documents, Sound}
 use Rattle.ft_index.proofs.Common.{is_sound}
 use Rattle.std.specs.Str.{str_to_ascii_lowercase}
-use Rattle.ft_index.specs.Called.{NamesStayApart, is_unsound, NoneGetsUnsound}
+use Rattle.ft_index.specs.Kept.{NamesStayApart, is_unsound, NoneGetsUnsound}
 
 no_or : (a b : Bool) → a ≡ false → b ≡ false → (a || b) ≡ false
 no_or true b h g = absurd (let no = h in cc)

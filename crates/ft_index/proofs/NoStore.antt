@@ -2,8 +2,8 @@
 use Rattle.std.proofs.Common.{◌≡◌, ◌≢◌, inl, inr, ℕ, ℤ, Bool, true, false, cond, List, [], ◌∷◌, ◌&&◌, not, map, is_some, Option, Some, None, Result, Ok, Err, refl, sym, ap, ◌∙◌, slice_get, IfSome, int_cmp, int_eq, is_eq}
 use Rattle.ft_index.proofs.Common.{int_cmp_total, tied_itself, put, Cell, Fault, RustTableInfo, Column, Documents, Contents, Loose, inserted_rows}
 use Rattle.ft_index.proofs.Common.{moves_fault, create_fault, docids_named, has_docid, docids_of, TableInfo, info_names, shown_info}
-use Rattle.ft_index.proofs.Common.{table_names, IsUnfit, no_rows}
-use Rattle.ft_content.specs.Deserved.{insert_row, move_fault, next_docid, new_cells, then_rows, append_document}
+use Rattle.ft_index.proofs.Common.{table_names, IsUnfit}
+use Rattle.ft_content.specs.Step.{insert_row, move_fault, next_docid, new_cells, then_rows, append_document}
 use Rattle.ft_values.specs.declared.fault.Fault.TheVariants as faults
 
 abbrev is_store : Fault → Bool
@@ -29,7 +29,7 @@ created_other contents table module_name options names if_new =
 -- contents that have the names of these tables
 abbrev pub some_contents : List RustTableInfo → Contents
 some_contents [] = []
-some_contents (t ∷ ts) = (t.id, record { name = (shown_info t).name; held = Loose no_rows }) ∷ some_contents ts
+some_contents (t ∷ ts) = (t.id, record { name = (shown_info t).name; held = Loose (record { columns = []; skipped = []; cells = [] }) }) ∷ some_contents ts
 
 pub names_as : (tables : List RustTableInfo) → table_names (some_contents tables) ≡ info_names tables
 names_as [] = refl

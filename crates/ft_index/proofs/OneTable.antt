@@ -9,17 +9,18 @@ use Rattle.ft_index.proofs.Common.{AreInOrder, HasContent, ordering_reverse, put
 use Rattle.ft_index.proofs.Common.{Change, Column, IsContent, names_of, skipped_from, dropped, free_id_from, StoreHolds, DropTable, ClearIndex, Note}
 use Rattle.ft_index.proofs.Common.{all_applied, Documents, content_rows, index_rows, with_documents, IsOfDocids, same_int, find-put, find-where_key}
 use Rattle.ft_index.proofs.Common.{Cell, CellKey, ColumnKey, ListKey, cell_key_cmp, list_key_cmp, column_key_cmp, column_of, Spot, KeepsOthers}
-use Rattle.ft_index.proofs.Common.{no_rows, table_change}
+use Rattle.ft_index.proofs.Common.{table_change}
+use Rattle.ft_rows.specs.Store.{nothing_held}
 use Rattle.std.specs.Str.{str_to_ascii_lowercase}
 use Rattle.ft_content.specs.Views.{table_ids, info_ids}
-use Rattle.ft_content.specs.Deserved.{on_held}
+use Rattle.ft_content.specs.Step.{on_held}
 use Rattle.ft_values.specs.declared.fault.Fault.TheVariants as faults
 use Rattle.std.specs.Cmp.{int_cmp_is}
 use Rattle.std.proofs.lemmas.Int.{ints}
 use Rattle.ft_documents.proofs.{added_rows, added_index, spares_others}
 use Rattle.ft_content.specs.Laws.{content_with}
 use Rattle.ft_documents.specs.RowLaws.{changed_table}
-use Rattle.ft_index.specs.Kept.{has_table_id, no_index}
+use Rattle.ft_index.specs.Kept.{has_table_id}
 
 -- what is known of two that stand in order, and of none
 pub less : (o : Ordering) → is_lt o ≡ true → o ≡ Less
@@ -433,8 +434,8 @@ lifts store new tables contents name known t change order held leaves is rows in
 pub keeps_same : (store : StoreValue) → KeepsOthers store store
 keeps_same store = record {
   noted = refl;
-  rows = λ id none. ap (λ b. cond b no_rows (table_rows id store)) (sym none);
-  index = λ id none. ap (λ b. cond b no_index (table_index id store)) (sym none);
+  rows = λ id none. ap (λ b. table_rows id (cond b nothing_held store)) (sym none);
+  index = λ id none. ap (λ b. table_index id (cond b nothing_held store)) (sym none);
 }
 
 -- of each id, as it is of one and of all others
@@ -449,10 +450,10 @@ at_each_id P id here there other = go (int_eq id other) refl
 keeps_spared : (id : ℤ) (old new : StoreValue) → SparesAllBut id old new → new.noted ≡ old.noted → has_table_id new id ≡ true → ((other : ℤ) → int_eq id other ≡ false → has_table_id new other ≡ has_table_id old other) → KeepsOthers old new
 keeps_spared id old new spares noted named others = record {
   noted = noted;
-  rows = at_each_id (λ k. has_table_id new k ≡ false → table_rows k new ≡ cond (has_table_id old k) no_rows (table_rows k old)) id (λ none. absurd (let no = sym named ∙ none in cc))
-      (λ other apart none. spares.rows other apart ∙ ap (λ b. cond b no_rows (table_rows other old)) (sym none ∙ others other apart));
-  index = at_each_id (λ k. has_table_id new k ≡ false → table_index k new ≡ cond (has_table_id old k) no_index (table_index k old)) id (λ none. absurd (let no = sym named ∙ none in cc))
-      (λ other apart none. spares.index other apart ∙ ap (λ b. cond b no_index (table_index other old)) (sym none ∙ others other apart));
+  rows = at_each_id (λ k. has_table_id new k ≡ false → table_rows k new ≡ table_rows k (cond (has_table_id old k) nothing_held old)) id (λ none. absurd (let no = sym named ∙ none in cc))
+      (λ other apart none. spares.rows other apart ∙ ap (λ b. table_rows other (cond b nothing_held old)) (sym none ∙ others other apart));
+  index = at_each_id (λ k. has_table_id new k ≡ false → table_index k new ≡ table_index k (cond (has_table_id old k) nothing_held old)) id (λ none. absurd (let no = sym named ∙ none in cc))
+      (λ other apart none. spares.index other apart ∙ ap (λ b. table_index other (cond b nothing_held old)) (sym none ∙ others other apart));
 }
 
 -- changes of documents of a table
@@ -495,10 +496,10 @@ none_twice R p (row ∷ rows) = go (p row.0) refl (none_twice R p rows)
 pub keeps_dropped : (id : ℤ) (store : StoreValue) → has_table_id store id ≡ true → KeepsOthers store (applied (DropTable id) store)
 keeps_dropped id store named = record {
   noted = refl;
-  rows = at_each_id (λ k. has_table_id new k ≡ false → table_rows k new ≡ cond (has_table_id store k) no_rows (table_rows k store)) id (λ none. rows_gone ∙ ap (λ b. cond b no_rows (table_rows id store)) (sym named))
-      (λ other apart none. spares.rows other apart ∙ ap (λ b. cond b no_rows (table_rows other store)) (sym none ∙ names other apart));
-  index = at_each_id (λ k. has_table_id new k ≡ false → table_index k new ≡ cond (has_table_id store k) no_index (table_index k store)) id (λ none. index_gone ∙ ap (λ b. cond b no_index (table_index id store)) (sym named))
-      (λ other apart none. spares.index other apart ∙ ap (λ b. cond b no_index (table_index other store)) (sym none ∙ names other apart));
+  rows = at_each_id (λ k. has_table_id new k ≡ false → table_rows k new ≡ table_rows k (cond (has_table_id store k) nothing_held store)) id (λ none. rows_gone ∙ ap (λ b. table_rows id (cond b nothing_held store)) (sym named))
+      (λ other apart none. spares.rows other apart ∙ ap (λ b. table_rows other (cond b nothing_held store)) (sym none ∙ names other apart));
+  index = at_each_id (λ k. has_table_id new k ≡ false → table_index k new ≡ table_index k (cond (has_table_id store k) nothing_held store)) id (λ none. index_gone ∙ ap (λ b. table_index id (cond b nothing_held store)) (sym named))
+      (λ other apart none. spares.index other apart ∙ ap (λ b. table_index other (cond b nothing_held store)) (sym none ∙ names other apart));
 }
   where
     new : StoreValue
@@ -510,14 +511,14 @@ keeps_dropped id store named = record {
     names : (other : ℤ) → int_eq id other ≡ false → has_table_id new other ≡ has_table_id store other
     names other apart = ap is_some (named_without id other store.tables apart)
 
-    rows_gone : table_rows id new ≡ no_rows
+    rows_gone : table_rows id new ≡ table_rows id nothing_held
     rows_gone = λ i. record {
       columns = map (λ (c : ColumnKey × List ℕ). (c.0.1, c.1)) (none_twice column_key_cmp (λ k. int_eq id k.0) store.columns i);
       skipped = map (λ (s : ColumnKey × Unit {0}). s.0.1) (none_twice column_key_cmp (λ k. int_eq id k.0) store.skipped i);
       cells = map (λ (c : CellKey × Cell). record { docid = c.0.1; column = c.0.2; value = c.1 }) (none_twice cell_key_cmp (λ k. int_eq id k.0) store.cells i);
     }
 
-    index_gone : table_index id new ≡ no_index
+    index_gone : table_index id new ≡ table_index id nothing_held
     index_gone = λ i. record {
       lists = map (λ (l : ListKey × List Spot). ((l.0.1, l.0.2), l.1)) (none_twice list_key_cmp (λ k. int_eq id k.0) store.lists i);
       sizes = map (λ (z : CellKey × ℤ). record { docid = z.0.1; column = z.0.2; n = z.1 }) (none_twice cell_key_cmp (λ k. int_eq id k.0) store.sizes i);

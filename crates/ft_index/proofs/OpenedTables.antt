@@ -3,11 +3,11 @@ use Rattle.std.proofs.Common.{◌≡◌, ℕ, List, [], ◌∷◌, ℤ, refl, sy
 use Rattle.ft_index.proofs.Common.{AllZip, TableRows, IndexRows, index_rows, TableState, Sound, Stale, Loose, Table, Contents, StoreValue, table_rows}
 use Rattle.ft_index.proofs.Common.{table_index, Stands, HoldsTable, same_int, where_key, map-append, map-map, HasCleanDisk, Survives, IsBlamed}
 use Rattle.ft_index.proofs.Common.{Database, Ghosts, StoreState, shows, value_in, value_of, Looks, TabRow, Cell, CellKey, ListKey, cell_key_cmp}
-use Rattle.ft_index.proofs.Common.{list_key_cmp, Column, Content, IsContent, content_rows, Key, Spot, TableInfo, held_columns, is_sound}
+use Rattle.ft_index.proofs.Common.{list_key_cmp, Column, Content, IsContent, content_rows, Key, Spot, TableInfo, held_content, is_sound}
 use Rattle.ft_index.proofs.Common.{state_of, IsListed, HasTableMark, shown_table, repeats_name, with_tables, AreHeld, StoreHolds, table_info}
 use Rattle.ft_index.proofs.Common.{AreMarked, AllByRecursion, list_all, AreInOrder, Fault, RustTableInfo, Check, Done, shown_info, table_named}
 use Rattle.ft_index.proofs.Common.{on_found, deserved, step, step_by, reply_to, after, info_named, AreSound, IsNamed}
-use Rattle.ft_index.specs.Called.{HoldsOneContents}
+use Rattle.ft_index.specs.Kept.{HoldsOneContents}
 use Rattle.ft_content.proofs.{contents_are_one, rows_are_read}
 use Rattle.ft_store.proofs.{blamed_then}
 use Rattle.ft_values.specs.declared.rows.CellRow as stored_cell
@@ -30,7 +30,7 @@ use Rattle.std.specs.List.{find}
 use Rattle.std.proofs.lemmas.List.Sums.{AllPass-from_list_all, list_all-from_AllPass}
 use Rattle.std.proofs.lemmas.List.Folds.{list_all-map}
 use Rattle.ft_values.specs.declared.fault.Fault.TheVariants as faults
-use Rattle.ft_content.specs.Deserved.{check_fault}
+use Rattle.ft_content.specs.Step.{check_fault}
 use Rattle.ft_index.proofs.OneTable.{none_named, some_named, IsOne, one_named, ids_sorted, AreHeldIn, held_named}
 
 pub held_once : (name : List ℕ) (rows : TableRows) (index : IndexRows) (a b : TableState) → Stands name rows index a → Stands name rows index b → a ≡ b
@@ -188,7 +188,7 @@ are_named store named table cells l are = (subst (λ n. IsContent n are.content)
 -- ---- what is told of a table
 
 -- the columns of a table are those that its rows say
-pub told_columns : (name : List ℕ) (rows : TableRows) (index : IndexRows) (held : TableState) → Stands name rows index held → columns_said rows ≡ held_columns held
+pub told_columns : (name : List ℕ) (rows : TableRows) (index : IndexRows) (held : TableState) → Stands name rows index held → columns_said rows ≡ (held_content held).columns
 told_columns name rows index (Sound content) stands = said_columns name rows content stands.0 stands.1
 told_columns name rows index (Stale content) stands = said_columns name rows content stands.0 stands.1
 told_columns name rows index (Loose loose) stands = ap (λ (r : TableRows). (content_in r).columns) (sym stands.0)
@@ -196,10 +196,10 @@ told_columns name rows index (Loose loose) stands = ap (λ (r : TableRows). (con
 pub marked : (store : StoreValue) (named : ℤ × List ℕ) (table : TabRow) (known : TableInfo) (state : RowState) → IsListed store named table → StandsSo named.1 (table_rows named.0 store) (table_index named.0 store) state →
     known.id ≡ table.id → known.name ≡ string_bytes table.name → known.columns ≡ columns_said (listed_rows table []) →
     ((held : TableState) → state ≡ state_of held → known.sound ≡ is_sound held) → HasTableMark store named known
-marked store named table known state is so id name columns sound =
+marked store named table known _ is so id name columns sound =
     let same_id = id ∙ ap (λ (l : shown.Listed). l.id) is in
     let same_name = name ∙ ap (λ (l : shown.Listed). l.name) is in
-    let same_columns : known.columns ≡ held_columns so.held = columns ∙ (λ i. columns_said (record { columns = (is i).columns; skipped = (is i).skipped; cells = [] })) ∙ told_columns named.1 (table_rows named.0 store) (table_index named.0 store) so.held so.stands in
+    let same_columns : known.columns ≡ (held_content so.held).columns = columns ∙ (λ i. columns_said (record { columns = (is i).columns; skipped = (is i).skipped; cells = [] })) ∙ told_columns named.1 (table_rows named.0 store) (table_index named.0 store) so.held so.stands in
     let same_mark : known.sound ≡ is_sound so.held = sound so.held so.is in
     record { held = so.held; stands = so.stands; told = λ i. record { id = same_id i; name = same_name i; columns = same_columns i; sound = same_mark i } }
 

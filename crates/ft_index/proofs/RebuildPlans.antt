@@ -6,7 +6,7 @@ use Rattle.ft_index.proofs.Common.{AreInOrder, Change, AddTable, applied, all_ap
 use Rattle.ft_index.proofs.Common.{Content, Documents, IsContent, names_of, skipped_from, content_rows, index_rows, Filter, Delete, TableInfo}
 use Rattle.ft_index.proofs.Common.{shown_info, TableState, Sound, Contents, with_documents, on_table, IsSoundNamed, Rewrite, AreOf, AreRight}
 use Rattle.ft_index.proofs.Common.{HasContent, rewritten_docids, rewritten, rewritten_content, shown_rewrite, table_rows, table_index, IsOfDocids}
-use Rattle.ft_index.proofs.Common.{Written, ReachesStep, AreHeld, KeepsOthers, StoreHolds, Stands, held_columns, table_info, IsNamed, AllByRecursion}
+use Rattle.ft_index.proofs.Common.{Written, ReachesStep, AreHeld, KeepsOthers, StoreHolds, Stands, held_content, table_info, IsNamed, AllByRecursion}
 use Rattle.ft_index.proofs.Common.{Fault, same_name, Rebuild, Done, Stale, Loose, Table, table_named, on_found, deserved, rebuilt, after}
 use Rattle.ft_index.proofs.Common.{reply_to, info_named, with_sound, PlansFrom, state_of}
 use Rattle.std.proofs.lemmas.Float.{T_from_true}
@@ -19,7 +19,7 @@ use Rattle.ft_index.proofs.OpenedTables.{IsTold, told_here}
 use Rattle.ft_index.proofs.DeleteWrites.{due, made, leaves, is_write}
 use Rattle.ft_index.proofs.OneTable.{sound_held, sound_is, LeavesRest, leaves_rest, AreHeldIn, changes_one, keeps_changed, one_spares, none_named, keeps_same, IsOne}
 use Rattle.ft_values.specs.declared.fault.Fault.TheVariants as faults
-use Rattle.ft_content.specs.Deserved.{rebuild_fault}
+use Rattle.ft_content.specs.Step.{rebuild_fault}
 use Rattle.ft_documents.specs.NewDocuments.{new_rewrite}
 use Rattle.ft_index.specs.declared.row_state.RowState.TheVariants as states
 
@@ -83,7 +83,7 @@ anew_change known = AddTable known.id known.name (names_of known.columns) (skipp
 
 module _ (store : StoreValue) (tables : List TableInfo) (contents : Contents) (name : List ℕ) (known : TableInfo) (order : AreInOrder store) (held : AreHeld store tables contents) (t : IsTold store contents name known) where
   -- So a table that is told and is made anew with the documents of a content holds the content.
-  pub anew_holds : (content : Content) (rewrites : List Rewrite) (changes : List Change) (change : TableState → TableState) → IsContent t.table.1.name content → held_columns t.table.1.held ≡ content.columns → AreOf (content_with content.columns []) rewrites → rewritten rewrites [] ≡ content.documents → change t.table.1.held ≡ Sound content →
+  pub anew_holds : (content : Content) (rewrites : List Rewrite) (changes : List Change) (change : TableState → TableState) → IsContent t.table.1.name content → (held_content t.table.1.held).columns ≡ content.columns → AreOf (content_with content.columns []) rewrites → rewritten rewrites [] ≡ content.documents → change t.table.1.held ≡ Sound content →
       AreRight known.id known.columns rewrites changes → All (IsOfDocids known.id (rewritten_docids rewrites)) changes → StoreHolds (all_applied (anew_change known ∷ changes) store) (on_table contents name change) × KeepsOthers store (all_applied (anew_change known ∷ changes) store)
   anew_holds content rewrites changes change is columns_are are made changed = subst Holds t.told (subst (λ cs. Holds (record (table_info t.table) { columns = cs })) (sym columns_are) here)
     where
@@ -120,7 +120,7 @@ delete_reaches {written} store tables contents name changes makes order held nam
     let content = sound.0 in
     let stands = subst (Stands t.table.1.name (table_rows t.table.0 store) (table_index t.table.0 store)) sound.1 t.stands in
     let fits : AreOf (content_with content.columns []) [] = record { rising = refl; befores = All-nil _; afters = All-nil _ } in
-    let done = anew_holds store tables contents name known order held t (content_with content.columns []) [] makes.rest (with_documents (made f)) (bare_content t.table.1.name content stands.0) (ap held_columns sound.1) fits refl
+    let done = anew_holds store tables contents name known order held t (content_with content.columns []) [] makes.rest (with_documents (made f)) (bare_content t.table.1.name content stands.0) (ap (λ (h : TableState). (held_content h).columns) sound.1) fits refl
     (ap (with_documents (made f)) sound.1 ∙ ap (λ ds. Sound (record content { documents = ds })) (none_stay content.documents))
     (subst (λ rs. AreRight known.id known.columns rs makes.rest) none makes.of_written.0) (subst (λ rs. All (IsOfDocids known.id (rewritten_docids rs)) makes.rest) none makes.of_written.1) in
     subst (ReachesStep contents (Delete name f) store) (sym makes.are) (
@@ -185,7 +185,7 @@ module _ (store : StoreValue) (tables : List TableInfo) (contents : Contents) (n
       go : (state : TableState) → t.table.1.held ≡ state → states.Stale ≡ state_of state → (content : Content) × (content.columns ≡ known.columns) × AreOf content rewrites
       go (Stale content) e is =
           let stands = stands_at (Stale content) e in
-          (content_with content.columns [], ap held_columns (sym e) ∙ ap (λ (k : TableInfo). k.columns) t.told, subst (AreOf (content_with content.columns [])) (sym (all content stands.0 stands.1)) (put_anew t.table.1.name content stands.0).1)
+          (content_with content.columns [], ap (λ (h : TableState). (held_content h).columns) (sym e) ∙ ap (λ (k : TableInfo). k.columns) t.told, subst (AreOf (content_with content.columns [])) (sym (all content stands.0 stands.1)) (put_anew t.table.1.name content stands.0).1)
       go _ e is = absurd (let no = is in cc)
 
   -- others are put into the table anew
@@ -198,7 +198,7 @@ module _ (store : StoreValue) (tables : List TableInfo) (contents : Contents) (n
           let stands = stands_at (Stale content) e in
           let put = put_anew t.table.1.name content stands.0 in
           let same = all content stands.0 stands.1 in
-          let done = anew_holds store tables contents name known order held t content (map new_rewrite content.documents) changes rebuilt stands.0 (ap held_columns e) put.1 put.0 (ap rebuilt e)
+          let done = anew_holds store tables contents name known order held t content (map new_rewrite content.documents) changes rebuilt stands.0 (ap (λ (h : TableState). (held_content h).columns) e) put.1 put.0 (ap rebuilt e)
           (subst (λ rs. AreRight known.id known.columns rs changes) same right) (subst (λ rs. All (IsOfDocids known.id (rewritten_docids rs)) changes) same near) in (
             due_at (Stale content) e,
             subst (StoreHolds (all_applied (anew_change known ∷ changes) store)) (sym (rebuild_after contents name)) done.0,

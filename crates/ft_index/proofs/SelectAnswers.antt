@@ -8,9 +8,9 @@ use Rattle.ft_index.proofs.Common.{shown_document, cells_at, document_at, hit_re
 use Rattle.ft_index.proofs.Common.{count_asked, hit_cells, map-map, Value, CellKey, StoreValue, cell_key_cmp, cells_of, document_if, table_rows}
 use Rattle.ft_index.proofs.Common.{Ghosts, AreInOrder, StoreState, value_in, more_rows, Fault, names_of, same_name, Items}
 use Rattle.ft_index.proofs.Common.{Command, Select, Rows, reading, answer_names, answer, TableState, Sound, Table, Contents, table_named, first_of}
-use Rattle.ft_index.proofs.Common.{or_else, has_column, items_in, query_fault, deserved, after, reply_to, step, step_by, TableInfo, bare_content}
+use Rattle.ft_index.proofs.Common.{option_or, has_column, items_in, query_fault, deserved, after, reply_to, step, step_by, TableInfo, bare_content}
 use Rattle.ft_index.proofs.Common.{column_of, info_named, IsUnfit, IsSoundNamed, FullText, IsUp, AreHeld, Executes, PlansFrom, is_outside}
-use Rattle.ft_index.proofs.Common.{held_columns, with_tables, Looks, ReadsFilterAs, IsAsked, CountsHeld, CountsFound, CountsRows, CountsCommand}
+use Rattle.ft_index.proofs.Common.{held_content, with_tables, Looks, ReadsFilterAs, IsAsked, CountsHeld, CountsFound, CountsRows, CountsCommand}
 use Rattle.std.specs.Option.{option_map_or}
 use Rattle.std.proofs.Math.Nat.{mul-add}
 use Rattle.std.proofs.lemmas.List.{drop-take}
@@ -26,8 +26,8 @@ use Rattle.ft_rows.specs.Shown.{shown_cell}
 use Rattle.ft_values.specs.declared.rows.CellRow as row
 use Rattle.ft_store.specs.Docids.{cut_to}
 use Rattle.ft_values.specs.declared.fault.Fault.TheVariants as faults
-use Rattle.ft_content.specs.Deserved.{item_unknown, names_unknown, reading_fault, select_fault}
-use Rattle.ft_content.specs.Step.{answer_of_held, answer_of_found}
+use Rattle.ft_content.specs.Step.{item_unknown, names_unknown, reading_fault, select_fault}
+use Rattle.ft_content.specs.Step.{answer_of_found}
 use Rattle.ft_values.specs.declared.table.Column as source
 use Rattle.ft_query.specs.Reads.{query_of}
 use Rattle.ft_index.proofs.Doing.{executes_read, rows_in, index_in}
@@ -370,13 +370,13 @@ query_bare columns content _ same = refl
 
 pub fault_bare : (table : List ℕ) (columns : List Column) (content : Content) (items : Items) (f : Filter) → content.columns ≡ columns → select_fault table (content_with columns []) items f ≡ select_fault table content items f
 fault_bare table columns content items f same =
-    λ i. or_else (first_of ((unknown_bare table columns content (items_in items) same i || unnamed_bare table columns content f same i, faults.NoSuchColumn) ∷ (list_any is_offsets (items_in items) && not (is_match f), faults.Context) ∷ [])) (query_bare columns content f same i)
+    λ i. option_or (first_of ((unknown_bare table columns content (items_in items) same i || unnamed_bare table columns content f same i, faults.NoSuchColumn) ∷ (list_any is_offsets (items_in items) && not (is_match f), faults.Context) ∷ [])) (query_bare columns content f same i)
 
 -- no test applies: so offsets are asked for with a MATCH alone
 fine_offsets : (table : List ℕ) (content : Content) (items : Items) (f : Filter) → select_fault table content items f ≡ None → (list_any is_offsets (items_in items) && not (is_match f)) ≡ false
 fine_offsets table content items f fine = go (list_any (item_unknown table content) (items_in items) || names_unknown table content f) (list_any is_offsets (items_in items) && not (is_match f)) fine
   where
-    go : (a b : Bool) → or_else (cond a (Some faults.NoSuchColumn) (cond b (Some faults.Context) None)) (query_fault content f) ≡ None → b ≡ false
+    go : (a b : Bool) → option_or (cond a (Some faults.NoSuchColumn) (cond b (Some faults.Context) None)) (query_fault content f) ≡ None → b ≡ false
     go true b h = absurd (let no = h in cc)
     go false true h = absurd (let no = h in cc)
     go false false h = refl
@@ -384,7 +384,7 @@ fine_offsets table content items f fine = go (list_any (item_unknown table conte
 -- ---- a sound table that is told
 
 pub told_columns : (contents : Contents) (name : List ℕ) (known : TableInfo) (t : IsSoundTable contents name known) → t.content.columns ≡ known.columns
-told_columns contents name known t = sym (ap held_columns t.held) ∙ ap (λ (k : TableInfo). k.columns) t.told
+told_columns contents name known t = sym (ap (λ (h : TableState). (held_content h).columns) t.held) ∙ ap (λ (k : TableInfo). k.columns) t.told
 
 -- the rows that are read
 counted : {S : Type 0} (old new : StoreState S) (tables : List TableInfo) (name : List ℕ) (items : Items) (f : Filter) (limit : Option ℕ) (offset : ℕ) (first : Contents) (t : ℤ × Table) (content : Content) → table_named first name ≡ Some t → t.1.held ≡ Sound content →
@@ -437,7 +437,7 @@ module _ {S : Type 0} (g : Ghosts S) (old new : StoreState S) (tables : List Tab
     stepped grid first t none is =
         ap (λ due. step_by due first asked_so) none
         ∙ ap (λ (found : Option (ℤ × Table)). (Ok (answer_of_found found items f limit offset), first)) t.found
-        ∙ ap (λ (held : TableState). (Ok (answer_of_held t.table.1.name held items f limit offset), first)) t.held
+        ∙ ap (λ (held : TableState). (Ok (Rows (answer t.table.1.name (held_content held) items f limit offset)), first)) t.held
         ∙ ap (λ (k : TableInfo). (Ok (Rows (answer k.name t.content items f limit offset)), first)) t.told
         ∙ ap (λ grid. (Ok (Rows grid), first)) (sym is)
 

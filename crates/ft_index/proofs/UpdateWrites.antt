@@ -1,13 +1,13 @@
 -- What an Update deserves, and what it writes.
 use Rattle.std.proofs.Common.{◌≡◌, ◌≢◌, ◌⊎◌, inl, inr, ℕ, Bool, true, false, not, ◌&&◌, ◌||◌, List, [], ◌∷◌, map, length, Option, Some, None, ℤ, refl, sym, ap, ◌∙◌, cond, ◌++◌, subst, nat_lt, slice_get, Contains, Ordering, Less, Equal, Greater, int_cmp, int_eq, is_lt, is_eq}
 use Rattle.ft_index.proofs.Common.{list_all, list_any, AllByRecursion, Cell, Fault, Content, Documents, is_docid, repeats_name, IsContent, Filter}
-use Rattle.ft_index.proofs.Common.{Update, Done, chosen, is_chosen, bare_content, column_of, Contents, first_of, or_else, on_sound, has_column}
+use Rattle.ft_index.proofs.Common.{Update, Done, chosen, is_chosen, bare_content, column_of, Contents, first_of, option_or, on_sound, has_column}
 use Rattle.ft_index.proofs.Common.{docids_named, query_fault, moves_fault, update_tests, deserved, has_docid, updated, with_documents, on_table}
 use Rattle.ft_index.proofs.Common.{after, touched, reply_to, docids_of, without_docid, WritesTable, LeadsTo, same_int, ordering_reverse}
 use Rattle.ft_index.proofs.Common.{int_cmp_total, eq_by_cmp_equiv, put, find, is_sorted, is_sorted-put, is_sorted-where_key, find-put, find-where_key}
 use Rattle.ft_index.proofs.Common.{same_entries, exact_signed, Contains-push, Contains-append_left, Rewrite, under_docids, rewritten}
 use Rattle.ft_content.specs.Content.{is_too_long, has_nul}
-use Rattle.ft_content.specs.Deserved.{is_text, is_null, update_fault, with_values}
+use Rattle.ft_content.specs.Step.{is_text, is_null, update_fault, with_values}
 use Rattle.ft_content.specs.Step.{docid_if_any, moved}
 use Rattle.ft_content.proofs.{update_keeps_content}
 use Rattle.ft_documents.specs.Updated.{update_touches, changing, leaving, coming, moved_from, MayMove}
@@ -47,11 +47,11 @@ module _ (sets : List (List ℕ × Cell)) (f : Filter) where
 
   pub repeats_due : (name : List ℕ) (contents : Contents) → repeats_name names ≡ true → deserved contents (Update name sets f) ≡ Some faults.DuplicateColumn
   unfolding deserved
-  repeats_due name contents twice = ap (λ b. or_else (first_of ((b, faults.DuplicateColumn) ∷ [])) (on_sound contents name due)) twice
+  repeats_due name contents twice = ap (λ b. option_or (first_of ((b, faults.DuplicateColumn) ∷ [])) (on_sound contents name due)) twice
 
   once : (name : List ℕ) (contents : Contents) → repeats_name names ≡ false → deserved contents (Update name sets f) ≡ on_sound contents name due
   unfolding deserved
-  once name contents apart = ap (λ b. or_else (first_of ((b, faults.DuplicateColumn) ∷ [])) (on_sound contents name due)) apart
+  once name contents apart = ap (λ b. option_or (first_of ((b, faults.DuplicateColumn) ∷ [])) (on_sound contents name due)) apart
 
   pub is_write : (name : List ℕ) → repeats_name names ≡ false → IsWrite (Update name sets f) name due made touches
   unfolding touched
@@ -79,7 +79,7 @@ module _ (sets : List (List ℕ × Cell)) (f : Filter) where
 
     -- a test that refuses it
     pub tested_due : (fault : Fault) → update_tests table (bare_content cols) sets f ≡ Some fault → due table content ≡ Some fault
-    tested_due fault tested = ap (λ o. or_else o (or_else (query_fault content f) moves)) (tests_are ∙ tested)
+    tested_due fault tested = ap (λ o. option_or o (option_or (query_fault content f) moves)) (tests_are ∙ tested)
 
     -- the text of its MATCH refuses it, or memory
     pub text_due : (fault : Fault) → update_tests table (bare_content cols) sets f ≡ None → (fault ≢ faults.Memory → query_fault (bare_content cols) f ≡ Some fault) → ((fault ≡ faults.Store) ⊎ (fault ≡ faults.Memory)) ⊎ (due table content ≡ Some fault)
@@ -87,11 +87,11 @@ module _ (sets : List (List ℕ × Cell)) (f : Filter) where
       where
         go : (fault ≡ faults.Memory) ⊎ (fault ≢ faults.Memory) → ((fault ≡ faults.Store) ⊎ (fault ≡ faults.Memory)) ⊎ (due table content ≡ Some fault)
         go (inl memory) = inl (inr memory)
-        go (inr other) = inr (ap (λ o. or_else o (or_else (query_fault content f) moves)) (tests_are ∙ tested) ∙ ap (λ o. or_else o moves) (sym (query_bare (map column_of cols) content f columns_are) ∙ refused other))
+        go (inr other) = inr (ap (λ o. option_or o (option_or (query_fault content f) moves)) (tests_are ∙ tested) ∙ ap (λ o. option_or o moves) (sym (query_bare (map column_of cols) content f columns_are) ∙ refused other))
 
     -- then it is what the docids deserve
     pub moves_due : update_tests table (bare_content cols) sets f ≡ None → query_fault (bare_content cols) f ≡ None → due table content ≡ moves
-    moves_due tested fine = ap (λ o. or_else o (or_else (query_fault content f) moves)) (tests_are ∙ tested) ∙ ap (λ o. or_else o moves) (sym (query_bare (map column_of cols) content f columns_are) ∙ fine)
+    moves_due tested fine = ap (λ o. option_or o (option_or (query_fault content f) moves)) (tests_are ∙ tested) ∙ ap (λ o. option_or o moves) (sym (query_bare (map column_of cols) content f columns_are) ∙ fine)
 
 -- ---- documents that are put and taken out
 

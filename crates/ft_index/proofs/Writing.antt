@@ -4,7 +4,7 @@ use Rattle.ft_index.proofs.Common.{AllByRecursion, recursion_from_All, All-from_
 use Rattle.ft_index.proofs.Common.{ClearIndex, Note, all_applied, Fault, Content, Documents, IsContent, content_rows, Column, index_rows, Command}
 use Rattle.ft_index.proofs.Common.{TableInfo, column_of, shown_info, Contents, table_named, on_sound, deserved, with_documents, on_table, after}
 use Rattle.ft_index.proofs.Common.{touched, info_named, IsUnfit, IsSoundNamed, Rewrite, AreRight, rewritten_docids, rewritten_content, HasContent}
-use Rattle.ft_index.proofs.Common.{shown_rewrite, AreHeld, StoreHolds, StaysNear, PlansFrom, is_outside, IsUp, held_columns, IsOfDocids, LeadsTo}
+use Rattle.ft_index.proofs.Common.{shown_rewrite, AreHeld, StoreHolds, StaysNear, PlansFrom, is_outside, IsUp, TableState, held_content, IsOfDocids, LeadsTo}
 use Rattle.ft_index.proofs.Common.{HasAll, WritesDocuments, WritesIn, PlansTo, Ghosts, StoreState, value_in, with_tables, Written}
 use Rattle.ft_index.proofs.OneTable.{held_named, IsSoundTable, sound_table, sound_is, unfit_is, sound_rows, leaves_rest, lifts, keeps_changed}
 use Rattle.ft_content.specs.Step.{touched_of, touched_found, touched_held}
@@ -87,7 +87,7 @@ module _ {S : Type 0} (g : Ghosts S) (command : Command) (name : List ℕ) (due 
           clean = up.clean;
           is_open = up.is_open;
           has = subst (λ (k : TableInfo). HasContent k.name t.content k.id (value_in g old)) t.told has;
-          columns_are = ap held_columns (sym t.held) ∙ ap (λ (k : TableInfo). k.columns) t.told;
+          columns_are = ap (λ (h : TableState). (held_content h).columns) (sym t.held) ∙ ap (λ (k : TableInfo). k.columns) t.told;
         }
 
     pub plans_fail : (fault : Fault) → ((content : Content) → HasAll g known.id known.name known.columns old new content → WritesDocuments content (due known.name content) (change content) (touch content) (Err fault)) → PlansTo g tables old new command (Err fault)

@@ -11,7 +11,7 @@ use Rattle.ft_content.specs.declared.command.Reply.{Reply}
 use Rattle.ft_content.specs.Command.{Command}
 use Rattle.ft_content.specs.Views.{TableInfo, answer_of}
 use Rattle.ft_index.specs.Kept.{FullText, IsUp, IsOutside, Executes}
-use Rattle.ft_index.specs.Crashes.{CommandSurvives, CommitsCommand}
+use Rattle.ft_index.specs.Kept.{CommitsCommand}
 
 abbrev pub with_tables : {S : Type 0} → StoreState S → List TableInfo → FullText S
 with_tables store tables = record { store = store; tables = tables }
@@ -22,8 +22,8 @@ pub record Changed {S : Type 0} (g : Ghosts S) (old new : StoreState S) (changes
   pub value : (tables : List TableInfo) → IsUp g (with_tables new tables)
       → value_in g new ≡ (if is_done then all_applied changes (value_in g old) else value_in g old)
 
--- What a call leaves that makes changes, all of them or none. A crash leaves what it could leave
--- before, or a store with all of them made; no row is counted as read.
+-- What a call leaves that makes changes, all of them or none. A crash leaves what it could leave before, or a store with all of them made;
+-- no row is counted as read.
 pub record MakesRows {S X : Type 0} (g : Ghosts S) (old new : StoreState S) (changes : List Change) (result : Result X Fault) : Type 0 where
   pub changed : Changed g old new changes (is_ok result)
   pub crash : Survives (shows g old) (shows g new) (λ db. IsTrue (shows g old).is_open → IsStored db (all_applied changes (value_in g old)))
@@ -31,15 +31,14 @@ pub record MakesRows {S X : Type 0} (g : Ghosts S) (old new : StoreState S) (cha
   pub cause : IfErr result IsOutside
   pub unread : new.rows_read ≡ old.rows_read
 
--- What a call of a command does, with its answer: what the definitions say, and what a crash
--- leaves; an answer leaves the store open, if it was.
+-- What a call of a command does, with its answer: what the definitions say, and what a crash leaves; an answer leaves the store open, if it
+-- was.
 pub record Does {S : Type 0} (g : Ghosts S) (old : FullText S) (command : Command) (answer : Result Reply Fault) (new : FullText S) : Type 0 where
   pub executes : Executes g old command (answer_of answer) new
-  pub crash : CommandSurvives g old command new
+  pub crash : Survives (shows g old.store) (shows g new.store) (CommitsCommand g old command)
   pub live : HasCleanDisk (shows g new.store) → OnOk answer (IsTrue (shows g old.store).is_open → IsTrue (shows g new.store).is_open)
 
--- What is left of a store that is asked first whether it is open: an answer says that it is, and
--- only a store that was up commits.
+-- What is left of a store that is asked first whether it is open: an answer says that it is, and only a store that was up commits.
 pub record MakesAsked {S X : Type 0} (g : Ghosts S) (old new : StoreState S) (changes : List Change) (result : Result X Fault) : Type 0 where
   pub changed : Changed g old new changes (is_ok result)
   pub crash : Survives (shows g old) (shows g new) (λ db. IsUp g (with_tables old []) × IsStored db (all_applied changes (value_in g old)))

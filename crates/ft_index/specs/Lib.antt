@@ -5,8 +5,6 @@ pub mod DocumentsRead
 pub mod Planned
 pub mod Opened
 pub mod Refused
-pub mod Crashes
-pub mod Called
 -- Steps
 pub mod Walked
 pub mod Changed

@@ -11,7 +11,7 @@ use Rattle.ft_rows.specs.Shown.{shown_table, table_listed}
 use Rattle.ft_content.specs.Content.{TableRows}
 use Rattle.ft_content.specs.Index.{IndexRows}
 use Rattle.ft_content.specs.Views.{TableInfo}
-use Rattle.ft_content.specs.Deserved.{TableState, Sound, Stale, Loose, Contents}
+use Rattle.ft_content.specs.Step.{TableState, Sound, Stale, Loose, Contents}
 use Rattle.ft_index.specs.declared.row_state.RowState.{RowState}
 use Rattle.ft_index.specs.declared.row_state.RowState.TheVariants as states
 use Rattle.ft_index.specs.DocumentsRead.{Looks}
@@ -51,8 +51,8 @@ pub record HasTableMark (store : StoreValue) (named : ℤ × List ℕ) (known : 
 abbrev pub AreMarked : StoreValue → List (ℤ × List ℕ) → List TableInfo → Type 0
 AreMarked store named known = AllZip (HasTableMark store) named known
 
--- A store is taken as it is. Where it is up, what it holds are some contents, and each table has
--- the mark that it has in them; they are the only ones.
+-- A store is taken as it is. Where it is up, what it holds are some contents, and each table has the mark that it has in them; they are the
+-- only ones.
 pub record OpensStore {S : Type 0} (g : Ghosts S) (old : StoreState S) (made : FullText S) : Type 0 where
   pub looks : Looks g old made.store
   pub live : HasCleanDisk (shows g made.store) → IsTrue (shows g made.store).is_open

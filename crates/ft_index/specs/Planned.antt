@@ -11,7 +11,7 @@ use Rattle.ft_values.specs.declared.table.TableInfo.{TableInfo}
 use Rattle.ft_content.specs.declared.command.Creation.{Creation}
 use Rattle.ft_content.specs.Command.{Command}
 use Rattle.ft_content.specs.Views.{shown_info, column_of, option_of, names_in, creation_of}
-use Rattle.ft_content.specs.Deserved.{Contents, table_named, made_columns, deserved}
+use Rattle.ft_content.specs.Step.{Contents, table_named, made_columns, deserved}
 use Rattle.ft_content.specs.Step.{free_id_from, made_column}
 use Rattle.ft_index.specs.Kept.{AreHeld, PlansFrom}
 

@@ -1,5 +1,5 @@
 -- Meaning. Why a call over tables is answered `Store`. All of it is our own choice.
-use Rattle.std.specs.Prelude.{◌≡◌, ◌⊎◌, ℕ, List, ◌∷◌, ℤ, Result, Err, All, IsSome, IsTrue}
+use Rattle.std.specs.Prelude.{◌≡◌, ◌⊎◌, ℕ, List, ◌∷◌, ℤ, Result, Err, All, IsSome, IsTrue, is_ok}
 use Rattle.std.specs.List.{flat_map}
 use Rattle.std.specs.Ordering.{int_cmp}
 use Rattle.std.specs.FinMap.Entries.{find}
@@ -16,10 +16,11 @@ use Rattle.ft_values.specs.declared.fault.Fault.TheVariants as faults
 use Rattle.ft_content.specs.Command.{Command, Reply}
 use Rattle.ft_content.specs.Content.{Content}
 use Rattle.ft_content.specs.Views.{TableInfo}
-use Rattle.ft_content.specs.Deserved.{Contents}
+use Rattle.ft_content.specs.Step.{Contents}
 use Rattle.ft_documents.specs.Rewrite.{Rewrite, AreOf, HasContent}
 use Rattle.ft_documents.specs.RewriteRows.{rewrite_changes}
-use Rattle.ft_index.specs.Kept.{FullText, AreHeld, Holds, ReachesStep, BlamesStore, puts_rows, store_value}
+use Rattle.ft_index.specs.Kept.{FullText, AreHeld, Holds, Executes, ReachesStep, BlamesStore, puts_rows, store_value}
+use Rattle.ft_index.specs.Kept.{Call, CommitsCommand, DoesCall, Executed, Leaves}
 
 -- ---- calls that read at most
 
@@ -27,8 +28,7 @@ use Rattle.ft_index.specs.Kept.{FullText, AreHeld, Holds, ReachesStep, BlamesSto
 abbrev pub NeverStore : {X : Type 0} → Result X Fault → Type 0
 NeverStore result = result ≡ Err faults.Store → ⊥
 
--- Where a table has a content of which this holds, a call is answered so only for what lies outside
--- the store.
+-- Where a table has a content of which this holds, a call is answered so only for what lies outside the store.
 abbrev pub BlamesContent : {S X : Type 0} → Ghosts S → ℤ → StoreState S → StoreState S → Result X Fault → (Content → Type 0) → Type 0
 BlamesContent g tab old new result Asked = (name : List ℕ) (content : Content) → HasContent name content tab (value_in g old) → Asked content
     → BlamesStore (shows g old) (shows g new) result
@@ -43,8 +43,8 @@ AreThere content docids = All (λ docid. IsSome (find int_cmp docid content.docu
 
 -- ---- commands that put rows
 
--- Row changes that follow from documents of one table which are written anew, each of them once: its
--- rows that differ, and those of its index.
+-- Row changes that follow from documents of one table which are written anew, each of them once: its rows that differ, and those of its
+-- index.
 pub record AreRewrites (tab : ℤ) (changes : List Change) : Type 0 where
   pub content : Content
   pub groups : List (List Rewrite)
@@ -61,8 +61,7 @@ pub data AreOwn : List Change → Type 0 where
 abbrev pub CantMake : Trees → List Change → Type 0
 CantMake db changes = CantPutAll db changes ⊎ ¬ All CanMake changes
 
--- Row changes can't be made that a command comes to: they are of documents which are written anew,
--- and lead to what it leaves.
+-- Row changes can't be made that a command comes to: they are of documents which are written anew, and lead to what it leaves.
 pub record CantDo (contents : Contents) (command : Command) (store : StoreValue) (db : Trees) : Type 0 where
   pub puts : IsTrue (puts_rows command)
   pub changes : List Change
@@ -80,9 +79,16 @@ abbrev pub BlamesDone : {S X : Type 0} → Ghosts S → List TableInfo → Store
 BlamesDone g tables old command new result = (contents : Contents) → AreHeld (value_in g old) tables contents → HasCleanDisk (shows g new)
     → result ≡ Err faults.Store → IsBlamed (shows g old) (shows g new) ⊎ CantDo contents command (value_in g old) (shows g old).now.trees
 
--- A command is answered `Store` only for what lies outside the store, or since the row changes that
--- it comes to can't be put over what the store held before. One that puts no rows has the first
--- cause alone.
+-- A command is answered `Store` only for what lies outside the store, or since the row changes that it comes to can't be put over what the
+-- store held before. One that puts no rows has the first cause alone.
 abbrev pub BlamesCommand : {S : Type 0} → Ghosts S → FullText S → Command → Result Reply Fault → FullText S → Type 0
 BlamesCommand g old command answer new = HasCleanDisk (shows g new.store) → answer ≡ Err faults.Store → IsBlamed (shows g old.store) (shows g new.store)
     ⊎ ((contents : Contents) × Holds g old contents × CantDo contents command (store_value g old) (shows g old.store).now.trees)
+
+-- ---- calls of which the causes are known
+
+-- what a call does, what it leaves, and why a command is refused
+abbrev pub DoesForCause : {S : Type 0} → Ghosts S → FullText S → Call → FullText S → Type 0
+DoesForCause g old (Executed command answer) new =
+    Executes g old command answer new × Leaves g old new (is_ok answer) (CommitsCommand g old command) × BlamesCommand g old command answer new
+DoesForCause g old call new = DoesCall g old call new

@@ -8,7 +8,7 @@ use Rattle.ft_values.specs.declared.fault.Fault.{Fault}
 use Rattle.ft_content.specs.Content.{Content, is_docid}
 use Rattle.ft_content.specs.Command.{Filter, All, Docid, Match, Item, AllColumns, Named, OffsetsOf, Items, Counted, Listed, Command, Select, Reply, Rows}
 use Rattle.ft_content.specs.Answer.{query_in, chosen, cut}
-use Rattle.ft_content.specs.Deserved.{TableState, Sound, Stale, Loose, Table, Contents, table_named}
+use Rattle.ft_content.specs.Step.{TableState, Sound, Stale, Loose, Table, Contents, table_named}
 use Rattle.ft_content.specs.Meaning.{content_documents}
 use Rattle.ft_store.specs.Kept.{more_rows}
 use Rattle.sqlite.specs.Store.{Ghosts}
@@ -44,8 +44,8 @@ are_short (Some limit) offset = nat_lt limit (2 ^ 32) && nat_lt offset (2 ^ 32)
 abbrev pub docids_asked : Content → Option ℕ → ℕ → ℕ
 docids_asked content limit offset = if are_short limit offset then length (cut limit offset content.documents) else length content.documents
 
--- to list documents: of all without a limit their cells, if an item is a column; else docids or
--- entries, and then the cells of those that are answered
+-- to list documents: of all without a limit their cells, if an item is a column; else docids or entries, and then the cells of those that
+-- are answered
 abbrev pub list_asked : Content → List Item → Filter → Option ℕ → ℕ → ℕ
 list_asked content items All limit offset =
     if is_some limit || not (list_any reads_document items) then (docids_asked content limit offset + cells_asked content items All limit offset)

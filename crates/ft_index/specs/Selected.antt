@@ -10,7 +10,7 @@ use Rattle.ft_store.specs.Kept.{StoreState}
 use Rattle.ft_content.specs.Content.{Column, Content}
 use Rattle.ft_content.specs.Command.{Filter, Item, Items}
 use Rattle.ft_content.specs.Answer.{cells_with}
-use Rattle.ft_content.specs.Deserved.{is_match, is_offsets, items_in}
+use Rattle.ft_content.specs.Step.{is_match, is_offsets, items_in}
 use Rattle.ft_index.specs.DocumentsRead.{HasRows}
 use Rattle.ft_index.specs.Walked.{IsIndexed}
 use Rattle.ft_documents.specs.Chosen.{ReadsFilterAs}
@@ -20,14 +20,12 @@ abbrev pub hit_cells : List Column → List Item → (ℤ → List Cell) → Hit
 hit_cells columns items cells hit = flat_map (cells_with (Text (offsets_text hit.offsets.items)) (record { columns = columns; documents = [] })
     (hit.docid, cells hit.docid)) items
 
--- The rows and the index rows of a table were those of a content, and the store is up as the call
--- ends.
+-- The rows and the index rows of a table were those of a content, and the store is up as the call ends.
 pub record IsOf {S : Type 0} (g : Ghosts S) (tab : ℤ) (old new : StoreState S) (content : Content) : Type 0 where
   pub rows : HasRows g tab old new content
   pub index : IsIndexed g tab old new content
 
--- They were those of a content with these columns, the text of a MATCH reads as this query, and
--- offsets are asked for with a MATCH alone.
+-- They were those of a content with these columns, the text of a MATCH reads as this query, and offsets are asked for with a MATCH alone.
 pub record IsAsked {S : Type 0} (g : Ghosts S) (tab : ℤ) (named : List Column) (items : Items) (f : Filter) (query : Option Tree) (old new : StoreState S)
     (content : Content) : Type 0 where
   pub held : IsOf g tab old new content

@@ -51,16 +51,16 @@ impl<S: Alter> FullText<S> {
     ghost use Rattle.sqlite.specs.State.{HasCleanDisk};
     ghost use Rattle.ft_rows.specs.Store.{nothing_held, Note};
     ghost use Rattle.ft_values.specs.declared.fault.Fault.TheVariants as faults;
-    ghost use Rattle.ft_content.specs.Deserved.{Contents};
+    ghost use Rattle.ft_content.specs.Step.{Contents};
     ghost use Rattle.ft_content.specs.Views.{shown_info, command_of, answer_of};
-    ghost use Rattle.ft_index.specs.Crashes.{SurvivesCrash, LeavesCommand, LeavesNote, LeavesRead};
     ghost use Rattle.ft_index.specs.Planned.{changes_of};
     ghost use Rattle.ft_index.specs.RowsRead.{CountsRows};
     ghost use Rattle.ft_index.specs.DocumentsRead.{Looks};
     ghost use Rattle.ft_index.specs.Opened.{OpensStore, OpensWhatIsLeft};
     ghost use Rattle.ft_index.specs.Kept.{IsUp, store_value, Holds, AreSound, OnlyLooks, BlamesStore, BlamesChanges, Executes, Plans, Notes};
-    ghost use Rattle.ft_index.specs.Refused.{BlamesCommand};
-    ghost use Rattle.ft_index.specs.Called.{KeptByCalls, NoneGetsUnsound, NamesStayApart, HoldsOneContents};
+    ghost use Rattle.ft_index.specs.Refused.{BlamesCommand, DoesForCause};
+    ghost use Rattle.ft_index.specs.Kept.{CommitsCommand, CommitsNote, DoesCall, HoldsOneContents, KeptByCalls, Leaves, NamesStayApart};
+    ghost use Rattle.ft_index.specs.Kept.{NoneGetsUnsound, SurvivesCrash};
 
     /// Takes a store, and marks each table whose rows aren't documents with exactly the index rows
     /// made from scratch. The store is only read; where a read is refused it is handed back.
@@ -105,8 +105,8 @@ impl<S: Alter> FullText<S> {
     pub fn execute(&mut self, command: &Command) -> Result<Reply, Fault>
         ensures executes { Executes S.Store self.old (command_of command.now) (answer_of result)
             self.new }
-        ensures leaves { LeavesCommand S.Store self.old (command_of command.now) (is_ok result)
-            self.new }
+        ensures leaves { Leaves S.Store self.old self.new (is_ok result)
+            (CommitsCommand S.Store self.old (command_of command.now)) }
 
         // A Select with MATCH reads the entries of its terms, and where an item is a column the
         // documents that it answers.
@@ -158,7 +158,8 @@ impl<S: Alter> FullText<S> {
     /// Notes a name, in its latest spelling. The store is asked first whether it is open.
     pub fn note(&mut self, name: &str) -> Result<(), Fault>
         ensures noted { Notes S.Store self.old name.now (is_ok result) self.new }
-        ensures leaves { LeavesNote S.Store self.old name.now (is_ok result) self.new }
+        ensures leaves { Leaves S.Store self.old self.new (is_ok result)
+            (CommitsNote S.Store self.old name.now) }
         ensures fault { IfErr result (λ fault. (fault ≡ faults.Store) ⊎ (fault ≡ faults.Memory)) }
         ensures refused { BlamesChanges (shows S.Store self.old.store)
             (shows S.Store self.new.store) result (Note name.now ∷ []) }
@@ -182,7 +183,7 @@ impl<S: Alter> FullText<S> {
             ≡ map (λ n. n.1) (store_value S.Store self.old).noted) }
         ensures fault { IfErr result (λ fault. (fault ≡ faults.Store) ⊎ (fault ≡ faults.Memory)) }
         ensures looks { OnlyLooks S.Store self.old self.new }
-        ensures leaves { LeavesRead S.Store self.old (is_ok result) self.new }
+        ensures leaves { Leaves S.Store self.old self.new (is_ok result) (λ _. ⊥) }
         ensures refused { AreNotedTexts (store_value S.Store self.old)
             → BlamesStore (shows S.Store self.old.store) (shows S.Store self.new.store)
             result }
@@ -204,9 +205,14 @@ impl<S: Alter> FullText<S> {
     /// index rows of each sound table are exactly those made from scratch, and each command was
     /// answered by the definitions. No table becomes unsound, and no two get one name.
     pub fn kept_by_calls()
-        ensures kept { KeptByCalls S.Store }
+        ensures kept { KeptByCalls S.Store (DoesCall S.Store) }
         ensures sound { NoneGetsUnsound }
         ensures names { NamesStayApart }
+    {}
+
+    /// The same of calls of which it is known why each command was refused that was.
+    pub fn kept_with_causes()
+        ensures { KeptByCalls S.Store (DoesForCause S.Store) }
     {}
 
     /// What a store holds is settled: no two contents are held by one store. So `new` gives each

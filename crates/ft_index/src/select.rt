@@ -10,7 +10,7 @@ ghost use Rattle.ft_content.specs.Content.{Content};
 ghost use Rattle.ft_content.specs.Command.{Match};
 ghost use Rattle.ft_content.specs.Answer as answer;
 ghost use Rattle.ft_content.specs.Answer.{chosen, query_in};
-ghost use Rattle.ft_content.specs.Deserved as deserved;
+ghost use Rattle.ft_content.specs.Step as step;
 ghost use Rattle.ft_content.specs.Views.{bare_content, rows_of, column_of, item_of, items_of, filter_of, selection_of, shown_info, answer_of};
 ghost use Rattle.ft_index.specs.Kept.{Executes, OnlyLooks, IsOutside};
 ghost use Rattle.ft_index.specs.Changed.{with_tables};
@@ -72,11 +72,11 @@ pub(crate) fn select_query(
 ) -> Result<Option<Query>, Fault>
     ensures query { IfOk result (λ query. ReadsFilterAs (bare_content info.now.columns.items)
         (filter_of select.now.filter) (option_map tree_of query)) }
-    ensures fine { OnOk result (deserved.select_fault (string_bytes info.now.name)
+    ensures fine { OnOk result (step.select_fault (string_bytes info.now.name)
         (bare_content info.now.columns.items) (items_of select.now.items)
         (filter_of select.now.filter) ≡ None) }
     ensures fault { IfErr result (λ fault. (fault ≡ faults.Memory)
-        ⊎ (deserved.select_fault (string_bytes info.now.name) (bare_content info.now.columns.items)
+        ⊎ (step.select_fault (string_bytes info.now.name) (bare_content info.now.columns.items)
         (items_of select.now.items) (filter_of select.now.filter) ≡ Some fault)) }
     ensures never { NeverStore result }
 {
@@ -182,7 +182,7 @@ fn document_rows(
     items: &[Item],
     documents: &[Document],
 ) -> Result<Vec<Vec<Value>>, AllocError>
-    ensures { IfOk result (λ found. list_any deserved.is_offsets (map item_of items.now) ≡ false
+    ensures { IfOk result (λ found. list_any step.is_offsets (map item_of items.now) ≡ false
         → rows_of found ≡ answer.item_rows None (bare_content columns.now) (map item_of items.now)
         (map shown_document documents.now)) }
 {

@@ -8,7 +8,7 @@ ghost use Rattle.ft_store.specs.Kept.{shows};
 ghost use Rattle.ft_documents.specs.Found.{info_named};
 ghost use Rattle.ft_index.specs.Refused.{BlamesDone, NeverStore};
 ghost use Rattle.ft_index.specs.Written.{PlansIn, RebuildsIn};
-ghost use Rattle.ft_content.specs.Deserved.{Contents};
+ghost use Rattle.ft_content.specs.Step.{Contents};
 ghost use Rattle.ft_content.specs.Command as plain;
 ghost use Rattle.ft_content.specs.Views as views;
 

@@ -8,7 +8,7 @@ ghost use Rattle.ft_rows.specs.Changes.{shown_change};
 ghost use Rattle.ft_index.specs.Written.{first_parts, AnswersWritten, MakesAnew, WritesIn, BlamesWritten};
 ghost use Rattle.ft_store.specs.Kept.{shows};
 ghost use Rattle.ft_content.specs.Content.{Content};
-ghost use Rattle.ft_content.specs.Deserved.{docids_named};
+ghost use Rattle.ft_content.specs.Step.{docids_named};
 ghost use Rattle.ft_index.specs.DocumentsRead.{HasRows, LooksOn, LooksFor};
 ghost use Rattle.ft_documents.specs.Gathered.{has_given};
 ghost use Rattle.ft_content.specs.Answer.{chosen};

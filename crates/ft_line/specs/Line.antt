@@ -1,6 +1,5 @@
--- Meaning. What a command line means. The options are among those of "Command Line Shell For
--- SQLite", section "Command-line Options", with their meaning there; what is our own choice is
--- marked so.
+-- Meaning. What a command line means. The options are among those of "Command Line Shell For SQLite", section "Command-line Options", with
+-- their meaning there; what is our own choice is marked so.
 use Rattle.std.specs.Prelude.{ℕ, nat_lt, nat_le, Bool, true, false, not, ◌==◌, ◌&&◌, ◌||◌, List, [], ◌∷◌, ◌++◌, length, Option}
 use Rattle.std.specs.Prelude.{Some, None, unwrap_or, if◌then◌else◌, codes}
 use Rattle.std.specs.Char.{is_ascii_alphabetic}
@@ -21,13 +20,12 @@ abbrev pub is_single_dashed : List ℕ → Bool
 is_single_dashed [] = false
 is_single_dashed (dash ∷ letters) = (dash == 0x2D) && nat_le 2 (length letters) && list_all is_ascii_alphabetic letters
 
--- such a word has two dashes for one: options may be written with either (section "Command-line
--- Options"; that only words of letters are rewritten, and not `-separator=;`, is our own choice)
+-- such a word has two dashes for one: options may be written with either (section "Command-line Options"; that only words of letters are
+-- rewritten, and not `-separator=;`, is our own choice)
 abbrev pub dashed : List ℕ → List ℕ
 dashed word = if is_single_dashed word then 0x2D ∷ word else word
 
--- the words up to a word of two dashes, which ends the options, with two dashes for one, and those
--- after it as they are
+-- the words up to a word of two dashes, which ends the options, with two dashes for one, and those after it as they are
 abbrev pub dashed_words : List (List ℕ) → List (List ℕ)
 dashed_words [] = []
 dashed_words (word ∷ words) = if bytes_eq word (codes "--") then word ∷ words else dashed word ∷ dashed_words words
@@ -46,8 +44,7 @@ value_option name = record (new_rule name) { long = Some name; action = Some Set
 abbrev pub file : Rule
 file = record (new_rule (codes "FILE")) { action = Some Set }
 
--- any number of SQL texts after it (section "Command-line Options"; that there may be several is
--- our own choice)
+-- any number of SQL texts after it (section "Command-line Options"; that there may be several is our own choice)
 abbrev pub sql : Rule
 sql = record (new_rule (codes "SQL")) { action = Some Append }
 
@@ -55,8 +52,8 @@ abbrev pub with_rules : App → List Rule → App
 with_rules app [] = app
 with_rules app (rule ∷ rules) = with_rules (with_rule app rule) rules
 
--- the command as `clap` sees it: it is given its words without the program's name, and has a
--- version; `clap` adds `-h`, `--help`, `-V` and `--version`
+-- the command as `clap` sees it: it is given its words without the program's name, and has a version; `clap` adds `-h`, `--help`, `-V` and
+-- `--version`
 abbrev pub ft4sh : App
 ft4sh = on_top (λ top. record top { no_binary_name = true; has_version = true }) (with_rules (new_app (codes "ft4sh"))
     (flag (codes "bail") ∷ flag (codes "echo") ∷ flag (codes "header") ∷ flag (codes "noheader")
@@ -103,8 +100,7 @@ headers_in rows = if is_given (codes "header") rows then Some true else if is_gi
 abbrev pub null_in : List Row → List ℕ
 null_in rows = unwrap_or (first_of (codes "nullvalue") rows) []
 
--- no file, an empty one or `:memory:` means memory databases (section "Command-line Options"; the
--- empty one is our own choice)
+-- no file, an empty one or `:memory:` means memory databases (section "Command-line Options"; the empty one is our own choice)
 abbrev pub file_in : List Row → Option (List ℕ)
 file_in rows = option_map_or (λ text. if (length text == 0) || bytes_eq text (codes ":memory:") then None else Some text) (first_of (codes "FILE") rows) None
 
@@ -134,8 +130,7 @@ has_two_modes rows = nat_lt 1 (length (modes_in rows))
 abbrev pub is_conflict : List Row → Bool
 is_conflict rows = has_two_modes rows || (is_given (codes "header") rows && is_given (codes "noheader") rows)
 
--- the separator is refused that the mode refuses: the mode is set before it, wherever both stand
--- (own choice)
+-- the separator is refused that the mode refuses: the mode is set before it, wherever both stand (own choice)
 abbrev pub is_bad_separator : List Row → Bool
 is_bad_separator rows = option_map_or (λ text. not (may_separate (settings_from rows) text)) (first_of (codes "separator") rows) false
 

@@ -22,8 +22,7 @@ seen_line line = record { settings = line.settings; file = option_map string_byt
 abbrev pub IsTaken : List (List ℕ) → Type 0
 IsTaken words = fault_of ft4sh (dashed_words words) ≡ []
 
--- the meaning of words that the command takes, or why they have none; an error of the command is
--- one that it gives at these words
+-- the meaning of words that the command takes, or why they have none; an error of the command is one that it gives at these words
 abbrev pub ReadsLine : List (List ℕ) → Result Line LineFault → Type 0
 ReadsLine words (Ok line) = IsTaken words × (line_of words ≡ Means (seen_line line))
 ReadsLine words (Err (fault.Words e)) = IsAmong (kind_of e) (fault_of ft4sh (dashed_words words))

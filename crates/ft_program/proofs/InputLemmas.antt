@@ -17,8 +17,8 @@ use Rattle.sqlite.specs.Held.{Held}
 use Rattle.shell_text.specs.Print.{AppendsFront, Settings}
 use Rattle.ft_store.specs.Kept.{StoreState}
 use Rattle.ft_index.specs.Kept.{FullText, Holds, IsUp}
-use Rattle.ft_index.specs.Crashes.{SurvivesCrash}
-use Rattle.ft_index.proofs.{clean_before}
+use Rattle.ft_index.specs.Kept.{SurvivesCrash}
+use Rattle.ft_index.proofs.{clean_at_first}
 use Rattle.ft_index.specs.Opened.{OpensStore}
 use Rattle.shell_io.specs.Writing.{AppendsUpTo, Sends}
 use Rattle.ft_program.specs.Inputs.{AreRead, Closes, EndsAs, InTurn, Outputs, RunsAndKeeps, RunsInTurn, RunsOne, RunsOver, Stage, WritesOwn, console, due, exit_status}
@@ -210,7 +210,7 @@ closes_as (Ok status) cause all a b n (is, faults, quit) (same, code) =
 
 -- where the disk did what it was told to the end, it did so from the first
 clean_from_first : {P S : Type 0} (g : Ghosts P) (h : Ghosts S) (old new : Parts P S) (reads : List (List ℕ)) (all : Effects) → AllRan g h old reads all new → IsClean h new.full_text → IsClean h old.full_text
-clean_from_first g h old new reads all ran clean = clean_before h old.full_text new.full_text all.calls (all_made g h old new reads all ran) clean
+clean_from_first g h old new reads all ran clean = clean_at_first h old.full_text new.full_text all.calls (all_made g h old new reads all ran) clean
 
 -- the inputs are run over two databases, and then the program ends
 pub runs_over : {P S : Type 0} (g : Ghosts P) (h : Ghosts S) (AreClosed : Parts P S → Type 0) (settings : Settings) (plain : Held P) (store : StoreState S) (made : FullText S) (inputs : List (Option (List ℕ))) (ended : Result Status RunFault) (old new : Outputs) (parts : Parts P S) (last : Stage P S) (status : ℕ) →

@@ -1,5 +1,4 @@
--- Meaning. What is left in the files of both databases as they are closed, and how a run over both
--- ends (own choice).
+-- Meaning. What is left in the files of both databases as they are closed, and how a run over both ends (own choice).
 use Rattle.std.specs.Prelude.{ℕ, ◌≡◌, ◌⊎◌, ◌&&◌, Bool, true, false, List, [], ◌∷◌, ◌++◌, codes, Option, Result, Ok, Err, is_ok}
 use Rattle.sqlite_disk.specs.declared.Disk as disk
 use Rattle.sqlite_disk.specs.declared.Files.{Files}
@@ -32,8 +31,8 @@ IsStoreLeft s (Err files) = IsRefusedClose s.held files
 abbrev pub close_line : List ℕ
 close_line = codes "Error: unable to close database" ++ 10 ∷ []
 
--- It is written where one of both is, or as much of it as goes out, and then the status is 1. Else
--- nothing is written, and the status stays.
+-- It is written where one of both is, or as much of it as goes out, and then the status is 1. Else nothing is written, and the status
+-- stays.
 abbrev pub TellsClose : Bool → Option (List ℕ) → Option (List ℕ) → ℕ → ℕ → Type 0
 TellsClose true old new ended status = (new ≡ old) × (status ≡ ended)
 TellsClose false old new ended status = AppendsUpTo old new close_line × (status ≡ 1)

@@ -21,13 +21,12 @@ abbrev pub IsLong : Bool → Names → Names → Outputs → Outputs → ℕ →
 IsLong tells held left old new status = NotOpened opening.Database old new status × (IsTrue tells → Stay held left)
 
 module _ {D : Type 0} (g : disk.Ghosts D) (tells : Bool) (path beside : List ℕ) (held left : Names) where
-  -- why one of them is not opened: there is no telling of the plain tables; or the full-text store
-  -- that the host holds is not taken, or can't be opened
+  -- why one of them is not opened: there is no telling of the plain tables; or the full-text store that the host holds is not taken, or
+  -- can't be opened
   abbrev pub IsCause : OpenFault → Type 0
   IsCause why = (why ≡ opening.Database) ⊎ ((image : Image) × IsHeld tells (held beside) image × IsNoStoreFor g image why)
 
-  -- One of them isn't opened, and the program says so. What was opened is let go with nothing done to
-  -- it.
+  -- One of them isn't opened, and the program says so. What was opened is let go with nothing done to it.
   pub record IsRefused (old new : Outputs) (status : ℕ) : Type 0 where
     pub why : OpenFault
     pub cause : IsCause why
@@ -35,9 +34,9 @@ module _ {D : Type 0} (g : disk.Ghosts D) (tells : Bool) (path beside : List ℕ
     pub tables_left : IsTrue tells → IsLetGo g (held path) (left path)
     pub texts_left : IsTrue tells → IsLetGo g (held beside) (left beside)
 
-  -- Two databases are opened over the files that the host holds: the plain tables that are found in
-  -- the one, and the full-text store that is found in the other. The inputs are run over them, and
-  -- then both are closed, and their files given back. A close that is refused is told.
+  -- Two databases are opened over the files that the host holds: the plain tables that are found in the one, and the full-text store that
+  -- is found in the other. The inputs are run over them, and then both are closed, and their files given back. A close that is refused is
+  -- told.
   pub record FromFiles (settings : Settings) (inputs : List (Option (List ℕ))) (old new : Outputs) (status : ℕ) : Type 0 where
     pub tables : Image
     pub tables_held : IsHeld tells (held path) tables

@@ -1,5 +1,4 @@
--- Meaning. The inputs of a command line, run in turn over two databases, and what is said of how
--- that ends (own choice).
+-- Meaning. The inputs of a command line, run in turn over two databases, and what is said of how that ends (own choice).
 use Rattle.std.specs.Prelude.{ℕ, ◌≡◌, ◌^◌, ◌-◌, ◌++◌, ◌==◌, min, if◌then◌else◌, MatchBool, MatchResult, List, [], ◌∷◌, map}
 use Rattle.std.specs.Prelude.{codes, Option, Some, None, Result, Ok, Err}
 use Rattle.std.specs.Io.KnownBytes.{Consumes}
@@ -8,9 +7,9 @@ use Rattle.sqlite.specs.Held.{Held}
 use Rattle.shell_text.specs.Print.{Settings}
 use Rattle.ft_store.specs.Kept.{StoreState, value_in}
 use Rattle.ft_index.specs.Kept.{FullText, Holds, StoreHolds}
-use Rattle.ft_index.specs.Crashes.{SurvivesCrash}
+use Rattle.ft_index.specs.Kept.{SurvivesCrash}
 use Rattle.ft_index.specs.Opened.{OpensStore}
-use Rattle.ft_content.specs.Deserved.{Contents}
+use Rattle.ft_content.specs.Step.{Contents}
 use Rattle.std.specs.Fmt.{signed_decimal}
 use Rattle.shell_io.specs.declared.run.Outputs.{Outputs as RustOutputs}
 use Rattle.shell_io.specs.declared.run.Status.{Status}
@@ -59,8 +58,8 @@ module _ {P S : Type 0} (g : Ghosts P) (h : Ghosts S) where
   abbrev pub RunsOne : Option (List ℕ) → Result Status RunFault → Stage P S → Stage P S → Effects → Type 0
   RunsOne input ended old new own = (left : Option (List ℕ)) × Ran g h ended (console old input) (console new left) own
 
-  -- Inputs are run in turn, each from what the one before it left, with what all their turns wrote
-  -- and called. A quit ends it, and so does a fault of a run.
+  -- Inputs are run in turn, each from what the one before it left, with what all their turns wrote and called. A quit ends it, and so does
+  -- a fault of a run.
   abbrev pub InTurn : List (Option (List ℕ)) → Option RunFault → Stage P S → Stage P S → Effects → Type 0
   InTurn [] cause old new all = (cause ≡ None) × (new ≡ old) × (all ≡ idle)
   InTurn (input ∷ inputs) cause old new all = (ended : Result Status RunFault) × (mid : Stage P S) × (own : Effects) × RunsOne input ended old mid own
@@ -69,8 +68,7 @@ module _ {P S : Type 0} (g : Ghosts P) (h : Ghosts S) where
       × (all ≡ and_then own rest)))
       (λ fault. (cause ≡ Some fault) × (new ≡ mid) × (all ≡ own))
 
--- What runs read of inputs: each of the first of these inputs, where its bytes are known, begins
--- with what was read of it.
+-- What runs read of inputs: each of the first of these inputs, where its bytes are known, begins with what was read of it.
 abbrev pub AreRead : List (Option (List ℕ)) → List (List ℕ) → Type 0
 AreRead inputs [] = Unit {0}
 AreRead [] (read ∷ reads) = ⊥
@@ -78,8 +76,7 @@ AreRead (input ∷ inputs) (read ∷ reads) = (left : Option (List ℕ)) × Cons
 
 -- ---- the end
 
--- what is answered of inputs that were run: their fault lines are counted together, up to
--- 2 ^ 64 - 1
+-- what is answered of inputs that were run: their fault lines are counted together, up to 2 ^ 64 - 1
 abbrev pub EndsAs : Result Status RunFault → Option RunFault → Effects → Type 0
 EndsAs (Ok status) cause all = (cause ≡ None) × (status.faults ≡ min all.faults (2 ^ 64 - 1)) × (status.quit ≡ all.ends)
 EndsAs (Err fault) cause all = cause ≡ Some fault
@@ -87,8 +84,7 @@ EndsAs (Err fault) cause all = cause ≡ Some fault
 abbrev pub RunsInTurn : {P S : Type 0} → Ghosts P → Ghosts S → List (Option (List ℕ)) → Result Status RunFault → Stage P S → Stage P S → Type 0
 RunsInTurn g h inputs ended old new = (cause : Option RunFault) × (all : Effects) × InTurn g h inputs cause old new all × EndsAs ended cause all
 
--- They are runs one after another: so what any runs leave of the full-text tables is left by them,
--- too.
+-- They are runs one after another: so what any runs leave of the full-text tables is left by them, too.
 abbrev pub RunsAndKeeps : {P S : Type 0} → Ghosts P → Ghosts S → List (Option (List ℕ)) → Result Status RunFault → Stage P S → Stage P S → Type 0
 RunsAndKeeps g h inputs ended old new = (cause : Option RunFault) × (all : Effects) × InTurn g h inputs cause old new all × EndsAs ended cause all
     × (reads : List (List ℕ)) × AreRead inputs reads × AllRan g h old.parts reads all new.parts
@@ -131,9 +127,8 @@ pub record NotOpened (why : OpenFault) (old new : Outputs) (status : ℕ) : Type
   pub ends : status ≡ 1
 
 module _ {P S : Type 0} (g : Ghosts P) (h : Ghosts S) where
-  -- The inputs are run in turn from plain tables and a full-text store as it is taken, and then the
-  -- program's own line is written. They are runs one after another: of whatever contents the store
-  -- held the promise is kept, where the disk returned what was written.
+  -- The inputs are run in turn from plain tables and a full-text store as it is taken, and then the program's own line is written. They are
+  -- runs one after another: of whatever contents the store held the promise is kept, where the disk returned what was written.
   pub record RunsOver (settings : Settings) (plain : Held P) (store : StoreState S) (inputs : List (Option (List ℕ))) (old new : Outputs)
       (status : ℕ) : Type 0 where
     pub made : FullText S

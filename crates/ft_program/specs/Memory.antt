@@ -1,5 +1,4 @@
--- Meaning. What the program does over two empty databases in memory, without a FILE, and so by its
--- words (own choice).
+-- Meaning. What the program does over two empty databases in memory, without a FILE, and so by its words (own choice).
 use Rattle.std.specs.Prelude.{ℕ, Bool, true, false, IsTrue, ◌≡◌, ◌⊎◌, List, [], map, Option, Some, None, String, string_bytes, Ok, Err}
 use Rattle.std.specs.declared.alloc.Global.{Global}
 use Rattle.sqlite_disk.specs.declared.Disk as disk
@@ -66,22 +65,19 @@ is_asked_for kind.DisplayHelp = true
 is_asked_for kind.DisplayVersion = true
 is_asked_for _ = false
 
--- the help and the version go to the output alone, with status 0, and any other text of `clap` to
--- the errors alone, with status 2
+-- the help and the version go to the output alone, with status 0, and any other text of `clap` to the errors alone, with status 2
 abbrev pub RefusesWords : Error → Outputs → Outputs → ℕ → Type 0
 RefusesWords e old new status = ((is_asked_for (kind_of e) ≡ true) × (status ≡ 0) × (new.err ≡ old.err))
     ⊎ ((is_asked_for (kind_of e) ≡ false) × (status ≡ 2) × (new.out ≡ old.out))
 
--- Nothing is run of words that mean no line, and nothing but the help and the version goes to the
--- output. The status is 2, but for these.
+-- Nothing is run of words that mean no line, and nothing but the help and the version goes to the output. The status is 2, but for these.
 abbrev pub RefusesLine : LineFault → Outputs → Outputs → ℕ → Type 0
 RefusesLine (lines.Words e) old new status = RefusesWords e old new status
 RefusesLine lines.Conflict old new status = (status ≡ 2) × (new.out ≡ old.out)
 RefusesLine lines.BadSeparator old new status = (status ≡ 2) × (new.out ≡ old.out)
 RefusesLine lines.Memory old new status = (status ≡ 2) × (new.out ≡ old.out)
 
--- The words mean a line, and it is run over what a host holds; or they mean none, or memory lacks to
--- read them: then no name is touched.
+-- The words mean a line, and it is run over what a host holds; or they mean none, or memory lacks to read them: then no name is touched.
 abbrev pub Starts : {D : Type 0} → disk.Ghosts D → Bool → Names → Names → List (List ℕ) → Option (List ℕ) → Outputs → Outputs → ℕ → Type 0
 Starts g tells held left words standard old new status =
     ((why : LineFault) × ReadsLine words (Err why) × RefusesLine why old new status × (IsTrue tells → Stay held left))

@@ -1,5 +1,4 @@
--- Meaning. What a start finds of a full-text store that was closed, or that a crash left (own
--- choice).
+-- Meaning. What a start finds of a full-text store that was closed, or that a crash left (own choice).
 use Rattle.std.specs.Prelude.{◌≡◌, ◌≢◌, ℤ, List}
 use Rattle.sqlite_disk.specs.declared.Disk as disk
 use Rattle.sqlite_store.specs.declared.store.FileStore.{FileStore}
@@ -11,13 +10,13 @@ use Rattle.ft_store.specs.declared.fault.StoreFault.{StoreFault}
 use Rattle.ft_store.specs.declared.fault.StoreFault.TheVariants as fault
 use Rattle.ft_store.specs.Kept.{StoreState, shows, value_in}
 use Rattle.ft_store.specs.Opened.{IsNotTakenFrom}
-use Rattle.ft_content.specs.Deserved.{Contents}
+use Rattle.ft_content.specs.Step.{Contents}
 use Rattle.ft_index.specs.Kept.{StoreHolds}
-use Rattle.ft_index.specs.Crashes.{HoldsLeft, Name}
+use Rattle.ft_index.specs.Kept.{HoldsLeft, Name}
 use Rattle.ft_files.specs.Opening.{IsStoreFrom}
 
--- Of files that held this image a store is opened that holds these contents and noted names; and
--- they are never refused as no store, or as one of another version.
+-- Of files that held this image a store is opened that holds these contents and noted names; and they are never refused as no store, or as
+-- one of another version.
 pub record FindsLeft {D : Type 0} (g : disk.Ghosts D) (image : Image) (contents : Contents) (names : List Name) : Type 0 where
   pub held : (store : StoreState (FileStore D g)) → IsStoreFrom image store → HasCleanDisk (shows over_files store)
       → StoreHolds (value_in over_files store) contents

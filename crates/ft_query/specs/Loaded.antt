@@ -10,8 +10,8 @@ use Rattle.ft_query.specs.Trees.{PlainTerm, plain_term}
 use Rattle.ft_query.specs.Lists.{is_failed, Reaches, AllAnswer}
 use Rattle.ft_query.specs.Cursors.{lists_kept, places_left, listed_for}
 
--- What calls make of the lists: clean ones were clean and mean the documents that they meant, a
--- failure is answered, and else each became what a call makes of it.
+-- What calls make of the lists: clean ones were clean and mean the documents that they meant, a failure is answered, and else each became
+-- what a call makes of it.
 pub record AsksLists {L X : Type 0} (g : Ghosts L) (old new : L) (result : Result X ListFault) : Type 0 where
   pub clean : g.is_clean new → g.is_clean old × (g.documents new ≡ g.documents old)
   pub failed : g.has_failed new ≡ (g.has_failed old || is_failed result)
@@ -25,8 +25,8 @@ plain_terms terms = map (λ t. plain_term t.now) terms
 abbrev pub AreCursorsOf : List Document → List (Bor QueryTerm) → List Cursor → Type 0
 AreCursorsOf documents terms cursors = map lists_kept cursors ≡ map (λ t. listed_for documents (plain_term t.now)) (take (length cursors) terms)
 
--- The lists are now those of these terms, each of which was asked for once for each time that it is
--- written, and the places of each are counted as given.
+-- The lists are now those of these terms, each of which was asked for once for each time that it is written, and the places of each are
+-- counted as given.
 pub record Loads {L Z : Type 0} (g : Ghosts L) (terms : List PlainTerm) (old new : L) (cursors : Vec Cursor Z) : Type 0 where
   pub lists : g.is_clean new → map lists_kept cursors.items ≡ map (listed_for (g.documents new)) terms
   pub number : vec_len cursors ≡ length terms

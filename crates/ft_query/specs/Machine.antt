@@ -1,5 +1,5 @@
--- Steps. The parts of a text as the lexer finds them, byte by byte, and what the parser keeps
--- between lexemes, without where it lies in memory: the states of the pass in `Pass`.
+-- Steps. The parts of a text as the lexer finds them, byte by byte, and what the parser keeps between lexemes, without where it lies in
+-- memory: the states of the pass in `Pass`.
 use Rattle.std.specs.Prelude.{ℕ, ◌==◌, ◌||◌, Bool, true, false, nat_lt, if◌then◌else◌, List, [], ◌∷◌, ◌++◌, map, min, reverse}
 use Rattle.std.specs.Prelude.{sum_by, option_map, Option, Some, None, Result}
 use Rattle.std.specs.List.{list_any}
@@ -34,8 +34,7 @@ abbrev pub capped : Lexeme → Lexeme
 capped (near_word most) = near_word (min most 1000001)
 capped l = l
 
--- lexemes ask for too much: too many terms, a NEAR number that is too great, or parentheses that
--- nest too deep
+-- lexemes ask for too much: too many terms, a NEAR number that is too great, or parentheses that nest too deep
 abbrev pub asks_much : List Lexeme → Bool
 asks_much ls = nat_lt 64 (sum_by term_count ls) || list_any is_far ls || nests_deep (0, 0) ls
 

@@ -28,21 +28,19 @@ own_lists tree lists = take (length (terms_in tree)) lists
 abbrev pub lists_after : Tree → List LentPlaces → List LentPlaces
 lists_after tree lists = drop (length (terms_in tree)) lists
 
--- Each of these terms has its list, the first of these, and the numbers of all, from the next one
--- on, fit.
+-- Each of these terms has its list, the first of these, and the numbers of all, from the next one on, fit.
 pub record HaveLists (found : Found) (terms : List PlainTerm) (lists : List LentPlaces) : Type 0 where
   pub each : length terms ≤ length lists
   pub fits : found.next + length lists < 2 ^ 64
 
--- These marks are added, with the numbers of so many terms from the next one on. What is asked
--- stays.
+-- These marks are added, with the numbers of so many terms from the next one on. What is asked stays.
 pub record Marks {X : Type 0} (result : Result X AllocError) (old new : Found) (marks : List (List Place)) (count : ℕ) : Type 0 where
   pub wanted : new.wanted ≡ old.wanted
   pub offsets : OnOk result (new.offsets.items ≡ old.offsets.items ++ numbered_offsets old.next marks)
   pub next : OnOk result (new.next ≡ old.next + count)
 
--- A query or a part of one is evaluated: whether it accepts is answered, and its marks are added if
--- they are wanted, with no more numbers than it has terms. What is asked stays.
+-- A query or a part of one is evaluated: whether it accepts is answered, and its marks are added if they are wanted, with no more numbers
+-- than it has terms. What is asked stays.
 pub record Evaluates (result : Result Bool AllocError) (old new : Found) (tree : Tree) (lists : List LentPlaces) : Type 0 where
   pub accepted : IfOk result (λ b. b ≡ is_accepted tree (plain_lists lists))
   pub wanted : new.wanted ≡ old.wanted
@@ -50,9 +48,8 @@ pub record Evaluates (result : Result Bool AllocError) (old new : Found) (tree :
   pub next : OnOk result (new.next ≡ old.next + length (if_wanted old.wanted (marks_of tree (plain_lists lists))))
   pub room : OnOk result (new.next ≤ old.next + length lists)
 
--- A right side is evaluated after its left one, which accepts or not: whether both together accept
--- is answered, and the right side's marks are added if they are wanted and it isn't after a NOT,
--- with no more numbers than it has terms. What is asked stays.
+-- A right side is evaluated after its left one, which accepts or not: whether both together accept is answered, and the right side's marks
+-- are added if they are wanted and it isn't after a NOT, with no more numbers than it has terms. What is asked stays.
 pub record Joins (by : By) (accepted : Bool) (result : Result Bool AllocError) (old new : Found) (tree : Tree) (lists : List LentPlaces) : Type 0 where
   pub both : IfOk result (λ b. b ≡ joined_answer by accepted (is_accepted tree (plain_lists lists)))
   pub wanted : new.wanted ≡ old.wanted

@@ -1,5 +1,4 @@
--- Steps. How one document is evaluated: by passes over the lists of places of the query's terms,
--- each from front to back (own choices).
+-- Steps. How one document is evaluated: by passes over the lists of places of the query's terms, each from front to back (own choices).
 use Rattle.std.specs.Prelude.{ℕ, ℤ, ◌+◌, ◌*◌, ◌==◌, ◌&&◌, ◌||◌, Bool, true, false, not, nat_lt, if◌then◌else◌, List, [], ◌∷◌}
 use Rattle.std.specs.Prelude.{◌++◌, length, take, drop, map, filter, Option, Vec}
 use Rattle.std.specs.Borrow.{Bor}
@@ -51,8 +50,8 @@ abbrev pub skip_behind : ℕ → ℕ → List Place → Place → List Place
 skip_behind most k [] b = []
 skip_behind most k (a ∷ more) b = if is_behind most k a b then skip_behind most k more b else a ∷ more
 
--- One of the first two is near this occurrence of m terms. Where they rise and none before them is
--- near, no later one need be looked at: only one can be barred for ending at the same token.
+-- One of the first two is near this occurrence of m terms. Where they rise and none before them is near, no later one need be looked at:
+-- only one can be barred for ending at the same token.
 abbrev pub begin_near : ℕ → ℕ → List Place → ℕ → Place → Bool
 begin_near most k [] m b = false
 begin_near most k (a ∷ []) m b = are_near most k a m b
@@ -112,8 +111,7 @@ linked p (link ∷ links) lists =
     let more = linked link.to links (drop (length p.terms) lists) in
     near_those link.most (length link.to.terms) (head_of more) (length p.terms) (starts_of p (take (length p.terms) lists)) ∷ more
 
--- the marks of the phrases of these links, whose occurrences also have to be near one of the k
--- terms before them
+-- the marks of the phrases of these links, whose occurrences also have to be near one of the k terms before them
 abbrev pub link_marks : ℕ → List Place → List PlainLink → List (List Place) → List (List Place) → List (List Place)
 link_marks k starts [] lists all = []
 link_marks k starts (link ∷ links) lists all =

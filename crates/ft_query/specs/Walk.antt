@@ -18,8 +18,7 @@ pub record Walk : Type 0 where
 abbrev pub lists_to_come : Walk → ℕ
 lists_to_come walk = sum_by length walk.lists
 
--- The walk stands before these documents: they are in order, and what is left of its lists is what
--- they have of the query's terms.
+-- The walk stands before these documents: they are in order, and what is left of its lists is what they have of the query's terms.
 abbrev pub StandsBefore : Walk → List Document → Type 0
 StandsBefore walk documents = AreDocuments documents × (walk.lists ≡ lists_of (tree_of walk.query) documents)
 
@@ -31,8 +30,8 @@ hit_list (Some hit) = plain_hit hit ∷ []
 abbrev pub steps_to_come : Tree → List Document → ℕ
 steps_to_come tree documents = 32 * entry_count tree documents + 8 * width tree * candidate_count tree documents
 
--- From before these documents the walk went on to stand before the rest, with these hits between.
--- Each step is counted, and each document that was passed has one.
+-- From before these documents the walk went on to stand before the rest, with these hits between. Each step is counted, and each document
+-- that was passed has one.
 pub record Went (old new : Walk) (hits : List PlainHit) (documents : List Document) : Type 0 where
   pub rest : List Document
   pub stands : StandsBefore new rest
@@ -50,8 +49,7 @@ abbrev pub hit_at : Option ℤ → List Offset → List PlainHit
 hit_at None offsets = []
 hit_at (Some docid) offsets = record { docid = docid; offsets = offsets } ∷ []
 
--- The same where of the hit only its docid is answered: the offsets are those that the document
--- has, and aren't answered.
+-- The same where of the hit only its docid is answered: the offsets are those that the document has, and aren't answered.
 pub record WalkedTo (old new : Walk) (docid : Option ℤ) (documents : List Document) : Type 0 where
   pub offsets : List Offset
   pub went : Went old new (hit_at docid offsets) documents

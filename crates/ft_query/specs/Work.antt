@@ -29,8 +29,8 @@ node_count (both p q) = 1 + (node_count p + node_count q)
 node_count (either p q) = 1 + (node_count p + node_count q)
 node_count (without p q) = 1 + (node_count p + node_count q)
 
--- For each term its list: of the term itself, or of all that begins so where it is a prefix term. A
--- first term's list is that of the term in every position.
+-- For each term its list: of the term itself, or of all that begins so where it is a prefix term. A first term's list is that of the term
+-- in every position.
 abbrev pub lists_of : Tree → List Document → List (List PlaceList)
 lists_of tree documents = map (λ t. lists_with (is_listed t) documents) (terms_in tree)
 

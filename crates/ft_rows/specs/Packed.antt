@@ -1,13 +1,12 @@
--- Meaning. The packed list: the spots of one term in one document as bytes (own choice; the numbers
--- are not those of "Variable Length Integer (varint) Format").
+-- Meaning. The packed list: the spots of one term in one document as bytes (own choice; the numbers are not those of "Variable Length
+-- Integer (varint) Format").
 use Rattle.std.specs.Prelude.{◌≡◌, ℕ, zero, suc, ◌+◌, ◌-◌, ◌*◌, ◌/◌, ◌%◌, ◌<◌, Bool, true, false, ◌&&◌, ◌||◌, List}
 use Rattle.std.specs.Prelude.{[], ◌∷◌, Option, Some, None, nat_lt, nat_le, ◌==◌, slice_index, IsTrue, if◌then◌else◌}
 use Rattle.std.specs.List.{flat_map}
 use Rattle.std.specs.Option.{option_and_then}
 pub use Rattle.ft_values.specs.declared.rows.Spot.{Spot}
 
--- unsigned LEB128 in at most k bytes: seven bits a byte from the lowest on, 128 more in each but
--- the last
+-- unsigned LEB128 in at most k bytes: seven bits a byte from the lowest on, 128 more in each but the last
 abbrev pub leb128_within : ℕ → ℕ → List ℕ
 leb128_within zero n = []
 leb128_within (suc k) n = if nat_lt n 128 then n ∷ [] else (n % 128 + 128) ∷ leb128_within k (n / 128)
@@ -16,8 +15,7 @@ leb128_within (suc k) n = if nat_lt n 128 then n ∷ [] else (n % 128 + 128) ∷
 unfoldable pub leb128 : ℕ → List ℕ
 leb128 n = leb128_within 10 n
 
--- The numbers before a byte that goes on: what stands for the rest isn't 0, so each number has one
--- form.
+-- The numbers before a byte that goes on: what stands for the rest isn't 0, so each number has one form.
 abbrev pub going_on : ℕ → List ℕ → Option (List ℕ)
 going_on b [] = None
 going_on b (zero ∷ ns) = None

@@ -78,8 +78,7 @@ SomeDamaged lists = ¬ AreWhole lists
 abbrev pub AreListRows : List (ListKey × List Spot) → List ListRow → Type 0
 AreListRows lists rows = (map shown_list rows ≡ map bare_list lists) × AreWhole lists
 
--- A table as it is listed: its number and its name, its columns by their rising numbers, and the
--- numbers of those that aren't indexed.
+-- A table as it is listed: its number and its name, its columns by their rising numbers, and the numbers of those that aren't indexed.
 pub record Listed : Type 0 where
   pub id : ℤ
   pub name : List ℕ
@@ -101,8 +100,7 @@ table_listed store t = record {
 abbrev pub tables_listed : StoreValue → List Listed
 tables_listed store = map (table_listed store) store.tables
 
--- The greatest docid of a table's cells. Cells stand by rising docid, so it is that of the last
--- one.
+-- The greatest docid of a table's cells. Cells stand by rising docid, so it is that of the last one.
 abbrev pub last_docid_of : ℤ → List (CellKey × Cell) → Option ℤ
 last_docid_of tab cells = option_map (λ c. c.0.1) (slice_get (reverse (where_key cell_key_cmp (λ k. int_eq tab k.0) cells)) 0)
 

@@ -1,5 +1,5 @@
--- Meaning. A store seen as a value: rows under their keys, in the order of the keys, and what row
--- changes make of them. All of it is our own choice.
+-- Meaning. A store seen as a value: rows under their keys, in the order of the keys, and what row changes make of them. All of it is our
+-- own choice.
 use Rattle.std.specs.Prelude.{ℕ, ℤ, pos, not, ◌&&◌, List, [], ◌∷◌, IsTrue}
 use Rattle.std.specs.declared.cmp.Ordering.{Ordering}
 use Rattle.std.specs.Ordering.{int_cmp, int_eq, eq_by_cmp, nat_cmp, ordering_then}
@@ -34,9 +34,8 @@ column_key_cmp a b = ordering_then (int_cmp a.0 b.0) (int_cmp a.1 b.1)
 abbrev pub name_cmp : List ℕ → List ℕ → Ordering
 name_cmp = slice_cmp nat_cmp
 
--- What the database holds. Rows of tables that aren't there may stand too. A posting row whose
--- packed list is damaged shows as an empty list, which no index has. A noted name stands under its
--- small letters, as SQLite's NOCASE has them.
+-- What the database holds. Rows of tables that aren't there may stand too. A posting row whose packed list is damaged shows as an empty
+-- list, which no index has. A noted name stands under its small letters, as SQLite's NOCASE has them.
 pub record StoreValue : Type 0 where
   pub tables : List (ℤ × List ℕ)
   pub columns : List (ColumnKey × List ℕ)
@@ -56,8 +55,7 @@ pub record AreInOrder (store : StoreValue) : Type 0 where
   pub sizes : IsTrue (is_sorted cell_key_cmp store.sizes)
   pub noted : IsTrue (is_sorted name_cmp store.noted)
 
--- A change of rows. A table's columns are numbered from 0 in their order; `skipped` has the numbers
--- of those that aren't indexed.
+-- A change of rows. A table's columns are numbered from 0 in their order; `skipped` has the numbers of those that aren't indexed.
 pub data Change : Type 0 where
   AddTable : (id : ℤ) → (name : List ℕ) → (columns : List (List ℕ)) → (skipped : List ℤ) → Change
   DropTable : (id : ℤ) → Change
@@ -101,8 +99,8 @@ without_key R key rows = where_key R (λ k. not (eq_by_cmp R key k)) rows
 abbrev pub with_note : List ℕ → StoreValue → StoreValue
 with_note name store = record store { noted = put name_cmp (without_case name) name store.noted }
 
--- A table that is added has its columns, with the numbers of those that are not indexed by rising
--- number, and no other row. A row that is put replaces the one of its key.
+-- A table that is added has its columns, with the numbers of those that are not indexed by rising number, and no other row. A row that is
+-- put replaces the one of its key.
 abbrev pub applied : Change → StoreValue → StoreValue
 applied (AddTable id name columns skipped) store =
     let bare = without_rows id store in

@@ -5,15 +5,14 @@ use Rattle.shell_text.specs.Print.{Settings}
 use Rattle.shell_text.specs.Units.{Member, Sql, Dot, Fault}
 use Rattle.shell_text.specs.Dot.{dot_words_of}
 use Rattle.shell_text.specs.Words.{is_unclosed}
-use Rattle.ft_index.specs.Crashes.{LeavesRead}
-use Rattle.ft_index.specs.Called.{Runs}
+use Rattle.ft_index.specs.Kept.{Leaves, Runs}
 use Rattle.shell_io.specs.Outcomes.{Answer, blames, lacks_memory}
 use Rattle.plain_sql.specs.Imports.{delimiter_of, row_cells}
 use Rattle.shell_io.specs.Records.{warnings, kept, records_in}
 use Rattle.shell_io.specs.Sources.{fetch_words, Files, GivesFile}
 use Rattle.plain_sql.specs.PlainStatements.{QueryTurn}
 use Rattle.ft_statements.specs.Statements.{FullText as FullTextClass}
-use Rattle.ft_shell.proofs.Common.{Ghosts, Held, FullText, OnlyLooks, Call, Looked, Noted, DoesCall, sql_tokens, asks, made_name, Shell, Effects, and_then, Insert, DotCommand, Import, Nothing, SetMode, SetHeaders, SetSeparator, SetNull, SetEcho, SetBail, Print, Importing, Tables, Quit, Usage, Unknown, dot_command_of, DotTurn, after_stop, MaybeNotes, NoteTurn, BytesTurn, DelimitedTurn, FileTurn, IntoNamed, IntoNew, PlainImport, TextImport, width_in, executed, no_memory, no_header, too_wide, declined, there, new_table, untried, read, no_text, fetched, unfetched, TablesTurn, CommandTurn, PlainTurn, done, refused, Class, Plain, class_of, ClassTurn, Declines, StatementTurn, known_names, Body, Turn, Turns, calls_in}
+use Rattle.ft_shell.proofs.Common.{Ghosts, Held, FullText, OnlyLooks, Call, Looked, Noted, DoesForCause, sql_tokens, asks, made_name, Shell, Effects, and_then, Insert, DotCommand, Import, Nothing, SetMode, SetHeaders, SetSeparator, SetNull, SetEcho, SetBail, Print, Importing, Tables, Quit, Usage, Unknown, dot_command_of, DotTurn, after_stop, MaybeNotes, NoteTurn, BytesTurn, DelimitedTurn, FileTurn, IntoNamed, IntoNew, PlainImport, TextImport, width_in, executed, no_memory, no_header, too_wide, declined, there, new_table, untried, read, no_text, fetched, unfetched, TablesTurn, CommandTurn, PlainTurn, done, refused, Class, Plain, class_of, ClassTurn, Declines, StatementTurn, known_names, Body, Turn, Turns, calls_in}
 use Rattle.ft_shell.specs.TurnCalls.{bytes_in, class_in, closed_in, command_in, delimited_in, dot_in, file_in, named_in, new_in, note_in, plain_in, statement_in, table_in, tables_in, text_in}
 use Rattle.ft_shell.proofs.Spelled.{MayNote, MayRead, NoCall, CallsOf, CallsOfClass, CallsOfDot, CallsOfImport, HasRecords, OneCommand}
 use Rattle.ft_shell.specs.ImportTurns as imports
@@ -23,7 +22,7 @@ use Rattle.ft_shell.specs.TablesTurns as tables
 
 -- calls are of this kind, and all that changes the tables
 abbrev pub Called : {S : Type 0} → Ghosts S → (List Call → Type 0) → List Call → FullText S → FullText S → Type 0
-Called h Spelled calls old new = Spelled calls × Runs h old calls new
+Called h Spelled calls old new = Spelled calls × Runs (DoesForCause h) old calls new
 
 -- nothing is called
 abbrev Uncalled : List Call → Type 0
@@ -36,7 +35,7 @@ notes_none : {S : Type 0} (h : Ghosts S) (made : Option (List ℕ)) (old new : F
 notes_none h None old new same = (refl, same)
 notes_none h (Some name) old new same = (inl refl, same)
 
-notes_one : {S : Type 0} (h : Ghosts S) (old new : FullText S) (name : List ℕ) (is_done : Bool) → DoesCall h old (Noted name is_done) new → Called h (MayNote (Some name)) (Noted name is_done ∷ []) old new
+notes_one : {S : Type 0} (h : Ghosts S) (old new : FullText S) (name : List ℕ) (is_done : Bool) → DoesForCause h old (Noted name is_done) new → Called h (MayNote (Some name)) (Noted name is_done ∷ []) old new
 notes_one h old new name is_done does = (inr (is_done, refl), (new, does, refl))
 
 same_shell : {P S : Type 0} (h : Ghosts S) (old new : Shell P S) → new ≡ old → Called h Uncalled [] old.full_text new.full_text
@@ -83,7 +82,7 @@ statement_calls g h settings text old new before after told (inl it) = go (is_un
     go true it = calls_nothing h before after it.1
     go false it = class_calls g h settings text old new before after told (class_of (known_names before) (sql_tokens text)) it
 
-looks_call : {S : Type 0} (h : Ghosts S) (old new : FullText S) (is_done : Bool) → OnlyLooks h old new → LeavesRead h old is_done new → Called h MayRead (Looked is_done ∷ []) old new
+looks_call : {S : Type 0} (h : Ghosts S) (old new : FullText S) (is_done : Bool) → OnlyLooks h old new → Leaves h old new is_done (λ _. ⊥) → Called h MayRead (Looked is_done ∷ []) old new
 looks_call h old new is_done looks leaves = (inr (is_done, refl), (new, (looks, leaves), refl))
 
 tables_calls : {P S : Type 0} (g : Ghosts P) (h : Ghosts S) (old new : Shell P S) (told : Answer) → (it : TablesTurn g h old.plain new.plain old.full_text new.full_text told) →
@@ -194,19 +193,19 @@ body_calls g h (Dot line text) old new told (inr nothing) = dot_none h old new t
 pub turn_spelled : {P S : Type 0} (g : Ghosts P) (h : Ghosts S) (member : Member) (old new : Shell P S) (all : Effects) → (turn : Turn g h member old new all) → CallsOf member old turn.body all.calls
 turn_spelled g h member old new all turn = subst (λ calls. CallsOf member old turn.body calls) (sym turn.calls) (body_calls g h member old new turn.body turn.done).0
 
-pub turn_made : {P S : Type 0} (g : Ghosts P) (h : Ghosts S) (member : Member) (old new : Shell P S) (all : Effects) → Turn g h member old new all → Runs h old.full_text all.calls new.full_text
-turn_made g h member old new all turn = subst (λ calls. Runs h old.full_text calls new.full_text) (sym turn.calls) (body_calls g h member old new turn.body turn.done).1
+pub turn_made : {P S : Type 0} (g : Ghosts P) (h : Ghosts S) (member : Member) (old new : Shell P S) (all : Effects) → Turn g h member old new all → Runs (DoesForCause h) old.full_text all.calls new.full_text
+turn_made g h member old new all turn = subst (λ calls. Runs (DoesForCause h) old.full_text calls new.full_text) (sym turn.calls) (body_calls g h member old new turn.body turn.done).1
 
 -- ---- calls one after another
 
-pub runs_join : {S : Type 0} (h : Ghosts S) (a b c : FullText S) (xs ys : List Call) → Runs h a xs b → Runs h b ys c → Runs h a (xs ++ ys) c
-runs_join h a b c [] ys same second = subst (λ k. Runs h k ys c) same second
+pub runs_join : {S : Type 0} (h : Ghosts S) (a b c : FullText S) (xs ys : List Call) → Runs (DoesForCause h) a xs b → Runs (DoesForCause h) b ys c → Runs (DoesForCause h) a (xs ++ ys) c
+runs_join h a b c [] ys same second = subst (λ k. Runs (DoesForCause h) k ys c) same second
 runs_join h a b c (call ∷ xs) ys (mid, does, rest) second = (mid, does, runs_join h mid b c xs ys rest second)
 
-pub turns_made : {P S : Type 0} (g : Ghosts P) (h : Ghosts S) (members : List Member) (old new : Shell P S) (all : Effects) → Turns g h members old new all → Runs h old.full_text all.calls new.full_text
-turns_made g h [] old new all it = subst (λ (d : Effects). Runs h old.full_text d.calls new.full_text) (sym it.1) (ap (λ (s : Shell _ _). s.full_text) it.0)
+pub turns_made : {P S : Type 0} (g : Ghosts P) (h : Ghosts S) (members : List Member) (old new : Shell P S) (all : Effects) → Turns g h members old new all → Runs (DoesForCause h) old.full_text all.calls new.full_text
+turns_made g h [] old new all it = subst (λ (d : Effects). Runs (DoesForCause h) old.full_text d.calls new.full_text) (sym it.1) (ap (λ (s : Shell _ _). s.full_text) it.0)
 turns_made g h (member ∷ members) old new all (mid, first, turn, more) = go (λ rest turns. turns_made g h members mid new rest turns) first.ends more
   where
-    go : ((rest : Effects) → Turns g h members mid new rest → Runs h mid.full_text rest.calls new.full_text) → (ends : Bool) → MatchBool ends ((new ≡ mid) × (all ≡ first)) ((rest : Effects) × Turns g h members mid new rest × (all ≡ and_then first rest)) → Runs h old.full_text all.calls new.full_text
-    go later true (same, is) = subst (λ (d : Effects). Runs h old.full_text d.calls new.full_text) (sym is) (subst (λ (s : Shell _ _). Runs h old.full_text first.calls s.full_text) (sym same) (turn_made g h member old mid first turn))
-    go later false (rest, turns, is) = subst (λ (d : Effects). Runs h old.full_text d.calls new.full_text) (sym is) (runs_join h old.full_text mid.full_text new.full_text first.calls rest.calls (turn_made g h member old mid first turn) (later rest turns))
+    go : ((rest : Effects) → Turns g h members mid new rest → Runs (DoesForCause h) mid.full_text rest.calls new.full_text) → (ends : Bool) → MatchBool ends ((new ≡ mid) × (all ≡ first)) ((rest : Effects) × Turns g h members mid new rest × (all ≡ and_then first rest)) → Runs (DoesForCause h) old.full_text all.calls new.full_text
+    go later true (same, is) = subst (λ (d : Effects). Runs (DoesForCause h) old.full_text d.calls new.full_text) (sym is) (subst (λ (s : Shell _ _). Runs (DoesForCause h) old.full_text first.calls s.full_text) (sym same) (turn_made g h member old mid first turn))
+    go later false (rest, turns, is) = subst (λ (d : Effects). Runs (DoesForCause h) old.full_text d.calls new.full_text) (sym is) (runs_join h old.full_text mid.full_text new.full_text first.calls rest.calls (turn_made g h member old mid first turn) (later rest turns))

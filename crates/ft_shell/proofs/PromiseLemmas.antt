@@ -5,18 +5,17 @@ use Rattle.shell_text.specs.Dot.{dot_words_of}
 use Rattle.shell_text.specs.Units.{Member, Sql, Dot, members_of}
 use Rattle.shell_text.specs.Words.{is_unclosed}
 use Rattle.ft_values.specs.declared.fault.Fault.{Fault}
-use Rattle.ft_content.specs.Deserved.{Contents, deserved}
+use Rattle.ft_content.specs.Step.{Contents, deserved}
 use Rattle.ft_content.specs.Step.{after, reply_to, step, step_by}
-use Rattle.ft_index.specs.Called.{Runs, left_by, AreAnswered}
+use Rattle.ft_index.specs.Kept.{Runs, left_by, AreAnswered, SurvivesCrash}
 use Rattle.ft_statements.specs.Statements.{FullText as FullTextClass}
 use Rattle.shell_io.specs.declared.run.Status.{Status}
 use Rattle.shell_io.specs.declared.run.RunFault.{RunFault}
 use Rattle.plain_sql.specs.Imports.{row_cells}
 use Rattle.shell_io.specs.Records.{kept, records_in}
 use Rattle.shell_io.specs.Outcomes.{Answer, Outcome, Tells, says, echoed, lacks_memory, outcome_of}
-use Rattle.ft_index.specs.Crashes.{SurvivesCrash}
 use Rattle.shell_io.specs.Sources.{Files}
-use Rattle.ft_shell.proofs.Common.{take-append-drop, Ghosts, Command, Filter, Insert, Items, Reply, Select, FullText, is_outside, Call, CallsKept, Executed, Looked, Noted, KeptByCalls, NoneGetsUnsound, accepted, sql_tokens, Class, Plain, class_of, DotCommand, Import, Nothing, SetMode, SetHeaders, SetSeparator, SetNull, SetEcho, SetBail, Print, Importing, Tables, Quit, Usage, Unknown, dot_command_of, reply_text, Parts, Shell, width_in, answer_of_reply, known_names, Effects, idle, and_then, outcome_in, after_stop, Begins, Turn, Turns, Ends, Console, IsFront, IsWhole, IsClean, Ran, AllRan, none_ran, last_ran, first_ran, Reached, Lists, KeptByRuns, RanAndKept, shell_parts, read_by, Broken, not_begun, not_echoed, not_told, made_name}
+use Rattle.ft_shell.proofs.Common.{take-append-drop, Ghosts, Command, Filter, Insert, Items, Reply, Select, FullText, is_outside, Call, DoesForCause, CallsKept, Executed, Looked, Noted, KeptByCalls, NoneGetsUnsound, accepted, sql_tokens, Class, Plain, class_of, DotCommand, Import, Nothing, SetMode, SetHeaders, SetSeparator, SetNull, SetEcho, SetBail, Print, Importing, Tables, Quit, Usage, Unknown, dot_command_of, reply_text, Parts, Shell, width_in, answer_of_reply, known_names, Effects, idle, and_then, outcome_in, after_stop, Begins, Turn, Turns, Ends, Console, IsFront, IsWhole, IsClean, Ran, AllRan, none_ran, last_ran, first_ran, Reached, Lists, KeptByRuns, RanAndKept, shell_parts, read_by, Broken, not_begun, not_echoed, not_told, made_name}
 use Rattle.ft_shell.proofs.Spelled.{MayNote, MayRead, CallsOf, CallsOfClass, CallsOfDot, CallsOfImport}
 use Rattle.ft_shell.proofs.CallsLemmas.{runs_join, turn_spelled, turns_made}
 use Rattle.ft_shell.proofs.TurnsLemmas.{assoc_then, idle_then, turns_one, turns_then}
@@ -145,7 +144,7 @@ module _ {P S : Type 0} (g : Ghosts P) (h : Ghosts S) where
     turn : Turn g h member was now own
     only : own.calls ≡ Executed command answer ∷ []
     behind : later.calls ≡ more
-    ends : Runs h now.full_text more new
+    ends : Runs (DoesForCause h) now.full_text more new
     out : all.out ≡ earlier.out ++ (own.out ++ later.out)
     err : all.err ≡ earlier.err ++ (own.err ++ later.err)
 
@@ -160,7 +159,7 @@ module _ {P S : Type 0} (g : Ghosts P) (h : Ghosts S) where
   at_turn [] old new all it before more command answer is = absurd (no_more before more (Executed command answer) (sym (ap (λ (d : Effects). d.calls) it.1) ∙ is))
   at_turn (member ∷ members) old new all (mid, first, turn, rest) before more command answer is = go (λ later turns b e. at_turn members mid new later turns b more command answer e) first.ends refl rest
     where
-      here : first.calls ≡ before ++ Executed command answer ∷ [] → before ≡ [] → Runs h mid.full_text more new.full_text → (later : Effects) → later.calls ≡ more → all.out ≡ first.out ++ later.out → all.err ≡ first.err ++ later.err → At (From (member ∷ members) old) all before command answer more new.full_text
+      here : first.calls ≡ before ++ Executed command answer ∷ [] → before ≡ [] → Runs (DoesForCause h) mid.full_text more new.full_text → (later : Effects) → later.calls ≡ more → all.out ≡ first.out ++ later.out → all.err ≡ first.err ++ later.err → At (From (member ∷ members) old) all before command answer more new.full_text
       here own no_front ends later behind out err = record {
         member = member;
         was = old;
@@ -183,14 +182,14 @@ module _ {P S : Type 0} (g : Ghosts P) (h : Ghosts S) where
       go next true ended (same, all_is) =
           let own : first.calls ≡ before ++ Executed command answer ∷ more = sym (ap (λ (d : Effects). d.calls) all_is) ∙ is in
           let alone = few_is first.calls before more command answer (few member old turn.body first.calls (turn_spelled g h member old mid first turn)) own in
-          here (own ∙ ap (λ m. before ++ Executed command answer ∷ m) alone.1) alone.0 (subst (λ m. Runs h mid.full_text m new.full_text) (sym alone.1) (ap (λ (s : Shell P S). s.full_text) same)) idle (sym alone.1)
+          here (own ∙ ap (λ m. before ++ Executed command answer ∷ m) alone.1) alone.0 (subst (λ m. Runs (DoesForCause h) mid.full_text m new.full_text) (sym alone.1) (ap (λ (s : Shell P S). s.full_text) same)) idle (sym alone.1)
           (ap (λ (d : Effects). d.out) all_is ∙ sym (append-nil first.out)) (ap (λ (d : Effects). d.err) all_is ∙ sym (append-nil first.err))
       go next false goes (later, turns, all_is) = cut (split_at first.calls later.calls before more (Executed command answer) (sym (ap (λ (d : Effects). d.calls) all_is) ∙ is))
         where
           cut : ((m : List Call) × (first.calls ≡ before ++ Executed command answer ∷ m) × (more ≡ m ++ later.calls)) ⊎ ((b : List Call) × (before ≡ first.calls ++ b) × (later.calls ≡ b ++ Executed command answer ∷ more)) → At (From (member ∷ members) old) all before command answer more new.full_text
           cut (inl (m, own, left)) =
               let alone = few_is first.calls before m command answer (few member old turn.body first.calls (turn_spelled g h member old mid first turn)) own in
-              here (own ∙ ap (λ k. before ++ Executed command answer ∷ k) alone.1) alone.0 (subst (λ k. Runs h mid.full_text k new.full_text) (sym (left ∙ ap (λ k. k ++ later.calls) alone.1)) (turns_made g h members mid new later turns)) later (sym (left ∙ ap (λ k. k ++ later.calls) alone.1))
+              here (own ∙ ap (λ k. before ++ Executed command answer ∷ k) alone.1) alone.0 (subst (λ k. Runs (DoesForCause h) mid.full_text k new.full_text) (sym (left ∙ ap (λ k. k ++ later.calls) alone.1)) (turns_made g h members mid new later turns)) later (sym (left ∙ ap (λ k. k ++ later.calls) alone.1))
               (ap (λ (d : Effects). d.out) all_is) (ap (λ (d : Effects). d.err) all_is)
           cut (inr (b, front, left)) =
               let it = next later turns b left in
@@ -275,10 +274,10 @@ ran_turns g h (Err fault) old new all (it, is) =
     made_as g h it.read old.shell new.shell it.effects all is
     (broken_made g h fault it.whole it.read old.shell it.mid new.shell it.mid_out new.out it.mid_err new.err it.next it.effects (front_begins g h new.input it.read old.shell it.mid it.whole it.next it.turns) it.broken)
 
-ran_made : {P S : Type 0} (g : Ghosts P) (h : Ghosts S) (ended : Result Status RunFault) (old new : Console P S) (all : Effects) → Ran g h ended old new all → Runs h old.shell.full_text all.calls new.shell.full_text
+ran_made : {P S : Type 0} (g : Ghosts P) (h : Ghosts S) (ended : Result Status RunFault) (old new : Console P S) (all : Effects) → Ran g h ended old new all → Runs (DoesForCause h) old.shell.full_text all.calls new.shell.full_text
 ran_made g h ended old new all ran = let it = ran_turns g h ended old new all ran in turns_made g h it.members old.shell new.shell all it.turns
 
-pub all_made : {P S : Type 0} (g : Ghosts P) (h : Ghosts S) (old new : Parts P S) (reads : List (List ℕ)) (all : Effects) → AllRan g h old reads all new → Runs h old.full_text all.calls new.full_text
+pub all_made : {P S : Type 0} (g : Ghosts P) (h : Ghosts S) (old new : Parts P S) (reads : List (List ℕ)) (all : Effects) → AllRan g h old reads all new → Runs (DoesForCause h) old.full_text all.calls new.full_text
 all_made g h old new reads all (none_ran parts) = refl
 all_made g h old new reads all (last_ran ended from to own ran) = ran_made g h ended from to own ran
 all_made g h old new reads all (first_ran ended from to own others rest last ran later) =
@@ -341,7 +340,7 @@ at_all {P} {S} g h old new reads all (first_ran ended from to own inputs rest la
           turn = it.turn;
           only = it.only;
           behind = ap (λ k. k ++ rest.calls) it.behind ∙ sym left;
-          ends = subst (λ k. Runs h it.now.full_text k last.full_text) (sym left) (runs_join h it.now.full_text to.shell.full_text last.full_text m rest.calls it.ends (all_made g h (shell_parts to.shell) last inputs rest others));
+          ends = subst (λ k. Runs (DoesForCause h) it.now.full_text k last.full_text) (sym left) (runs_join h it.now.full_text to.shell.full_text last.full_text m rest.calls it.ends (all_made g h (shell_parts to.shell) last inputs rest others));
           out = behind it.earlier.out it.own.out it.later.out rest.out it.out;
           err = behind it.earlier.err it.own.err it.later.err rest.err it.err;
         }
@@ -460,7 +459,7 @@ module _ (table : List ℕ) (items : Items) (filter : Filter) (limit : Option �
 
 -- ---- the promise
 
-pub kept_by_runs : {P S : Type 0} (g : Ghosts P) (h : Ghosts S) → KeptByCalls h → NoneGetsUnsound → KeptByRuns g h (IsClean h)
+pub kept_by_runs : {P S : Type 0} (g : Ghosts P) (h : Ghosts S) → KeptByCalls h (DoesForCause h) → NoneGetsUnsound → KeptByRuns g h (IsClean h)
 kept_by_runs g h law sound first old new reads all held settled ran clean = record {
   calls = kept;
   sound = λ id. sound first (accepted all.calls) id;
@@ -472,7 +471,7 @@ kept_by_runs g h law sound first old new reads all held settled ran clean = reco
       );
 }
   where
-    kept : CallsKept h first old.full_text all.calls new.full_text
+    kept : CallsKept h (DoesForCause h) first old.full_text all.calls new.full_text
     kept = law old.full_text new.full_text all.calls first clean held settled (all_made g h old new reads all ran)
 
 -- one run, however it ends

@@ -10,9 +10,8 @@ use Rattle.ft_shell.specs.Effects.{Effects, and_then}
 use Rattle.ft_shell.specs.Turns.{Turn, echo_of}
 use Rattle.shell_io.specs.Writing.{AppendsUpTo}
 
--- Some turns were done, and all that they have to say was written; then a run is cut short, with
--- this member next. It gives what was done in all. Only a refused write stops within a turn: the
--- echo of a unit comes first, and where it is refused the unit is not run.
+-- Some turns were done, and all that they have to say was written; then a run is cut short, with this member next. It gives what was done
+-- in all. Only a refused write stops within a turn: the echo of a unit comes first, and where it is refused the unit is not run.
 pub data Broken {P S : Type 0} (g : Ghosts P) (h : Ghosts S) (fault : RunFault) (whole : Effects) (old new : Shell P S)
     (out out' err err' : Option (List ℕ)) : List Member → Effects → Type 0 where
   not_begun : new ≡ old → out' ≡ out → err' ≡ err → Broken g h fault whole old new out out' err err' [] whole

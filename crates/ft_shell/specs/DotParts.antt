@@ -1,5 +1,4 @@
--- Meaning. The parts of dot-commands that need no table ("Special commands to sqlite3
--- (dot-commands)" of "Command Line Shell For SQLite").
+-- Meaning. The parts of dot-commands that need no table ("Special commands to sqlite3 (dot-commands)" of "Command Line Shell For SQLite").
 use Rattle.std.specs.Prelude.{ℕ, ◌≡◌, ◌==◌, if◌then◌else◌, MatchBool, List, [], ◌∷◌, codes}
 use Rattle.shell_text.specs.Print.{Settings}
 use Rattle.ft_statements.specs.Dots.{DotCommand}

@@ -1,5 +1,4 @@
--- Meaning. What a dot-command does in a session ("Special commands to sqlite3 (dot-commands)" of
--- "Command Line Shell For SQLite").
+-- Meaning. What a dot-command does in a session ("Special commands to sqlite3 (dot-commands)" of "Command Line Shell For SQLite").
 use Rattle.std.specs.Prelude.{◌≡◌, codes}
 use Rattle.sqlite.specs.Store.{Ghosts}
 use Rattle.ft_shell.specs.Shell.{Shell}

@@ -6,7 +6,8 @@ use Rattle.ft_values.specs.declared.fault.Fault.{Fault}
 use Rattle.ft_values.specs.declared.fault.Fault.TheVariants as faults
 use Rattle.ft_content.specs.Command.{Command, Reply}
 use Rattle.ft_index.specs.Kept.{FullText}
-use Rattle.ft_index.specs.Called.{DoesCall, Executed, Noted}
+use Rattle.ft_index.specs.Kept.{Executed, Noted}
+use Rattle.ft_index.specs.Refused.{DoesForCause}
 use Rattle.ft_statements.specs.Texts.{fault_text}
 use Rattle.ft_statements.specs.Replies.{reply_text}
 use Rattle.shell_io.specs.Outcomes.{Answer, says, warned, blames, complains, Tells}
@@ -16,11 +17,10 @@ abbrev pub answer_of_reply : Settings → Result Reply Fault → Answer
 answer_of_reply settings (Ok reply) = says (reply_text settings reply)
 answer_of_reply settings (Err fault) = blames (fault_text fault)
 
--- The command is executed once, and its reply is printed; where memory refuses the print, it was
--- executed all the same.
+-- The command is executed once, and its reply is printed; where memory refuses the print, it was executed all the same.
 pub record FullTextTurn {S : Type 0} (h : Ghosts S) (settings : Settings) (command : Command) (old new : FullText S) (told : Answer) : Type 0 where
   pub answer : Result Reply Fault
-  pub does : DoesCall h old (Executed command answer) new
+  pub does : DoesForCause h old (Executed command answer) new
   pub tells : Tells (answer_of_reply settings answer) told
 
 -- what is said of a note, after warnings
@@ -32,7 +32,7 @@ answer_of_note lines (Err _) = complains lines (codes "table not noted")
 -- A new plain table's name is noted, after warnings, or the note is refused.
 pub record NoteTurn {S : Type 0} (h : Ghosts S) (lines name : List ℕ) (old new : FullText S) (told : Answer) : Type 0 where
   pub answer : Result (Unit {0}) Fault
-  pub does : DoesCall h old (Noted name (is_ok answer)) new
+  pub does : DoesForCause h old (Noted name (is_ok answer)) new
   pub tells : told ≡ answer_of_note lines answer
 
 -- it is noted if there is one

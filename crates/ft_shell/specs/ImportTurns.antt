@@ -1,6 +1,5 @@
--- Meaning. What `.import` does in a session ("Importing files as CSV or other formats" of "Command
--- Line Shell For SQLite"; that an import is one command, whole or not at all, and each refusal, are
--- own choices).
+-- Meaning. What `.import` does in a session ("Importing files as CSV or other formats" of "Command Line Shell For SQLite"; that an import
+-- is one command, whole or not at all, and each refusal, are own choices).
 use Rattle.std.specs.Prelude.{ℕ, ◌≡◌, ◌⊎◌, ◌<◌, ◌≤◌, List, [], ◌∷◌, length, map, true, false, codes, Option, Some, None, option_map, Result, Ok, Err}
 use Rattle.csv.specs.Reading.{AreRecords, strip_bom}
 use Rattle.csv.specs.declared.parser.State.TheVariants as csv
@@ -13,7 +12,8 @@ use Rattle.ft_content.specs.Command.{Command, Insert, Reply}
 use Rattle.ft_content.specs.Views.{TableInfo}
 use Rattle.ft_documents.specs.Found.{info_named}
 use Rattle.ft_index.specs.Kept.{FullText}
-use Rattle.ft_index.specs.Called.{DoesCall, Executed}
+use Rattle.ft_index.specs.Kept.{Executed}
+use Rattle.ft_index.specs.Refused.{DoesForCause}
 use Rattle.ft_statements.specs.Dots.{Import}
 use Rattle.ft_shell.specs.FullTextTurns.{NoteTurn}
 use Rattle.plain_sql.specs.Imports.{delimiter_of, row_cells}
@@ -40,11 +40,10 @@ answer_of_insert lines (Err fault) = blames (fault_text fault)
 -- The one command is executed, and what came of it is said.
 pub record InsertTurn {S : Type 0} (h : Ghosts S) (command : Command) (lines : List ℕ) (before after : FullText S) (told : Answer) : Type 0 where
   pub answer : Result Reply Fault
-  pub does : DoesCall h before (Executed command answer) after
+  pub does : DoesForCause h before (Executed command answer) after
   pub tells : told ≡ answer_of_insert lines answer
 
--- All records go in by one Insert, or none does. Where memory is wanting before it, nothing is
--- done.
+-- All records go in by one Insert, or none does. Where memory is wanting before it, nothing is done.
 pub data TextImport {S : Type 0} (h : Ghosts S) (what : Import) (n : ℕ) (rows : List (ℕ × List (List ℕ))) (before after : FullText S)
     (told : Answer) : Type 0 where
   executed : InsertTurn h (Insert what.table None (map (row_cells n) (records_in rows))) (warnings what.file n rows) before after told
@@ -54,8 +53,7 @@ pub data TextImport {S : Type 0} (h : Ghosts S) (what : Import) (n : ℕ) (rows 
 -- ---- into a plain table
 
 module _ {P : Type 0} (g : Ghosts P) (what : Import) (rows : List (ℕ × List (List ℕ))) where
-  -- Into a table that the first record left names the columns of: it is made in the same
-  -- transaction, and noted after the warnings.
+  -- Into a table that the first record left names the columns of: it is made in the same transaction, and noted after the warnings.
   module _ {S : Type 0} (h : Ghosts S) where
     pub data IntoNew (old new : Held P) (before after : FullText S) (told : Answer) : Type 0 where
       no_header : rows ≡ [] → new ≡ old → after ≡ before → told ≡ blames (codes "no header record") → IntoNew old new before after told
@@ -99,8 +97,7 @@ module _ {P S : Type 0} (g : Ghosts P) (h : Ghosts S) (what : Import) (old new :
     no_text : IsNoText (csv_reader delimiter) bytes → Declined (codes "file is not UTF-8") → BytesTurn delimiter bytes
     no_memory : Declined (codes "out of memory") → BytesTurn delimiter bytes
 
-  -- the file's bytes are those that its name holds, if they are there, or their fetch is refused by
-  -- this fault
+  -- the file's bytes are those that its name holds, if they are there, or their fetch is refused by this fault
   pub data FileTurn (holds : Files) (delimiter : ℕ) : Type 0 where
     fetched : (bytes : List ℕ) → GivesFile holds what.file bytes → BytesTurn delimiter bytes → FileTurn holds delimiter
     unfetched : (fault : SourceFault) → Refuses holds what.file fault → Declined (fetch_words fault) → FileTurn holds delimiter

@@ -1,5 +1,5 @@
--- Meaning. What a statement of plain SQL does in a session ("Command Line Shell For SQLite"; that
--- the name of a table that is made is noted is an own choice).
+-- Meaning. What a statement of plain SQL does in a session ("Command Line Shell For SQLite"; that the name of a table that is made is noted
+-- is an own choice).
 use Rattle.std.specs.Prelude.{ℕ, ◌≡◌, ◌⊎◌, List, [], Option, Ok, Err, MatchBool}
 use Rattle.sqlite.specs.Store.{Ghosts}
 use Rattle.sqlite.specs.Held.{Held, state}

@@ -21,8 +21,7 @@ pub record Moment (P S : Type 0) : Type 0 where
   pub out : Option (List ℕ)
   pub err : Option (List ℕ)
 
--- such a moment, of a shell and the outputs of its run, whose writers hold what these functions
--- read
+-- such a moment, of a shell and the outputs of its run, whose writers hold what these functions read
 abbrev pub moment : {P S O E : Type 0} → (O → Option (List ℕ)) → (E → Option (List ℕ)) → Shell P S → Outputs O E → Moment P S
 moment out_of err_of shell outputs = record { shell = shell; status = outputs.status; out = out_of outputs.out.now; err = err_of outputs.err.now }
 
@@ -39,9 +38,8 @@ abbrev pub GoesOn : Status → LinesRead → Type 0
 GoesOn status read = (status.quit ≡ false) × (read.splitting.waiting ≡ [])
 
 module _ {P S : Type 0} (g : Ghosts P) (h : Ghosts S) where
-  -- The members' turns were done one after the other, and what they have to say was written and
-  -- counted.
-  -- The count of fault lines stays at 2 ^ 64 - 1 once there.
+  -- The members' turns were done one after the other, and what they have to say was written and counted. The count of fault lines stays at
+  -- 2 ^ 64 - 1 once there.
   pub record Did (members : List Member) (old new : Moment P S) : Type 0 where
     pub effects : Effects
     pub turns : Turns g h members old.shell new.shell effects
@@ -50,16 +48,14 @@ module _ {P S : Type 0} (g : Ghosts P) (h : Ghosts S) where
     pub faults : min new.status.faults (2 ^ 64 - 1) ≡ min (old.status.faults + effects.faults) (2 ^ 64 - 1)
     pub quit : new.status.quit ≡ (old.status.quit || effects.ends)
 
-  -- The members' turns were done and written whole, and then what they are part of was cut short,
-  -- before these.
+  -- The members' turns were done and written whole, and then what they are part of was cut short, before these.
   pub record Cut (fault : RunFault) (members next : List Member) (old new : Moment P S) : Type 0 where
     pub mid : Moment P S
     pub did : Did members old mid
     pub effects : Effects
     pub broken : Broken g h fault did.effects mid.shell new.shell mid.out new.out mid.err new.err next effects
 
-  -- Of the members that are due, however the input goes on, a front was done. Where the session
-  -- goes on, the others are left.
+  -- Of the members that are due, however the input goes on, a front was done. Where the session goes on, the others are left.
   pub record Passes {W : Type 0} (due left : W → List Member) (old new : Moment P S) : Type 0 where
     pub done : List Member
     pub front : (way : W) → (more : List Member) × (due way ≡ done ++ more) × (new.status.quit ≡ false → more ≡ left way)
@@ -81,8 +77,7 @@ module _ {P S : Type 0} (g : Ghosts P) (h : Ghosts S) where
   Runs (Ok _) due left old new = Passes due left old new
   Runs (Err fault) due left old new = Breaks fault due old new × IsInside fault
 
-  -- The bytes that were read are taken, as far as there is room. Without any the input is at its
-  -- end, and what is left of it is done.
+  -- The bytes that were read are taken, as far as there is room. Without any the input is at its end, and what is left of it is done.
   pub record TakesRead {T : Type 0} (result : Result T RunFault) (room : ℕ) (bytes : List ℕ) (read left : LinesRead) (old new : Moment P S) : Type 0 where
     pub goes : 0 < length bytes → Runs result (λ (way : Way). members_left read (behind (take room bytes) way)) (members_left left) old new
     pub ends : length bytes ≡ 0 → Runs result (λ (_ : Unit {0}). members_left read at_end) (λ _. []) old new

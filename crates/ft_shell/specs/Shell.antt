@@ -7,8 +7,8 @@ use Rattle.shell_text.specs.contracts.settings.Settings as settings
 use Rattle.ft_index.specs.Kept.{FullText, full_text_code}
 use Rattle.shell_io.specs.Sources.{Files}
 
--- The settings, the connection to the plain database over a store P, the full-text tables over a
--- store S, and what is known of the files that can be imported.
+-- The settings, the connection to the plain database over a store P, the full-text tables over a store S, and what is known of the files
+-- that can be imported.
 pub record Shell (P S : Type 0) : Type 0 where
   pub settings : Settings
   pub plain : Held P

@@ -1,6 +1,5 @@
--- Meaning. What a statement does in a session: plain SQL or full-text, by its class. That a
--- full-text statement that spells no command, or a text in which something is open, is refused is
--- an own choice.
+-- Meaning. What a statement does in a session: plain SQL or full-text, by its class. That a full-text statement that spells no command, or
+-- a text in which something is open, is refused is an own choice.
 use Rattle.std.specs.Prelude.{ℕ, ◌≡◌, List, map, codes, Option, Some, None, MatchBool}
 use Rattle.sqlite.specs.Store.{Ghosts}
 use Rattle.sqlite.specs.Held.{Held}

@@ -1,21 +1,19 @@
--- Meaning. What `.tables` does in a session ("Querying the database schema" of "Command Line Shell
--- For SQLite"; that plain tables are listed by their noted names, and only those that can be read,
--- is an own choice).
+-- Meaning. What `.tables` does in a session ("Querying the database schema" of "Command Line Shell For SQLite"; that plain tables are
+-- listed by their noted names, and only those that can be read, is an own choice).
 use Rattle.std.specs.Prelude.{ℕ, ◌≡◌, List, map, true, false, codes}
 use Rattle.sqlite.specs.Store.{Ghosts}
 use Rattle.sqlite.specs.Held.{Held}
 use Rattle.ft_index.specs.Kept.{FullText, IsUp, OnlyLooks, store_value}
-use Rattle.ft_index.specs.Crashes.{LeavesRead}
+use Rattle.ft_index.specs.Kept.{Leaves}
 use Rattle.plain_sql.specs.Listings.{Lists}
 use Rattle.shell_io.specs.Outcomes.{Answer, blames, Tells}
 use Rattle.ft_shell.specs.StatementTurns.{known_names}
 
 module _ {P S : Type 0} (g : Ghosts P) (h : Ghosts S) where
-  -- The noted names are read, and listed with those of the full-text tables; or the full-text store
-  -- refuses to read them.
+  -- The noted names are read, and listed with those of the full-text tables; or the full-text store refuses to read them.
   pub data TablesTurn (old new : Held P) (before after : FullText S) (told : Answer) : Type 0 where
-    lists : (noted : List (List ℕ)) → OnlyLooks h before after → LeavesRead h before true after
+    lists : (noted : List (List ℕ)) → OnlyLooks h before after → Leaves h before after true (λ _. ⊥)
         → (IsUp h after → noted ≡ map (λ n. n.1) (store_value h before).noted) → Lists g (known_names before) noted old new told
         → TablesTurn old new before after told
-    refused : OnlyLooks h before after → LeavesRead h before false after → new ≡ old
+    refused : OnlyLooks h before after → Leaves h before after false (λ _. ⊥) → new ≡ old
         → Tells (blames (codes "full-text store refused")) told → TablesTurn old new before after told

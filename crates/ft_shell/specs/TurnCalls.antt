@@ -1,5 +1,5 @@
--- Meaning. The calls that a turn makes of the full-text tables, read off the turn: each command
--- that it executes, with the answer that it has, and each note. All of it is our own choice.
+-- Meaning. The calls that a turn makes of the full-text tables, read off the turn: each command that it executes, with the answer that it
+-- has, and each note. All of it is our own choice.
 use Rattle.std.proofs.Common.{inl, inr}
 use Rattle.std.specs.Prelude.{ℕ, ◌≡◌, Bool, true, false, MatchBool, List, [], ◌∷◌, map, codes, Option, Some, None, is_ok}
 use Rattle.sqlite.specs.Store.{Ghosts}
@@ -8,7 +8,7 @@ use Rattle.shell_text.specs.Print.{Settings}
 use Rattle.shell_text.specs.Words.{is_unclosed}
 use Rattle.ft_content.specs.Command.{Insert}
 use Rattle.ft_index.specs.Kept.{FullText}
-use Rattle.ft_index.specs.Called.{Call, Executed, Looked, Noted}
+use Rattle.ft_index.specs.Kept.{Call, Executed, Looked, Noted}
 use Rattle.ft_statements.specs.Words.{sql_tokens}
 use Rattle.ft_statements.specs.Plain.{asks, made_name}
 use Rattle.ft_statements.specs.Statements.{Class, Plain, FullText as FullTextClass, class_of}

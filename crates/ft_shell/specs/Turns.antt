@@ -1,6 +1,6 @@
--- Meaning. A session: the turns of an input's members, one after the other, each from what the turn
--- before it left. What is done with a unit is that of its kind; echo and bail are of the section
--- "Special commands to sqlite3 (dot-commands)" of "Command Line Shell For SQLite".
+-- Meaning. A session: the turns of an input's members, one after the other, each from what the turn before it left. What is done with a
+-- unit is that of its kind; echo and bail are of the section "Special commands to sqlite3 (dot-commands)" of "Command Line Shell For
+-- SQLite".
 use Rattle.std.proofs.Common.{inl, inr}
 use Rattle.std.specs.Prelude.{ℕ, ◌≡◌, ◌⊎◌, MatchBool, List, [], ◌∷◌, ◌++◌, take, drop}
 use Rattle.sqlite.specs.Store.{Ghosts}
@@ -12,7 +12,7 @@ use Rattle.ft_statements.specs.Dots.{DotCommand, dot_command_of}
 use Rattle.ft_shell.specs.DotTurns.{DotTurn}
 use Rattle.ft_shell.specs.DotParts.{after_stop}
 use Rattle.ft_shell.specs.StatementTurns.{StatementTurn}
-use Rattle.ft_index.specs.Called.{Call}
+use Rattle.ft_index.specs.Kept.{Call}
 use Rattle.ft_shell.specs.TurnCalls.{dot_in, statement_in}
 use Rattle.shell_io.specs.Outcomes.{Answer, Outcome, blames, echo_text, echoed, lacks_memory, outcome_of}
 use Rattle.ft_shell.specs.Effects.{Effects, outcome_in, idle, and_then}
@@ -43,8 +43,7 @@ module _ {P S : Type 0} (g : Ghosts P) (h : Ghosts S) where
   calls_in (Dot line text) old new told (inl it) = dot_in g h old new told (dot_command_of (dot_words_of (after_stop text))) it
   calls_in (Dot line text) old new told (inr nothing) = []
 
-  -- The answer is written with the line that the member begins on. The text of a unit is echoed
-  -- where echo is on.
+  -- The answer is written with the line that the member begins on. The text of a unit is echoed where echo is on.
   abbrev pub Echoed : Member → Shell P S → Answer → Outcome → Type 0
   Echoed (Fault line fault) old body told = told ≡ outcome_of old.settings.bail line body
   Echoed (Sql line text) old body told = told ≡ echoed old.settings text (outcome_of old.settings.bail line body)

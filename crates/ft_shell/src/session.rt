@@ -6,7 +6,7 @@ ghost use Rattle.shell_io.specs.LinesRead.{HasNoEnd, Way, at_end, behind, member
 ghost use Rattle.ft_shell.specs.Ran.{moment, Ends, GoesOn, IsWithinLine, NoneWaits, Runs, TakesRead};
 ghost use Rattle.ft_shell.specs.Runs.{console_of};
 ghost use Rattle.ft_shell.specs.Promise.{IsAny, IsClean, KeptByRuns, RanAndKept};
-ghost use Rattle.ft_index.specs.Crashes.{SurvivesCrash};
+ghost use Rattle.ft_index.specs.Kept.{SurvivesCrash};
 ghost use Rattle.ft_shell.specs.Shell.{shell_with};
 ghost use Rattle.shell_io.specs.Sources.{Files};
 ghost use Rattle.shell_io.specs.Writing.{SameWriters};
@@ -122,6 +122,7 @@ impl<P: Alter, S: Alter> Session<P, S> {
         ensures { KeptByRuns P.Store S.Store (IsClean S.Store) }
     {
         FullText::<S>::kept_by_calls();
+        FullText::<S>::kept_with_causes();
     }
 
     // The law that a crash leaves what an open store holds, and nothing else.

@@ -1,5 +1,5 @@
--- Meaning. The arguments of CREATE VIRTUAL TABLE, and what it makes of them ("Creating and
--- Destroying FTS Tables" of the SQLite document "SQLite FTS3 and FTS4 Extensions").
+-- Meaning. The arguments of CREATE VIRTUAL TABLE, and what it makes of them ("Creating and Destroying FTS Tables" of the SQLite document
+-- "SQLite FTS3 and FTS4 Extensions").
 use Rattle.std.specs.Prelude.{ℕ, List, [], ◌∷◌, map, Option, Some, None, codes}
 use Rattle.std.specs.List.{join_with_byte}
 use Rattle.ft_statements.specs.Words.{Token, bare}

@@ -1,6 +1,5 @@
--- Meaning. Which dot-command a line's words are. A section named in quotes is one of the SQLite
--- document "Command Line Shell For SQLite". That names are exact, and that each command has just
--- these words, is our own choice.
+-- Meaning. Which dot-command a line's words are. A section named in quotes is one of the SQLite document "Command Line Shell For SQLite".
+-- That names are exact, and that each command has just these words, is our own choice.
 use Prim.Native.String.{String}
 use Rattle.std.specs.Prelude.{◌≡◌, ◌≢◌, ◌⊎◌, ℕ, nat_le, nat_lt, Bool, true, false, ◌&&◌}
 use Rattle.std.specs.Prelude.{◌||◌, List, [], ◌∷◌, length, Option, Some, None, unwrap_or, if◌then◌else◌, codes, bytes_eq}
@@ -13,8 +12,7 @@ use Rattle.ft_statements.specs.Forms.{Other, Form, means, one, ends, ◌&◌, �
 use Rattle.ft_statements.specs.Values.{digits_value}
 use Rattle.ft_statements.specs.Reading.{found, read}
 
--- the arguments of `.import`: whether a comma parts fields, how many records are skipped, and a
--- file's and a table's name
+-- the arguments of `.import`: whether a comma parts fields, how many records are skipped, and a file's and a table's name
 pub record Import : Type 0 where
   pub csv : Bool
   pub skip : Option ℕ

@@ -1,6 +1,5 @@
--- Meaning. Forms of words: which words a command is written in, and what they mean. A form is
--- data; that words have a form is one relation over all forms, and by the same forms they are
--- read. All of it is our own choice; what the forms of statements are, is said in Grammar.
+-- Meaning. Forms of words: which words a command is written in, and what they mean. A form is data; that words have a form is one relation
+-- over all forms, and by the same forms they are read. All of it is our own choice; what the forms of statements are, is said in Grammar.
 use Rattle.std.specs.Prelude.{◌≡◌, ◌⊎◌, Bool, true, false, List, [], ◌∷◌, ◌++◌, Option, Some}
 
 -- what a word does to words in groups, as parentheses are, that commas part

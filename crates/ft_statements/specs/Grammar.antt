@@ -1,8 +1,7 @@
--- Meaning. The grammar of full-text statements: which words spell which command. A section named in
--- quotes is one of the SQLite document "SQLite FTS3 and FTS4 Extensions"; what has none is our own
--- choice, and so it is that just these forms are read. Tables are made and dropped as in "Creating
--- and Destroying FTS Tables", written as in "Populating FTS Tables", and read as in "Simple FTS
--- Queries". Where one of several forms is read, the first that the words have is taken.
+-- Meaning. The grammar of full-text statements: which words spell which command. A section named in quotes is one of the SQLite document
+-- "SQLite FTS3 and FTS4 Extensions"; what has none is our own choice, and so it is that just these forms are read. Tables are made and
+-- dropped as in "Creating and Destroying FTS Tables", written as in "Populating FTS Tables", and read as in "Simple FTS Queries". Where one
+-- of several forms is read, the first that the words have is taken.
 use Prim.Native.String.{String}
 use Rattle.std.specs.Prelude.{ℕ, ◌-◌, ◌^◌, nat_le, Bool, true, false, List, [], ◌∷◌, Option, Some, None, if◌then◌else◌, codes, ℤ}
 use Rattle.std.specs.Str.{str_eq_ignore_ascii_case}

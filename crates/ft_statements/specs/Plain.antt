@@ -12,8 +12,7 @@ query_words = codes "SELECT" ∷ codes "VALUES" ∷ codes "WITH" ∷ []
 abbrev pub writing_words : List (List ℕ)
 writing_words = codes "INSERT" ∷ codes "UPDATE" ∷ codes "DELETE" ∷ codes "REPLACE" ∷ []
 
--- Which plain statements are run as queries: the first word says so, or it writes and RETURNING
--- stands after it (own choice)
+-- Which plain statements are run as queries: the first word says so, or it writes and RETURNING stands after it (own choice)
 pub data Asks : List Token → Type 0 where
   queries : {t : Token} {ts : List Token} → Any (λ word. spells word t ≡ true) query_words → Asks (t ∷ ts)
   returns : {t : Token} {ts : List Token} → Any (λ word. spells word t ≡ true) writing_words → Any (λ u. spells (codes "RETURNING") u ≡ true) ts → Asks (t ∷ ts)
@@ -31,8 +30,8 @@ seeks ts = list_any (spells (codes "MATCH")) ts
 unfoldable pub temporary : Form Token (Unit {0})
 temporary = when (spells (codes "TEMP")) (word "TEMP") (when (spells (codes "TEMPORARY")) (word "TEMPORARY") (means tt))
 
--- CREATE [TEMP | TEMPORARY] TABLE [IF NOT EXISTS] name          (own choice: so far as the name is a
--- bare word or a quoted one); any words may follow
+-- CREATE [TEMP | TEMPORARY] TABLE [IF NOT EXISTS] name          (own choice: so far as the name is a bare word or a quoted one); any words
+-- may follow
 abbrev pub made_table : Form Token (List ℕ)
 made_table =
     means (λ name. name) · word "CREATE" · temporary · word "TABLE" · may (codes "IF" ∷ codes "NOT" ∷ codes "EXISTS" ∷ []) & name

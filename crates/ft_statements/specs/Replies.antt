@@ -1,5 +1,5 @@
--- Meaning. What is printed for a reply ("Changing Output Formats" of "Command Line Shell For
--- SQLite"), and the names that `.tables` lists (its section "Querying the database schema").
+-- Meaning. What is printed for a reply ("Changing Output Formats" of "Command Line Shell For SQLite"), and the names that `.tables` lists
+-- (its section "Querying the database schema").
 use Rattle.std.specs.Prelude.{ℕ, Bool, not, List, [], map, filter, ◌++◌}
 use Rattle.std.specs.List.{list_any}
 use Rattle.std.specs.List.Sorted.{IsPermutation, IsSorted}
@@ -29,8 +29,7 @@ reply_text settings (Rows grid) = printed settings (printed_table grid)
 abbrev pub is_own : List (List ℕ) → List ℕ → Bool
 is_own tables name = list_any (λ table. same_name table name) tables
 
--- `.tables` lists the full-text tables and the plain ones that were found, but for those that a
--- full-text table hides
+-- `.tables` lists the full-text tables and the plain ones that were found, but for those that a full-text table hides
 abbrev pub listed : List (List ℕ) → List (List ℕ) → List (List ℕ)
 listed tables found = tables ++ filter (λ name. not (is_own tables name)) found
 

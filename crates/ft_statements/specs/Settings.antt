@@ -1,5 +1,4 @@
--- Meaning. What dot-commands set and print ("Changing Output Formats" of "Command Line Shell For
--- SQLite").
+-- Meaning. What dot-commands set and print ("Changing Output Formats" of "Command Line Shell For SQLite").
 use Rattle.std.specs.Prelude.{ℕ, ◌≡◌, Bool, true, false, List, [], ◌∷◌, ◌++◌, Some, Result, OnOk, OnErr, IsErrOf}
 use Rattle.std.specs.List.{join_with_byte}
 use Rattle.shell_text.specs.Print.{Settings, may_separate, with_mode}

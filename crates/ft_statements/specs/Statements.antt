@@ -1,5 +1,5 @@
--- Meaning. Which statements are full-text, and the class of a statement (our own choice). The
--- relations say it, and the functions compute the same, which is a law.
+-- Meaning. Which statements are full-text, and the class of a statement (our own choice). The relations say it, and the functions compute
+-- the same, which is a law.
 use Rattle.std.specs.Prelude.{◌≡◌, ℕ, Bool, true, false, ◌&&◌, ◌||◌, List, [], ◌∷◌, ◌++◌, Option, Some, is_some, option_map, if◌then◌else◌, codes}
 use Rattle.std.specs.List.{Any, list_any}
 use Rattle.std.specs.Option.{option_map_or}
@@ -28,8 +28,7 @@ pub data Class : Type 0 where
   Plain : Class
   FullText : (command : Command) → Class
 
--- a statement that isn't full-text is plain; one that is has the class of its command, and none
--- where it spells none
+-- a statement that isn't full-text is plain; one that is has the class of its command, and none where it spells none
 pub data HasClass (tables : List (List ℕ)) : List Token → Class → Type 0 where
   plain_class : {ts : List Token} → ¬ IsFullText tables ts → HasClass tables ts Plain
   full_text_class : {ts : List Token} {c : Command} →

@@ -93,8 +93,7 @@ pub record Takes (test : Token → Bool) (form : Form Token (Unit {0})) (before 
 
 -- ---- what all of the words say
 
--- the class of a statement, where these full-text tables are there, as it is read and as the
--- grammar spells it; or it has none
+-- the class of a statement, where these full-text tables are there, as it is read and as the grammar spells it; or it has none
 pub record ReadsClass (tables : List (List ℕ)) (ts : List Token) (result : Result Class StatementFault) : Type 0 where
   pub class : IfOk result (λ class. statements.class_of tables ts ≡ Some (class_as class))
   pub syntax : IsErrOf result Syntax → statements.class_of tables ts ≡ None

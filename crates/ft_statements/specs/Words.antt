@@ -1,6 +1,5 @@
--- Meaning. The words of a statement with their texts: keywords, names, texts and numbers. Names and
--- literals are those of the SQLite document "SQL Language Expressions" (section "Literal Values
--- (Constants)") and of its page "SQLite Keywords".
+-- Meaning. The words of a statement with their texts: keywords, names, texts and numbers. Names and literals are those of the SQLite
+-- document "SQL Language Expressions" (section "Literal Values (Constants)") and of its page "SQLite Keywords".
 use Rattle.std.specs.Prelude.{◌≢◌, ℕ, ◌+◌, ◌-◌, Bool, false, ◌==◌, ◌&&◌, List, [], ◌∷◌, map, length, take, slice_range, Option}
 use Rattle.std.specs.Prelude.{Some, None, if◌then◌else◌, chars, encode_utf8_all}
 use Rattle.std.specs.List.{list_any}
@@ -17,8 +16,7 @@ pub data Token : Type 0 where
 abbrev pub sql_tokens : List ℕ → List Token
 sql_tokens text = map (λ w. token w.kind (slice_range text w.start (w.start + w.size))) (words_of text)
 
--- the word is this keyword, without marks and in any case of ASCII letters, or this single
--- character ("SQLite Keywords")
+-- the word is this keyword, without marks and in any case of ASCII letters, or this single character ("SQLite Keywords")
 abbrev pub spells : List ℕ → Token → Bool
 spells word (token kinds.Word text) = str_eq_ignore_ascii_case text word
 spells word (token kinds.Symbol text) = str_eq_ignore_ascii_case text word
@@ -28,15 +26,14 @@ spells word _ = false
 abbrev pub is_one_of : List (List ℕ) → Token → Bool
 is_one_of words t = list_any (λ word. spells word t) words
 
--- what stands between marks, and what it stands for: the closing mark stands there only doubled,
--- for one ("Literal Values (Constants)")
+-- what stands between marks, and what it stands for: the closing mark stands there only doubled, for one ("Literal Values (Constants)")
 pub data StandsFor (mark : ℕ) : (inside text : List ℕ) → Type 0 where
   nothing : StandsFor mark [] []
   other_character : {c : ℕ} {inside text : List ℕ} → c ≢ mark → StandsFor mark inside text → StandsFor mark (c ∷ inside) (c ∷ text)
   doubled_mark : {inside text : List ℕ} → StandsFor mark inside text → StandsFor mark (mark ∷ mark ∷ inside) (mark ∷ text)
 
--- The same, computed: without the second mark of each two that stand side by side; `after` says
--- that the character before was the first of two
+-- The same, computed: without the second mark of each two that stand side by side; `after` says that the character before was the first of
+-- two
 abbrev pub halved : ℕ → Bool → List ℕ → List ℕ
 halved mark after [] = []
 halved mark after (c ∷ cs) = if after && c == mark then halved mark false cs else c ∷ halved mark (c == mark) cs
@@ -45,8 +42,8 @@ halved mark after (c ∷ cs) = if after && c == mark then halved mark false cs e
 abbrev pub closing : ℕ → ℕ
 closing mark = if mark == 0x5B then 0x5D else mark
 
--- the characters between two marks, where the closing one is doubled ("Literal Values (Constants)";
--- no closing bracket stands between brackets)
+-- the characters between two marks, where the closing one is doubled ("Literal Values (Constants)"; no closing bracket stands between
+-- brackets)
 abbrev pub between_marks : List ℕ → List ℕ
 between_marks [] = []
 between_marks (mark ∷ rest) = halved (closing mark) false (take (length rest - 1) rest)
@@ -61,8 +58,7 @@ bare (token kinds.Quoted text) = without_marks text
 bare (token kinds.Text text) = without_marks text
 bare (token _ text) = text
 
--- a name is any word without marks, or a quoted one ("SQLite Keywords"; that a keyword may be a
--- name is an own choice)
+-- a name is any word without marks, or a quoted one ("SQLite Keywords"; that a keyword may be a name is an own choice)
 abbrev pub name_of : Token → Option (List ℕ)
 name_of (token kinds.Word text) = Some text
 name_of (token kinds.Quoted text) = Some (without_marks text)

@@ -84,8 +84,7 @@ IsOtherVersion n = (n ≢ pos 2) × (n ≢ pos 3)
 abbrev pub IsOfVersion : ℤ → Trees → Type 0
 IsOfVersion n db = (map (λ (r : Row). column r 2) (db 0) ≡ Int n ∷ []) × IsOtherVersion n
 
--- What is made of a database: of one without objects the empty store, and of a store of version 2 a
--- store that holds the same.
+-- What is made of a database: of one without objects the empty store, and of a store of version 2 a store that holds the same.
 abbrev pub IsMadeOf : Database → Trees → Type 0
 IsMadeOf old db =
     ((old.schema ≡ no_schema) × IsStored db nothing_held) ⊎ ((old.schema ≡ older_schema) × IsOlder old.trees × IsStored db (older_value old.trees))
@@ -107,15 +106,14 @@ IsOddStore layout db = HasVersion (other_version layout) db ⊎ ¬ HaveOwnRowids
 abbrev pub IsForeign : {S : Type 0} → Ghosts S → Held S → Type 0
 IsForeign g old = (has_our_name old.schema ≡ false) ⊎ ((found : Vec Row Global) × TellsAs g old (Ok found) × (rows_cause found.items ≡ fault.Refused))
 
--- Why a database is refused for what it is, before the call: it has other tables than a store, or
--- those of a store, but no store's version or rowids.
+-- Why a database is refused for what it is, before the call: it has other tables than a store, or those of a store, but no store's version
+-- or rowids.
 abbrev pub IsRefusable : {S : Type 0} → Ghosts S → Held S → Type 0
 IsRefusable g old =
     ((old.schema ≢ no_schema) × (HasStoreTables old.schema → ⊥) × IsForeign g old)
     ⊎ ((layout : Layout) × (old.schema ≡ schema_of layout) × IsOddStore layout (state g old).now.trees)
 
--- A database is taken as a store, and is open: one that has the tables of a store stays as it is,
--- and of any other a store is made.
+-- A database is taken as a store, and is open: one that has the tables of a store stays as it is, and of any other a store is made.
 pub record IsTakenAsStore {S : Type 0} (g : Ghosts S) (old new : Held S) : Type 0 where
   pub live : HasCleanDisk (state g new) → IsTrue (state g new).is_open
   pub held : HasCleanDisk (state g new) → IsTrue (state g new).is_open → old.schema ≡ store_schema → (state g new).now ≡ (state g old).now

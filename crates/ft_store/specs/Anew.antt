@@ -1,5 +1,5 @@
--- Steps. How tables of a store are made anew, where no row of another table stands in the way (own
--- choice): the last ones are dropped and made again, and what they held beside is put again.
+-- Steps. How tables of a store are made anew, where no row of another table stands in the way (own choice): the last ones are dropped and
+-- made again, and what they held beside is put again.
 use Rattle.std.specs.Prelude.{◌≡◌, ◌<◌, ◌≤◌, ◌+◌, ◌%◌, ◌==◌, ◌+ℤ◌, ◌≤ℤ◌, ℕ, ℤ, pos, true, false, MatchBool, nat_lt, List}
 use Rattle.std.specs.Prelude.{[], ◌∷◌, length, map, drop, slice_get, slice_index_or, filter, Some, None, IsUtf8, IsTrue, Result, IfOk, OnOk}
 use Rattle.std.specs.List.{AllByRecursion, list_all}
@@ -100,8 +100,8 @@ pub record LooksAt (text : List ℕ) (params : Row) (tree : ℕ) (terms : List T
   pub whole : is_whole text (length params) (understood store_schema text) ≡ true
   pub typed : IsTypedIn store_schema (looks_for tree terms show order limit offset) params
 
--- What is looked for at most once: rows of `cell`, `posting` and `sizes` whose table is up to the
--- number that is bound, or from it on, any row of `skip`, and a noted name whose rowid is below it.
+-- What is looked for at most once: rows of `cell`, `posting` and `sizes` whose table is up to the number that is bound, or from it on, any
+-- row of `skip`, and a noted name whose rowid is below it.
 abbrev pub probe_tree : ℕ → ℕ
 probe_tree at = slice_index_or (5 ∷ 5 ∷ 7 ∷ 7 ∷ 9 ∷ 9 ∷ 13 ∷ []) at 11
 
@@ -112,8 +112,7 @@ probe_term at =
     let any = op2 (Compare Eq Binary) (col 0 0) (lit (Int (pos 1))) in
     slice_index_or (below ∷ above ∷ below ∷ above ∷ below ∷ above ∷ any ∷ []) at (compared Lt (col 1 0))
 
--- The number that is bound in a probe: no number between it and this table's is left out, and in the
--- last two it is 1.
+-- The number that is bound in a probe: no number between it and this table's is left out, and in the last two it is 1.
 abbrev pub IsNear : ℕ → ℤ → ℤ → Type 0
 IsNear at tab n = MatchBool (nat_lt at 6) (MatchBool (at % 2 == 0) (tab ≤ℤ (n +ℤ pos 1)) (n ≤ℤ (tab +ℤ pos 1))) (n ≡ pos 1)
 

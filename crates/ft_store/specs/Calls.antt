@@ -58,8 +58,8 @@ Keeps old new = IsTrue new.is_open → (new.now ≡ old.now) × (new.committed �
 abbrev pub IsPlainFault : StoreFault → Type 0
 IsPlainFault e = (e ≡ fault.Memory) ⊎ (e ≡ fault.Refused)
 
--- What a read leaves: nothing is changed and nothing is committed, and one that is answered leaves
--- the connection open. It is refused for such a reason.
+-- What a read leaves: nothing is changed and nothing is committed, and one that is answered leaves the connection open. It is refused for
+-- such a reason.
 pub record ReadsOnly {S X : Type 0} (g : Ghosts S) (old new : Held S) (result : Result X StoreFault) (IsFault : StoreFault → Type 0) : Type 0 where
   pub kept : HasCleanDisk (state g new) → Keeps (state g old) (state g new)
   pub live : HasCleanDisk (state g new) → OnOk result (IsTrue (state g new).is_open)
@@ -67,8 +67,8 @@ pub record ReadsOnly {S X : Type 0} (g : Ghosts S) (old new : Held S) (result : 
   pub survives : Survives (state g old) (state g new) (λ _. IsTrue (state g old).is_open → ⊥)
   pub fault : IfErr result IsFault
 
--- What one statement of a change does in a transaction: where the disk returned what was written
--- and the call is Ok, the value is that of `f`.
+-- What one statement of a change does in a transaction: where the disk returned what was written and the call is Ok, the value is that of
+-- `f`.
 abbrev pub StepsOnOk : {S : Type 0} → Ghosts S → Held S → Held S → Result (Unit {0}) StoreFault → (StoreValue → StoreValue) → Type 0
 StepsOnOk g old new result f =
     HasCleanDisk (state g new) → IsTrue (state g old).in_transaction → (IsTrue (state g old).is_open → IsStore (state g old).now)
@@ -81,9 +81,8 @@ KeepsLast g old new = HasCleanDisk (state g new) → KeepsCommit (state g old) (
 abbrev pub LeavesNothing : {S : Type 0} → Ghosts S → Held S → Held S → Type 0
 LeavesNothing g old new = Survives (state g old) (state g new) (λ _. ⊥)
 
--- What is done in a transaction leaves, whatever it is answered: the transaction is of the same
--- connection, nothing is committed and the last commit stays, and a crash leaves what it could
--- leave before. It is refused for such a reason.
+-- What is done in a transaction leaves, whatever it is answered: the transaction is of the same connection, nothing is committed and the
+-- last commit stays, and a crash leaves what it could leave before. It is refused for such a reason.
 pub record StaysInside {S X : Type 0} (g : Ghosts S) (old new : MutBor (Held S)) (result : Result X StoreFault) (IsFault : StoreFault → Type 0) : Type 0 where
   pub same_reference : new.ghost_name ≡ old.ghost_name
   pub kept : KeepsLast g old.now new.now
@@ -118,8 +117,7 @@ pub record IsStored (db : Trees) (value : StoreValue) : Type 0 where
 abbrev pub AreTold : List (ListKey × List Spot) → Type 0
 AreTold lists = AllByRecursion (λ l. (l.1 ≢ []) × IsUtf8 l.0.1) lists
 
--- why a read of lists is refused: a plain fault, or Damaged, where a list of places is not in its
--- one form or a term is no text
+-- why a read of lists is refused: a plain fault, or Damaged, where a list of places is not in its one form or a term is no text
 abbrev pub IsReadFault : StoreFault → Type 0
 IsReadFault e = IsPlainFault e ⊎ (e ≡ fault.Damaged)
 
@@ -127,16 +125,16 @@ IsReadFault e = IsPlainFault e ⊎ (e ≡ fault.Damaged)
 abbrev pub IsChangeFault : Type 0 → StoreFault → Type 0
 IsChangeFault CanBeMade e = IsPlainFault e ⊎ ((e ≡ fault.Damaged) × (CanBeMade → ⊥))
 
--- What changes of rows do in one transaction: all of them are made, and the database is open, or
--- none is. A crash leaves what it could leave before, or a store with all of them made.
+-- What changes of rows do in one transaction: all of them are made, and the database is open, or none is. A crash leaves what it could
+-- leave before, or a store with all of them made.
 pub record MakesAllOrNone (old new : State) (result : Result (Unit {0}) StoreFault) (changes : List Change) : Type 0 where
   pub all : HasCleanDisk new → OnOk result (IsStore new.now × (value_of new.now.trees ≡ all_applied changes (value_of old.now.trees)))
   pub none : HasCleanDisk new → OnErr result (Keeps old new)
   pub live : HasCleanDisk new → OnOk result (IsTrue old.is_open × IsTrue new.is_open)
   pub crash : Survives old new (λ db. IsTrue old.is_open → IsStored db (all_applied changes (value_of old.now.trees)))
 
--- What a call that makes changes in a transaction of its own does: that, where they can be made,
--- and otherwise it may be refused as damaged. It ends outside a transaction.
+-- What a call that makes changes in a transaction of its own does: that, where they can be made, and otherwise it may be refused as
+-- damaged. It ends outside a transaction.
 pub record ChangesAllOrNone (old new : State) (result : Result (Unit {0}) StoreFault) (CanBeMade : Type 0) (changes : List Change) : Type 0 where
   pub packable : OnOk result CanBeMade
   pub made : MakesAllOrNone old new result changes

@@ -1,5 +1,4 @@
--- Steps. What the statements that change rows make of a store, and what a function of a transaction
--- makes of it that runs them.
+-- Steps. What the statements that change rows make of a store, and what a function of a transaction makes of it that runs them.
 use Rattle.std.specs.Prelude.{◌≢◌, ◌⊎◌, ℕ, All, List, Result, Ok, Err, IfOk, IsTrue}
 use Rattle.std.specs.List.{sum_by}
 use Rattle.std.specs.Borrow.{MutBor}
@@ -24,8 +23,8 @@ use Rattle.ft_store.specs.Puts.{IsFull, IsTooBig, AreGrown, FailsUnruled, KeepsR
 abbrev pub FailsInside : {S : Type 0} → Ghosts S → Held S → Held S → List ℕ → Row → Type 0
 FailsInside g old new sql params = (e : Error) × (e ≢ SqliteFailure code.OutOfMemory) × ExecutesInside 0 sql params (state g old) (state g new) (Err e)
 
--- The statement takes rows out of one table of a store, by its tree: where it is done the value
--- becomes that of `f`, and it is refused only by what lies outside the store.
+-- The statement takes rows out of one table of a store, by its tree: where it is done the value becomes that of `f`, and it is refused only
+-- by what lies outside the store.
 pub record TakesRows {S : Type 0} (g : Ghosts S) (sql : List ℕ) (params : Row) (tree : ℕ) (f : StoreValue → StoreValue) : Type 0 where
   pub done : (old new : Held S) (count : ℕ) → IsStore (state g old).now → ExecutesInside 0 sql params (state g old) (state g new) (Ok count)
       → Steps (state g old) (state g new) (f (value_of (state g old).now.trees)) × AreGrown 0 (state g old).now.trees (state g new).now.trees
@@ -33,9 +32,8 @@ pub record TakesRows {S : Type 0} (g : Ghosts S) (sql : List ℕ) (params : Row)
   pub refused : (old new : Held S) → (IsTrue (state g old).is_open → IsStore (state g old).now) → FailsInside g old new sql params
       → IsBlamed (state g old) (state g new)
 
--- Statements put a row of one table, unless it is full or so many values with so many bytes are too
--- big: where the key is new one adds the row, and otherwise another first takes out what has the
--- key. The value becomes that of `f`.
+-- Statements put a row of one table, unless it is full or so many values with so many bytes are too big: where the key is new one adds the
+-- row, and otherwise another first takes out what has the key. The value becomes that of `f`.
 pub record PutsRow {S : Type 0} (g : Ghosts S) (drop add : List ℕ) (key row : Row) (tree : ℕ) (f : StoreValue → StoreValue)
     (values count : ℕ) : Type 0 where
   pub lands : (old new : Held S) (count : ℕ) → IsStore (state g old).now → ExecutesInside 0 add row (state g old) (state g new) (Ok count)
@@ -53,9 +51,8 @@ pub record PutsRow {S : Type 0} (g : Ghosts S) (drop add : List ℕ) (key row : 
       → AreGrown 0 (state g old).now.trees (state g mid).now.trees → FailsInside g mid new add row
       → IsBlamed (state g mid) (state g new) ⊎ (IsFull 1 ((state g old).now.trees tree) ⊎ IsTooBig values count)
 
--- What a function of a transaction makes of a store: where it is answered Ok the value becomes that
--- of `f`, and so many rows were put at most. It is refused only by what lies outside the store, or
--- for such a reason in the rows that there were before the call.
+-- What a function of a transaction makes of a store: where it is answered Ok the value becomes that of `f`, and so many rows were put at
+-- most. It is refused only by what lies outside the store, or for such a reason in the rows that there were before the call.
 pub record Changes {S : Type 0} (g : Ghosts S) (old new : MutBor (Held S)) (result : Result (Unit {0}) StoreFault)
     (f : StoreValue → StoreValue) (count : ℕ) (Why : Trees → Type 0) : Type 0 where
   pub done : StepsInside g old new result f
@@ -78,9 +75,8 @@ pub record HasMade (old now : State) (changes : List Change) : Type 0 where
   pub goes : Goes old now (all_applied changes (value_of old.now.trees))
   pub grown : AreGrown (sum_by rows_put changes) old.now.trees now.now.trees
 
--- What a function of a transaction does with row changes: those are made that `made` gives of its
--- answer. It is refused only as damaged, where not all can be made, by what lies outside the store,
--- or since one of all can't be put.
+-- What a function of a transaction does with row changes: those are made that `made` gives of its answer. It is refused only as damaged,
+-- where not all can be made, by what lies outside the store, or since one of all can't be put.
 pub record MakesSome {S X : Type 0} (g : Ghosts S) (old new : MutBor (Held S)) (result : Result X StoreFault)
     (made : X → List Change) (all : List Change) : Type 0 where
   pub packable : IfOk result (λ x. All CanMake (made x))

@@ -1,5 +1,4 @@
--- Steps. How far the lists that are expected are gone through, and how many places they have (own
--- choice).
+-- Steps. How far the lists that are expected are gone through, and how many places they have (own choice).
 use Rattle.std.specs.Prelude.{◌≡◌, ℕ, ℤ, ◌<◌, List, [], ◌∷◌, ◌++◌, map, length, drop, sum_by, string_bytes}
 use Rattle.sqlite.specs.Order.{Row}
 use Rattle.ft_values.specs.declared.rows.Spot.{Spot}
@@ -23,8 +22,7 @@ abbrev pub HasMore : List TermLists → ℕ → Type 0
 HasMore [] n = ⊥
 HasMore (t ∷ ts) n = n < length t.postings.items
 
--- a row is the list of these postings of one document, which are of this term; no row is the list
--- of none
+-- a row is the list of these postings of one document, which are of this term; no row is the list of none
 abbrev pub IsList : ℤ → Row → List ℕ → List Posting → Type 0
 IsList tab row term [] = ⊥
 IsList tab row term (p ∷ ps) = found_places tab row ≡ ((tab, term, p.docid), map spot_of (p ∷ ps))

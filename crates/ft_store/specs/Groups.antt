@@ -50,8 +50,8 @@ pub record ArePacked (changes : List RowChange) (lists : List (List ℕ)) : Type
   pub puts : All PutsList changes
   pub packed : lists ≡ map (λ c. (entry_put c).1) changes
 
--- What steps in a transaction do: where the disk returned what was written and they are Ok, the
--- value is that of `f`, which reads what they answer.
+-- What steps in a transaction do: where the disk returned what was written and they are Ok, the value is that of `f`, which reads what they
+-- answer.
 abbrev pub GoesOnOk : {S X : Type 0} → Ghosts S → Held S → Held S → Result X StoreFault → (X → StoreValue → StoreValue) → Type 0
 GoesOnOk g old new result f =
     HasCleanDisk (state g new) → IsTrue (state g old).in_transaction → (IsTrue (state g old).is_open → IsStore (state g old).now)

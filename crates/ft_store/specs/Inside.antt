@@ -1,5 +1,4 @@
--- Steps. What the functions of a transaction do, each as one relation: what it made, and the frame
--- of all of them.
+-- Steps. What the functions of a transaction do, each as one relation: what it made, and the frame of all of them.
 use Rattle.std.specs.Prelude.{ℕ, ℤ, Bool, not, MatchBool, Result, Ok, List, IsTrue, IfOk, OnOk}
 use Rattle.std.specs.Borrow.{MutBor}
 use Rattle.std.specs.Ordering.{int_cmp, int_eq}
@@ -14,8 +13,7 @@ use Rattle.ft_store.specs.declared.fault.StoreFault.{StoreFault}
 use Rattle.ft_store.specs.Calls.{StepsOnOk, StepsIfOpen, StaysUncommitted}
 use Rattle.ft_store.specs.Made.{MakesOnOk}
 
--- What a function of a transaction does: what it made where it is answered Ok, and what it leaves
--- whatever it is answered.
+-- What a function of a transaction does: what it made where it is answered Ok, and what it leaves whatever it is answered.
 pub record DoneInside {S X : Type 0} (g : Ghosts S) (old new : MutBor (Held S)) (result : Result X StoreFault) (Made : Type 0) : Type 0 where
   pub steps : Made
   pub stays : StaysUncommitted g old new result

@@ -1,5 +1,4 @@
--- Meaning. A store as callers see it: the connection that it holds, and how many rows its reads
--- gave.
+-- Meaning. A store as callers see it: the connection that it holds, and how many rows its reads gave.
 use Rattle.std.specs.Prelude.{◌≡◌, ℕ, ◌+◌, ◌-◌, ◌^◌, min, false, refl, Result, Err, IsTrue, IfOk, IfErr, OnOk, OnErr}
 use Rattle.std.specs.Coded.{Coded, code_by, coded×, coded_ℕ}
 use Rattle.sqlite.specs.State.{State, HasCleanDisk, Survives}
@@ -40,9 +39,8 @@ pub record AreCommitted {S : Type 0} (g : Ghosts S) (s : StoreState S) : Type 0 
 abbrev pub more_rows : {S : Type 0} → ℕ → StoreState S → ℕ
 more_rows n s = min (s.rows_read + n) (2 ^ 64 - 1)
 
--- What a read of a store leaves, whatever it is answered: what is seen stays, and an answer leaves
--- the database open; a crash leaves what it could leave before; and an answer counts so many rows
--- more. It is refused for such a reason.
+-- What a read of a store leaves, whatever it is answered: what is seen stays, and an answer leaves the database open; a crash leaves what
+-- it could leave before; and an answer counts so many rows more. It is refused for such a reason.
 pub record ReadsRows {S X : Type 0} (g : Ghosts S) (old new : StoreState S) (result : Result X StoreFault) (count : X → ℕ)
     (IsFault : StoreFault → Type 0) : Type 0 where
   pub kept : HasCleanDisk (shows g new) → Keeps (shows g old) (shows g new)
@@ -52,8 +50,8 @@ pub record ReadsRows {S X : Type 0} (g : Ghosts S) (old new : StoreState S) (res
   pub uncounted : OnErr result (new.rows_read ≡ old.rows_read)
   pub causes : IfErr result IsFault
 
--- What is left by a question whether the database is open: nothing is changed, read or committed,
--- Ok says that it is open, and Refused that it wasn't or that its disk failed.
+-- What is left by a question whether the database is open: nothing is changed, read or committed, Ok says that it is open, and Refused that
+-- it wasn't or that its disk failed.
 pub record Pings {S : Type 0} (g : Ghosts S) (old new : StoreState S) (result : Result (Unit {0}) StoreFault) : Type 0 where
   pub kept : HasCleanDisk (shows g new) → Keeps (shows g old) (shows g new)
   pub live : HasCleanDisk (shows g new) → OnOk result (IsTrue (shows g new).is_open)

@@ -98,8 +98,8 @@ pub record IsUnmarked (db : Database) : Type 0 where
   pub tabled : IsTabled db
   pub unmarked : db.trees 0 ≡ []
 
--- What an answer of Ok means in a transaction where the disk returned what was written: of a
--- database with the one property the statements made one with the other, and nothing is committed.
+-- What an answer of Ok means in a transaction where the disk returned what was written: of a database with the one property the statements
+-- made one with the other, and nothing is committed.
 abbrev pub MakesOnOk : {S : Type 0} → Ghosts S → Held S → Held S → Result (Unit {0}) StoreFault → (Database → Type 0) → (Database → Database → Type 0) → Type 0
 MakesOnOk g old new result Before After =
     HasCleanDisk (state g new) → IsTrue (state g old).in_transaction → (IsTrue (state g old).is_open → Before (state g old).now)

@@ -34,8 +34,7 @@ version_of Present = pos 3
 abbrev pub HasStoreTables : Schema → Type 0
 HasStoreTables schema = (schema ≡ store_schema) ⊎ (schema ≡ older_schema)
 
--- a store with these tables: nothing else is there, their rules are kept, and `meta` has one row,
--- with their version
+-- a store with these tables: nothing else is there, their rules are kept, and `meta` has one row, with their version
 pub record IsStoreBy (layout : Layout) (db : Database) : Type 0 where
   pub schema : db.schema ≡ schema_of layout
   pub sound : IsDatabase db

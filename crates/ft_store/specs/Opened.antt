@@ -12,8 +12,7 @@ use Rattle.ft_store.specs.Adopted.{IsTakenAsStore, IsNotTaken, LeavesMade}
 use Rattle.ft_store.specs.Calls.{IsPlainFault}
 use Rattle.ft_store.specs.Kept.{StoreState}
 
--- The files held this image. The database that is found in it was opened, and then it was taken as
--- a store.
+-- The files held this image. The database that is found in it was opened, and then it was taken as a store.
 pub record IsOpenedFrom {D : Type 0} {g : disk.Ghosts D} (image : Image) (store : Held (FileStore D g)) : Type 0 where
   pub conn : Held (FileStore D g)
   pub fresh : IsNew conn

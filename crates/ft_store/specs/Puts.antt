@@ -1,6 +1,5 @@
--- Meaning. Why the database refuses rows that are put. The database gives a row the rowid after the
--- last one of its table, a number of 64 bits, and takes no row of more than a billion bytes, with 18
--- for each value.
+-- Meaning. Why the database refuses rows that are put. The database gives a row the rowid after the last one of its table, a number of 64
+-- bits, and takes no row of more than a billion bytes, with 18 for each value.
 use Rattle.std.specs.Prelude.{Bool, if◌then◌else◌, IfOk, ◌≡◌, ◌≢◌, ◌⊎◌, ◌≤◌, ◌<◌, ◌+◌, ◌-◌, ◌*◌, ◌^◌, ◌≤ℤ◌, ◌++◌, ℕ, ℤ, pos, negsuc}
 use Rattle.std.specs.Prelude.{List, [], ◌∷◌, length, fold, Any, Some, Result, Err, IsTrue, OnOk}
 use Rattle.std.specs.List.{AllByRecursion, sum_by}
@@ -89,8 +88,7 @@ CantPut count db value (PutSize tab docid column n) = IsFull count (db 9)
 CantPut count db value (Note name) = IsFull count (db 11) ⊎ IsTooBig 2 (length name)
 CantPut count db value _ = ⊥
 
--- why changes are refused, one after the other: one of them can't be made of what those before it
--- made
+-- why changes are refused, one after the other: one of them can't be made of what those before it made
 pub record CantPutAll (db : Trees) (changes : List Change) : Type 0 where
   pub done : List Change
   pub change : Change
@@ -98,8 +96,7 @@ pub record CantPutAll (db : Trees) (changes : List Change) : Type 0 where
   pub are : changes ≡ done ++ change ∷ left
   pub why : CantPut (sum_by rows_put changes) db (all_applied done (value_of db)) change
 
--- in a transaction of a store a call is refused only by what lies outside it, or for a reason in
--- the rows that it had before the call
+-- in a transaction of a store a call is refused only by what lies outside it, or for a reason in the rows that it had before the call
 abbrev pub BlamesRows : {S X : Type 0} → Ghosts S → Held S → Held S → Result X StoreFault → (Trees → Type 0) → Type 0
 BlamesRows g old new result Why =
     HasCleanDisk (state g new) → IsTrue (state g old).in_transaction → (IsTrue (state g old).is_open → IsStore (state g old).now) → result ≡ Err fault.Refused

@@ -20,8 +20,7 @@ abbrev pub keyed : {K X : Type 0} → (K → K → Ordering) → List (K × X) �
 keyed R [] = []
 keyed R (e ∷ es) = put R e.0 e.1 (keyed R es)
 
--- A text of a cell or a column. Bytes that aren't UTF-8 show as the character U+0000, which no
--- content has: so their table is no content's.
+-- A text of a cell or a column. Bytes that aren't UTF-8 show as the character U+0000, which no content has: so their table is no content's.
 abbrev pub text_in : List ℕ → List ℕ
 text_in stored = if is_utf8 stored then stored else (0 ∷ [])
 

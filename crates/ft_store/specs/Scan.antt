@@ -1,5 +1,4 @@
--- Steps. What is seen of a database that has the tables of a store, before it is taken for one (own
--- choice).
+-- Steps. What is seen of a database that has the tables of a store, before it is taken for one (own choice).
 use Rattle.std.specs.Prelude.{◌≡◌, ◌≢◌, ℕ, ℤ, ◌-◌, ◌*◌, ◌≤ℤ◌, ◌<ℤ◌, IfSome, pos, negsuc, false, true, List, [], ◌∷◌, Option, None, Some}
 use Rattle.std.specs.List.{AllByRecursion}
 use Rattle.sqlite.specs.declared.types.Value.TheVariants.{Int}

@@ -1,5 +1,4 @@
--- Steps. What the functions of a connection outside a transaction find and leave, each family with
--- one frame.
+-- Steps. What the functions of a connection outside a transaction find and leave, each family with one frame.
 use Rattle.std.specs.Prelude.{◌≡◌, ◌≢◌, ℕ, ℤ, false, Result, Err, List, Vec, length, map, IsTrue, IfOk, IfErr, OnOk, OnErr}
 use Rattle.std.specs.declared.alloc.Global.{Global}
 use Rattle.sqlite.specs.Effect.{Database}
@@ -26,8 +25,7 @@ use Rattle.ft_store.specs.Older.{schema_of}
 use Rattle.ft_store.specs.Calls.{HaveOwnRowids, AreTold, IsStore, IsPlainFault, IsReadFault, Keeps, ReadsOnly}
 use Rattle.ft_store.specs.Adopted.{IsOfVersion}
 
--- Outside a transaction, with a database that has this property as long as the disk returns what
--- was written and the connection is open.
+-- Outside a transaction, with a database that has this property as long as the disk returns what was written and the connection is open.
 pub record IsSettled (Has : Database → Type 0) (s : State) : Type 0 where
   pub settled : s.in_transaction ≡ false
   pub shown : HasCleanDisk s → IsTrue s.is_open → Has s.now
@@ -48,8 +46,7 @@ IsBare db = db.schema ≡ no_schema
 abbrev pub IsEmptyStore : Database → Type 0
 IsEmptyStore db = IsStore db × (value_of db.trees ≡ nothing_held)
 
--- what is known of the rowids of its tables, as long as the disk returns what was written and the
--- connection is open
+-- what is known of the rowids of its tables, as long as the disk returns what was written and the connection is open
 abbrev pub AreAsKnown : Rowids → State → Type 0
 AreAsKnown Apart s = HasCleanDisk s → IsTrue s.is_open → HaveOwnRowids s.now.schema.tables s.now.trees
 AreAsKnown Unknown s = Unit {0}
@@ -65,9 +62,8 @@ pub record LeavesAlone (old new : State) : Type 0 where
   pub mode : new.in_transaction ≡ false
   pub survives : Survives old new (λ _. ⊥)
 
--- What one transaction makes of a database, and what it leaves whatever it is answered: all of it
--- on Ok, with the connection open, and else nothing; a crash leaves what it could leave before, or
--- all of it. It is refused for such a reason.
+-- What one transaction makes of a database, and what it leaves whatever it is answered: all of it on Ok, with the connection open, and else
+-- nothing; a crash leaves what it could leave before, or all of it. It is refused for such a reason.
 pub record MakesWhole (old new : State) (result : Result (Unit {0}) StoreFault) (IsMade : Database → Type 0)
     (IsLeft : Trees → Type 0) (IsFault : StoreFault → Type 0) : Type 0 where
   pub all : HasCleanDisk new → OnOk result (IsMade new.now)
@@ -77,21 +73,18 @@ pub record MakesWhole (old new : State) (result : Result (Unit {0}) StoreFault) 
   pub crash : Survives old new (λ db. IsTrue old.is_open → IsLeft db)
   pub fault : IfErr result IsFault
 
--- why a database with the tables of a store is none: `meta` hasn't one row, or has a version that
--- is not taken
+-- why a database with the tables of a store is none: `meta` hasn't one row, or has a version that is not taken
 pub record IsJudged (db : Trees) (result : Result (Unit {0}) StoreFault) : Type 0 where
   pub unmarked : result ≡ Err fault.NotAStore → length (db 0) ≢ 1
   pub version : (n : ℤ) → result ≡ Err (fault.Version n) → IsOfVersion n db
 
--- What a read answers and leaves: where the disk returned what was written, an answer of Ok is such
--- a value.
+-- What a read answers and leaves: where the disk returned what was written, an answer of Ok is such a value.
 pub record ReadsFor {S X : Type 0} (g : Ghosts S) (old new : Held S) (result : Result X StoreFault) (Is : X → Type 0) : Type 0 where
   pub rows : HasCleanDisk (state g new) → IfOk result Is
   pub read : ReadsOnly g old new result IsPlainFault
 
--- What a read of lists answers and leaves: where the disk returned what was written, an answer of
--- Ok is such a value, and Damaged means that one of the lists is, or has a term that is no text,
--- and leaves the connection open.
+-- What a read of lists answers and leaves: where the disk returned what was written, an answer of Ok is such a value, and Damaged means
+-- that one of the lists is, or has a term that is no text, and leaves the connection open.
 pub record ReadsLists {S X : Type 0} (g : Ghosts S) (old new : Held S) (result : Result X StoreFault) (Are : X → Type 0) (IsDamaged : Type 0) : Type 0 where
   pub rows : HasCleanDisk (state g new) → IfOk result Are
   pub damaged : HasCleanDisk (state g new) → result ≡ Err fault.Damaged → IsDamaged

@@ -1,7 +1,6 @@
--- Meaning. The tables of a store (our own choice), as their texts define them. `meta` has one row
--- with the version, which is 3; `tab` and `col` have the tables and their columns, `skip` the
--- columns that aren't indexed, `cell` the contents, `posting` the packed list of each term in each
--- document, `sizes` the number of tokens of each cell that has some, `noted` the noted names.
+-- Meaning. The tables of a store (our own choice), as their texts define them. `meta` has one row with the version, which is 3; `tab` and
+-- `col` have the tables and their columns, `skip` the columns that aren't indexed, `cell` the contents, `posting` the packed list of each
+-- term in each document, `sizes` the number of tokens of each cell that has some, `noted` the noted names.
 use Rattle.std.specs.Prelude.{ℕ, Bool, true, false, List, [], ◌∷◌, Option, Some, None, codes}
 use Rattle.sqlite.specs.Collation.{Collation}
 use Rattle.sqlite.specs.Collation.TheVariants.{Binary, NoCase}

@@ -1,5 +1,4 @@
--- Meaning. What a cell holds, and the values of the code as such. A cell is NULL, an integer or a
--- text (own choice).
+-- Meaning. What a cell holds, and the values of the code as such. A cell is NULL, an integer or a text (own choice).
 use Rattle.std.specs.Prelude.{ℕ, ℤ, List, string_bytes}
 use Rattle.ft_values.specs.declared.rows.Value.{Value}
 use Rattle.ft_values.specs.declared.rows.Value.TheVariants as value

@@ -1,5 +1,4 @@
--- Meaning. What is printed of the rows that `sqlite` answers ("Changing Output Formats" of "Command
--- Line Shell For SQLite").
+-- Meaning. What is printed of the rows that `sqlite` answers ("Changing Output Formats" of "Command Line Shell For SQLite").
 use Rattle.std.specs.Prelude.{ℕ, ◌+◌, Bool, true, false, List, [], ◌∷◌, ◌++◌, map, codes, decimal, if◌then◌else◌}
 use Rattle.std.specs.List.{list_any}
 use Rattle.std.specs.Str.{is_utf8}

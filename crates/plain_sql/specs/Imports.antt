@@ -1,6 +1,5 @@
--- Meaning. The parts of an import: the texts that are made for `sqlite`, the rows of a full-text
--- table, and the delimiter ("Importing files as CSV or other formats" of "Command Line Shell For
--- SQLite"; that each record has its place in one command is an own choice).
+-- Meaning. The parts of an import: the texts that are made for `sqlite`, the rows of a full-text table, and the delimiter ("Importing files
+-- as CSV or other formats" of "Command Line Shell For SQLite"; that each record has its place in one command is an own choice).
 use Rattle.std.specs.Prelude.{ℕ, Bool, ◌==◌, List, [], ◌∷◌, ◌++◌, map, replicate, Option, Some, None, if◌then◌else◌, codes, chars, encode_utf8}
 use Rattle.std.specs.List.{flat_map}
 use Rattle.shell_text.specs.Print.{Settings, is_csv_separator}

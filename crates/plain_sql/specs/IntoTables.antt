@@ -1,6 +1,5 @@
--- Meaning. What an import into a plain table that is there does, and what is said of it ("Importing
--- files as CSV or other formats" of "Command Line Shell For SQLite"; that an import is one command,
--- whole or not at all, and each refusal, are own choices).
+-- Meaning. What an import into a plain table that is there does, and what is said of it ("Importing files as CSV or other formats" of
+-- "Command Line Shell For SQLite"; that an import is one command, whole or not at all, and each refusal, are own choices).
 use Rattle.std.specs.Prelude.{ℕ, ◌≡◌, List, codes, None}
 use Rattle.sqlite.specs.Store.{Ghosts}
 use Rattle.sqlite.specs.Held.{Held, state}

@@ -1,6 +1,5 @@
--- Meaning. How tables are listed ("Querying the database schema" of "Command Line Shell For
--- SQLite"; that plain tables are listed by their noted names, and only those that can be read, is
--- an own choice).
+-- Meaning. How tables are listed ("Querying the database schema" of "Command Line Shell For SQLite"; that plain tables are listed by their
+-- noted names, and only those that can be read, is an own choice).
 use Rattle.std.specs.Prelude.{ℕ, ◌≡◌, ◌⊎◌, Bool, true, false, List, [], ◌∷◌, Option, Some, None}
 use Rattle.sqlite.specs.Store.{Ghosts}
 use Rattle.sqlite_value.specs.Order.{Row}
@@ -14,8 +13,8 @@ use Rattle.ft_statements.specs.Replies.{AreSorted, listed}
 use Rattle.shell_io.specs.Outcomes.{Answer, says, lacks_memory, Tells}
 
 module _ {P : Type 0} (g : Ghosts P) where
-  -- Whether a table can be read: `sqlite` answers a reading of it, or refuses that for another
-  -- cause than memory. Where it is not known nothing was tried, or memory was wanting.
+  -- Whether a table can be read: `sqlite` answers a reading of it, or refuses that for another cause than memory. Where it is not known
+  -- nothing was tried, or memory was wanting.
   abbrev pub TellsTable : List ℕ → Held P → Held P → Option Bool → Type 0
   TellsTable name old new (Some true) = (rows : List Row) × Shown (reading_of name) [] (state g old) (state g new) rows
   TellsTable name old new (Some false) = (e : Error) × (is_memory_error e ≡ false) × FailsToQuery (reading_of name) [] (state g old) (state g new) e
@@ -37,8 +36,7 @@ module _ {P : Type 0} (g : Ghosts P) where
   StopsTrying (name ∷ names) old new = (new ≡ old) ⊎ (Tries name None old new
       ⊎ ((mid : Held P) × (can_read : Bool) × Tries name (Some can_read) old mid × StopsTrying names mid new))
 
-  -- The names of full-text tables and, of the noted names, those of tables that can be read, sorted
-  -- and printed; or memory was wanting.
+  -- The names of full-text tables and, of the noted names, those of tables that can be read, sorted and printed; or memory was wanting.
   pub data Lists (own noted : List (List ℕ)) (old new : Held P) (answer : Answer) : Type 0 where
     tables : (found names : List (List ℕ)) → Finds noted old new found → AreSorted (listed own found) names
         → Tells (says (print.names_in_columns names)) answer → Lists own noted old new answer

@@ -1,7 +1,6 @@
--- Meaning. What an import does to the plain database: one transaction, whole or not at all
--- ("Importing files as CSV or other formats" of "Command Line Shell For SQLite"; that an import is
--- one command is an own choice). All that is said of a step has the premise that the disk is clean
--- as the step ends; then it was clean as the step began.
+-- Meaning. What an import does to the plain database: one transaction, whole or not at all ("Importing files as CSV or other formats" of
+-- "Command Line Shell For SQLite"; that an import is one command is an own choice). All that is said of a step has the premise that the
+-- disk is clean as the step ends; then it was clean as the step began.
 use Rattle.std.specs.Prelude.{ℕ, Bool, ◌≡◌, ◌⊎◌, ◌<◌, ◌≤◌, List, [], ◌∷◌, ◌++◌, map, true, false, Option, Some, None, Result, Ok}
 use Rattle.std.specs.Prelude.{Err, IfOk, OnOk, IsErrOf, is_ok, IsTrue}
 use Rattle.std.specs.Borrow.{MutBor}
@@ -35,8 +34,7 @@ pub record HasColumns (schema : Schema) (name : List ℕ) (n : ℕ) : Type 0 whe
   pub takes : takes_values schema name n ≡ true
   pub only : (m : ℕ) → 1 ≤ m → m ≤ 100 → takes_values schema name m ≡ true → m ≡ n
 
--- of the numbers from 1 up to one, without that one, the one of values that may be put into the
--- table; none where there is none
+-- of the numbers from 1 up to one, without that one, the one of values that may be put into the table; none where there is none
 abbrev pub IsOnlyBelow : Schema → List ℕ → ℕ → Option ℕ → Type 0
 IsOnlyBelow schema name end None = (m : ℕ) → 1 ≤ m → m < end → takes_values schema name m ≡ true → ⊥
 IsOnlyBelow schema name end (Some n) = (1 ≤ n) × (n < end) × (takes_values schema name n ≡ true)
@@ -125,8 +123,7 @@ module _ {P : Type 0} (g : Ghosts P) where
     pub done : DoesAll steps (begun old) last
     pub committed : IfClean g last new (states.Commits (state g last) (state g new))
 
-  -- Why it is not: a transaction is open; or `sqlite` refuses a step, and what was done is undone;
-  -- or it refuses the commit.
+  -- Why it is not: a transaction is open; or `sqlite` refuses a step, and what was done is undone; or it refuses the commit.
   pub data Declines (steps : List Step) (old new : Held P) : Type 0 where
     busy : old.in_transaction ≡ true → new ≡ old → Declines steps old new
     stopped : (last : Held P) → old.in_transaction ≡ false → StopsAtStep steps (begun old) last
@@ -134,21 +131,19 @@ module _ {P : Type 0} (g : Ghosts P) where
     uncommitted : (last : Held P) (e : Error) → old.in_transaction ≡ false → DoesAll steps (begun old) last → is_memory_error e ≡ false
         → IfClean g last new (FailsToCommit (state g last) (state g new) e) → Declines steps old new
 
-  -- Why a table has no number of columns: none is the only one; or `sqlite` refuses to say, not for
-  -- want of memory.
+  -- Why a table has no number of columns: none is the only one; or `sqlite` refuses to say, not for want of memory.
   pub data Uncounted (name : List ℕ) (old new : Held P) : Type 0 where
     not_one : IfClean g old new (Stays (state g old) (state g new) × ((n : ℕ) → HasColumns (state g old).now.schema name n → ⊥)) → Uncounted name old new
     untold : (n : ℕ) (mid : Held P) → IfClean g old mid (Stays (state g old) (state g mid)) → IsRefused (Prepare (insert_text name n)) mid new
         → Uncounted name old new
 
-  -- It is tried whether so many values may be put into a table: that is answered, and the database
-  -- is as before; or `sqlite` refuses to say.
+  -- It is tried whether so many values may be put into a table: that is answered, and the database is as before; or `sqlite` refuses to
+  -- say.
   pub record TriesCount (name : List ℕ) (n : ℕ) (old new : Held P) (result : Result Bool ImportFault) : Type 0 where
     pub told : IfOk result (λ takes. IfClean g old new (Stays (state g old) (state g new) × (takes ≡ takes_values (state g old).now.schema name n)))
     pub refused : IsErrOf result Refused → IsRefused (Prepare (insert_text name n)) old new
 
-  -- The columns of a table are counted, and the database is as before; or it has no number of them.
-  -- Want of memory says nothing of it.
+  -- The columns of a table are counted, and the database is as before; or it has no number of them. Want of memory says nothing of it.
   pub record CountsColumns (name : List ℕ) (old new : Held P) (result : Result ℕ ImportFault) : Type 0 where
     pub counted : IfOk result (λ n. IfClean g old new (Stays (state g old) (state g new) × HasColumns (state g old).now.schema name n))
     pub uncounted : IsErrOf result Refused → Uncounted name old new
@@ -161,9 +156,8 @@ module _ {P : Type 0} (g : Ghosts P) where
   abbrev pub KeepsLast : Held P → Held P → Type 0
   KeepsLast old new = IfClean g old new (KeepsCommit (state g old) (state g new))
 
-  -- What is done in a transaction leaves, whatever it is answered: the transaction is of the same
-  -- connection, nothing of what was committed is changed, and after an Ok the transaction is still
-  -- open.
+  -- What is done in a transaction leaves, whatever it is answered: the transaction is of the same connection, nothing of what was committed
+  -- is changed, and after an Ok the transaction is still open.
   pub record StaysInside {X : Type 0} (old new : MutBor (Held P)) (result : Result X ImportFault) : Type 0 where
     pub same_reference : new.ghost_name ≡ old.ghost_name
     pub kept : KeepsLast old.now new.now

@@ -1,6 +1,5 @@
--- Meaning. What a query of plain SQL does in a session, and what is said of a refusal ("Command
--- Line Shell For SQLite"; that a query is prepared for its names and then executed once, and how a
--- refusal is worded, are own choices).
+-- Meaning. What a query of plain SQL does in a session, and what is said of a refusal ("Command Line Shell For SQLite"; that a query is
+-- prepared for its names and then executed once, and how a refusal is worded, are own choices).
 use Rattle.std.specs.Prelude.{ℕ, ◌≡◌, ◌++◌, List, [], Bool, true, false, MatchBool, if◌then◌else◌, codes}
 use Rattle.sqlite.specs.Store.{Ghosts}
 use Rattle.sqlite_value.specs.Order.{Row}
@@ -36,9 +35,8 @@ TellsRefusal seeks e answer = MatchBool (is_memory_error e) (answer ≡ lacks_me
     ((text : List ℕ) × EndsSo (match_hint seeks) text × Tells (blames text) answer)
 
 module _ {P : Type 0} (g : Ghosts P) where
-  -- A step of the plain database. All that `sqlite` says has the premise that the disk is clean as
-  -- the step ends; then it was clean as the step began, so that no step is an unclean one of which
-  -- nothing is said.
+  -- A step of the plain database. All that `sqlite` says has the premise that the disk is clean as the step ends; then it was clean as the
+  -- step began, so that no step is an unclean one of which nothing is said.
   abbrev pub IfClean : Held P → Held P → Type 0 → Type 0
   IfClean old new Step = HasCleanDisk (state g new) → HasCleanDisk (state g old) × Step
 

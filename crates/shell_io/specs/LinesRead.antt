@@ -8,8 +8,7 @@ use Rattle.shell_text.specs.declared.units.Unit.{Unit as SeenUnit}
 use Rattle.shell_text.specs.Splitting.{Splitting, given_by, member_of_unit}
 use Rattle.shell_io.specs.declared.line_reader.Refusal.{Refusal}
 
--- what was read of an input: the lines that ended, and the bytes so far of the line that is being
--- read
+-- what was read of an input: the lines that ended, and the bytes so far of the line that is being read
 pub record LinesRead : Type 0 where
   pub splitting : Splitting
   pub line : List ℕ
@@ -44,8 +43,7 @@ abbrev pub end_line : SplitFault → ℕ
 end_line (fault.Incomplete line) = line
 end_line _ = 1
 
--- What is left as the input ends: a unit, or its refusal, or nothing. Want of memory says nothing
--- of it.
+-- What is left as the input ends: a unit, or its refusal, or nothing. Want of memory says nothing of it.
 abbrev pub EndsWith : Result (Option SeenUnit) SplitFault → List Member → Type 0
 EndsWith (Ok None) left = left ≡ []
 EndsWith (Ok (Some unit)) left = left ≡ member_of_unit unit ∷ []

@@ -1,20 +1,17 @@
--- Meaning. What turns of a session write. The form of fault lines, and that a fault ends the
--- session only where bail is on, are own choices beside the section "Special commands to sqlite3"
--- of "Command Line Shell For SQLite".
+-- Meaning. What turns of a session write. The form of fault lines, and that a fault ends the session only where bail is on, are own choices
+-- beside the section "Special commands to sqlite3" of "Command Line Shell For SQLite".
 use Rattle.std.specs.Prelude.{ℕ, ◌≡◌, ◌⊎◌, Bool, true, false, if◌then◌else◌, List, [], ◌∷◌, ◌++◌, Option, Some, None, is_some, codes}
 use Rattle.shell_text.specs.Print.{Settings}
 use Rattle.ft_statements.specs.Texts.{fault_line}
 
--- what one or more turns write on the two outputs, how many fault lines are among it, and whether
--- the session ends there
+-- what one or more turns write on the two outputs, how many fault lines are among it, and whether the session ends there
 pub record Outcome : Type 0 where
   pub out : List ℕ
   pub err : List ℕ
   pub faults : ℕ
   pub ends : Bool
 
--- what a turn answers: bytes for the output, warnings, the text of its fault line if it has one,
--- and whether the session ends there
+-- what a turn answers: bytes for the output, warnings, the text of its fault line if it has one, and whether the session ends there
 pub record Answer : Type 0 where
   pub out : List ℕ
   pub warnings : List ℕ
@@ -59,8 +56,7 @@ abbrev pub fault_count : Option (List ℕ) → ℕ
 fault_count None = 0
 fault_count (Some text) = 1
 
--- What is written for an answer to what begins on the line of this number. Where bail is on, a
--- fault ends the session.
+-- What is written for an answer to what begins on the line of this number. Where bail is on, a fault ends the session.
 abbrev pub outcome_of : Bool → ℕ → Answer → Outcome
 outcome_of bail line answer = record {
   out = answer.out;

@@ -1,6 +1,5 @@
--- Meaning. The records of an import: those that are not skipped, brought to the columns of its
--- table, full-text or plain. Short ones are filled with NULL and long ones cut, each with a warning
--- (own choice).
+-- Meaning. The records of an import: those that are not skipped, brought to the columns of its table, full-text or plain. Short ones are
+-- filled with NULL and long ones cut, each with a warning (own choice).
 use Rattle.std.specs.Prelude.{ℕ, ◌==◌, List, [], ◌∷◌, ◌++◌, length, map, take, drop, replicate, Option, Some, None, unwrap_or, if◌then◌else◌, codes, decimal}
 use Rattle.std.specs.List.{enumerate_from, flat_map}
 

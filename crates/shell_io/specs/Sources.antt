@@ -3,8 +3,7 @@ use Rattle.std.specs.Prelude.{ℕ, ◌≡◌, Bool, List, codes, Option, IfSome,
 use Rattle.shell_io.specs.declared.source.SourceFault.{SourceFault}
 use Rattle.shell_io.specs.declared.source.SourceFault.TheVariants as sources
 
--- What is known of a file: its bytes, if they are known, and whether a fetch of it may be refused
--- with a fault.
+-- What is known of a file: its bytes, if they are known, and whether a fetch of it may be refused with a fault.
 pub record File : Type 0 where
   pub bytes : Option (List ℕ)
   pub may_refuse : SourceFault → Bool

@@ -19,9 +19,8 @@ Sends (Err _) old new text = AppendsUpTo old new text
 abbrev pub SameWriters : {O E : Type 0} → Outputs O E → Outputs O E → Type 0
 SameWriters old new = (new.out.ghost_name ≡ old.out.ghost_name) × (new.err.ghost_name ≡ old.err.ghost_name)
 
--- An outcome was written on both outputs and counted, or a front of it was written where a writer
--- refused. What the writers hold is read by the first two functions. The count of fault lines stays
--- at 2 ^ 64 - 1 once there.
+-- An outcome was written on both outputs and counted, or a front of it was written where a writer refused. What the writers hold is read by
+-- the first two functions. The count of fault lines stays at 2 ^ 64 - 1 once there.
 pub record WritesOutcome {T O E : Type 0} (out_of : O → Option (List ℕ)) (err_of : E → Option (List ℕ)) (result : Result T RunFault) (old new : Outputs O E)
     (told : Outcome) : Type 0 where
   pub out : Sends result (out_of old.out.now) (out_of new.out.now) told.out

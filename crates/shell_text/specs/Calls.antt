@@ -40,14 +40,13 @@ pub record IsReadUpTo (from : ℕ) (text : List ℕ) (p : Pending) : Type 0 wher
   pub within : from ≤ length text
   pub keeps : KeepsPending (take from text) (drop from text) p
 
--- Units are put after those that wait: which ones, is said of what waited and waits, as members.
--- Those that waited still do, after a fault too.
+-- Units are put after those that wait: which ones, is said of what waited and waits, as members. Those that waited still do, after a fault
+-- too.
 pub record PutsUnits {X F : Type 0} (old new : List SeenUnit) (result : Result X F) (Are : X → List Member → List Member → Type 0) : Type 0 where
   pub ok : IfOk result (λ r. Are r (map member_of_unit old) (map member_of_unit new))
   pub kept : KeepsFront old new
 
--- a line is read after what is kept, the text `before`: then `after` is kept of it, and its
--- statements are given
+-- a line is read after what is kept, the text `before`: then `after` is kept of it, and its statements are given
 abbrev pub ReadsBehind : Option Pending → ℕ → List ℕ → List ℕ → List ℕ → List SeenUnit → List SeenUnit → Pending → Type 0
 ReadsBehind kept number line before after old new p =
     TakesText (first_as kept number) (block_with (block_as kept before) line) (map member_of_unit old) (map member_of_unit new) after p

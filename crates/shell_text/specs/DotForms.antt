@@ -1,14 +1,12 @@
--- Meaning. The words of a dot-command's line by their forms: which characters are a word, what they
--- stand for, and what stands after them, without a state. A line falls into such words in one way,
--- which is `dot_word_chars`: the law `dot_words_by_forms`. The rules are those of "Command Line
--- Shell For SQLite", section "Dot-command arguments", where a comment says no more.
+-- Meaning. The words of a dot-command's line by their forms: which characters are a word, what they stand for, and what stands after them,
+-- without a state. A line falls into such words in one way, which is `dot_word_chars`: the law `dot_words_by_forms`. The rules are those of
+-- "Command Line Shell For SQLite", section "Dot-command arguments", where a comment says no more.
 use Rattle.std.specs.Prelude.{◌≡◌, ◌==◌, ◌||◌, ℕ, Bool, true, false, List, [], ◌∷◌, ◌++◌, codes}
 use Rattle.shell_text.specs.Dot.{is_blank, is_escape, escaped_char, begins_escape, first_char}
 use Rattle.shell_text.specs.WordForms.{Lacks}
 
--- What characters of a word stand for, none of which ends it, with `behind` behind the last of
--- them: a character for itself, or an escape, a backslash with the character that it escapes. So a
--- backslash that is itself escaped escapes nothing.
+-- What characters of a word stand for, none of which ends it, with `behind` behind the last of them: a character for itself, or an escape,
+-- a backslash with the character that it escapes. So a backslash that is itself escaped escapes nothing.
 pub data StandForWord (ends : ℕ → Bool) (behind : List ℕ) : List ℕ → List ℕ → Type 0 where
   nothing : StandForWord ends behind [] []
   itself : {c : ℕ} {cs word : List ℕ} → ends c ≡ false → begins_escape c (first_char (cs ++ behind)) ≡ false
@@ -27,9 +25,8 @@ abbrev pub ends_bare : List ℕ → Bool
 ends_bare [] = true
 ends_bare (c ∷ cs) = is_blank c
 
--- The forms of words: their characters, the word that these stand for, and what stands after them
--- up to the line's end. A mark that isn't closed goes to the line's end (own choice), and what
--- follows a closing mark begins the next word (own choice).
+-- The forms of words: their characters, the word that these stand for, and what stands after them up to the line's end. A mark that isn't
+-- closed goes to the line's end (own choice), and what follows a closing mark begins the next word (own choice).
 pub data IsDotWord : List ℕ → List ℕ → List ℕ → Type 0 where
   -- in apostrophes up to the next one, without escapes
   in_apostrophes : {word behind : List ℕ} → Lacks (codes "'") word → IsDotWord (codes "'" ++ (word ++ codes "'")) word behind

@@ -1,5 +1,5 @@
--- Steps. What a splitter keeps of the text that it has read, so that no byte is read twice. All
--- of it is our own choice: what an input means stands in Units, without any of this.
+-- Steps. What a splitter keeps of the text that it has read, so that no byte is read twice. All of it is our own choice: what an input
+-- means stands in Units, without any of this.
 use Rattle.std.specs.Prelude.{ℕ, ◌+◌, ◌<◌, ◌≤◌, ◌≡◌, ◌==◌, Bool, true, false, List, [], ◌∷◌, ◌++◌, length, drop, Option, Some}
 use Rattle.std.specs.Prelude.{None, unwrap_or, IsCharBoundary, if◌then◌else◌}
 use Rattle.std.specs.List.{list_any}
@@ -23,8 +23,8 @@ abbrev pub IsFront : Place → List ℕ → Type 0
 IsFront Between front = front ≡ []
 IsFront _ front = 0 < length front
 
--- of a text that goes on with `rest` the bytes `before` are read: the pieces `done` ended there,
--- and `front` is read of the next; and that is so whatever lines follow
+-- of a text that goes on with `rest` the bytes `before` are read: the pieces `done` ended there, and `front` is read of the next; and that
+-- is so whatever lines follow
 pub record HasRead (before rest : List ℕ) (place : Place) (front : List ℕ) (done : List Piece) : Type 0 where
   pub pieces : (more : List ℕ) → ends_line (first_byte more) ≡ true
       → pieces_of (before ++ (rest ++ more)) ≡ done ++ onto front (pieces_from place (rest ++ more))
@@ -69,8 +69,7 @@ last_of p text =
     if is_between p.place then handed p.word text
     else (let line = (unwrap_or p.word p.piece).line in Fault line (fault.Incomplete line) ∷ [])
 
--- of a text that begins on line n, the statements that semicolons end are given after `told`, and
--- what follows byte `cut` is kept
+-- of a text that begins on line n, the statements that semicolons end are given after `told`, and what follows byte `cut` is kept
 pub record Splits (n : ℕ) (text : List ℕ) (told now : List Member) (cut : ℕ) (p : Pending) : Type 0 where
   pub units : now ≡ told ++ ended_units n (at_semicolons (pieces_of text))
   pub tail : tail_of n (at_semicolons (pieces_of text)) ≡ (p.first, pieces_of (drop cut text))

@@ -1,6 +1,5 @@
--- Meaning. Records of CSV, as the `csv` crate reads them: RFC 4180, section 2, with any ASCII
--- delimiter. "Command Line Shell For SQLite", section "Importing files as CSV or other formats",
--- reads such files. That they are UTF-8 is our own choice.
+-- Meaning. Records of CSV, as the `csv` crate reads them: RFC 4180, section 2, with any ASCII delimiter. "Command Line Shell For SQLite",
+-- section "Importing files as CSV or other formats", reads such files. That they are UTF-8 is our own choice.
 use Rattle.std.specs.Prelude.{ℕ, ◌≡◌, ◌⊎◌, false, true, List, map, Option, Some, None, Result, IfOk, OnOk, IsErrOf}
 use Rattle.std.specs.List.{list_all}
 use Rattle.std.specs.Str.{is_utf8}
@@ -12,8 +11,7 @@ use Rattle.shell_text.specs.Print.{bytes_of}
 use Rattle.shell_text.specs.declared.records.RecordFault.{RecordFault}
 use Rattle.shell_text.specs.declared.records.RecordFault.TheVariants as fault
 
--- how records are read: between quotation marks as the crate does, with this delimiter (RFC 4180,
--- section 2, rules 4 to 7)
+-- how records are read: between quotation marks as the crate does, with this delimiter (RFC 4180, section 2, rules 4 to 7)
 abbrev pub csv_reader : ℕ → Config
 csv_reader delimiter = record default_config { delimiter = delimiter }
 

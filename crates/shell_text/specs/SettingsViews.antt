@@ -1,5 +1,4 @@
--- Steps. What clauses see of settings ("Command Line Shell For SQLite", section "Changing Output
--- Formats").
+-- Steps. What clauses see of settings ("Command Line Shell For SQLite", section "Changing Output Formats").
 use Rattle.std.specs.Prelude.{ℕ, List, Option, Some, None, string_bytes}
 use Rattle.std.specs.declared.string.String.{String}
 use Rattle.shell_text.specs.Print.{Settings, separator_of}

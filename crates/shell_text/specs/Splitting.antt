@@ -1,6 +1,5 @@
--- Meaning. What a splitter is seen as, and what its calls do. The units are those of Units
--- ("Command Line Shell For SQLite", section "Line Structure"); how a splitter is fed, and what it
--- keeps after a fault, is our own choice.
+-- Meaning. What a splitter is seen as, and what its calls do. The units are those of Units ("Command Line Shell For SQLite", section "Line
+-- Structure"); how a splitter is fed, and what it keeps after a fault, is our own choice.
 use Rattle.std.specs.Prelude.{ℕ, ◌≡◌, ◌==◌, Bool, true, false, ⊤, List, [], ◌∷◌, ◌++◌, Option, Some, None, Result, Ok, Err, option_map, string_bytes}
 use Rattle.std.specs.List.{list_any}
 use Rattle.std.specs.Str.{is_utf8}
@@ -15,8 +14,7 @@ use Rattle.shell_text.specs.declared.units.Unit.{Unit as SeenUnit}
 use Rattle.shell_text.specs.declared.units.UnitKind.{UnitKind}
 use Rattle.shell_text.specs.declared.units.UnitKind.TheVariants as kind
 
--- of the block it keeps what follows the last statement alone; `waiting` are the units that `next`
--- hands out
+-- of the block it keeps what follows the last statement alone; `waiting` are the units that `next` hands out
 pub record Splitting : Type 0 where
   pub reading : Reading
   pub waiting : List Member
@@ -49,8 +47,7 @@ abbrev pub role_as : Bool → Role
 role_as true = Command
 role_as false = Joins
 
--- what `line` does: it takes the line, or refuses it for a fault of the line, or has no memory and
--- changes nothing
+-- what `line` does: it takes the line, or refuses it for a fault of the line, or has no memory and changes nothing
 abbrev pub TakesLine : List ℕ → Splitting → Splitting → Result Unit SplitFault → Type 0
 TakesLine line old new (Ok _) = IsAccepted (role_of old.reading line) × (new.reading ≡ without_ended (after_line old.reading line))
     × (new.waiting ≡ old.waiting ++ member_of (role_of old.reading line) old.reading line ++ units_in (after_line old.reading line))
@@ -94,8 +91,7 @@ abbrev pub IsKeptText : Option Pending → List ℕ → Type 0
 IsKeptText None text = text ≡ []
 IsKeptText (Some p) text = KeepsPending text [] p
 
--- a text that begins on line n was read: its statements are given after `told`, and `text` is what
--- follows the last of them
+-- a text that begins on line n was read: its statements are given after `told`, and `text` is what follows the last of them
 pub record TakesText (n : ℕ) (whole : List ℕ) (told now : List Member) (text : List ℕ) (p : Pending) : Type 0 where
   pub units : now ≡ told ++ ended_units n (at_semicolons (pieces_of whole))
   pub tail : tail_of n (at_semicolons (pieces_of whole)) ≡ (p.first, pieces_of text)

@@ -1,8 +1,7 @@
--- Meaning. The units of a shell's input. Each block of lines is read whole. The rules are those of
--- "Command Line Shell For SQLite", section "Line Structure": statements end with a semicolon and
--- may go over lines, a dot-command is one line that begins with a full stop, does not stand inside
--- a statement and knows no comments. Own choice: the largest size of a statement, which lines are
--- refused, what is left open at the end, and the numbers of lines.
+-- Meaning. The units of a shell's input. Each block of lines is read whole. The rules are those of "Command Line Shell For SQLite", section
+-- "Line Structure": statements end with a semicolon and may go over lines, a dot-command is one line that begins with a full stop, does not
+-- stand inside a statement and knows no comments. Own choice: the largest size of a statement, which lines are refused, what is left open
+-- at the end, and the numbers of lines.
 use Rattle.std.specs.Prelude.{ℕ, ◌+◌, ◌-◌, ◌^◌, min, nat_lt, Bool, not, ◌==◌, ◌&&◌, List, [], ◌∷◌, ◌++◌, length, drop, count_by, true, false}
 use Rattle.std.specs.Prelude.{Option, Some, None, is_some, unwrap_or, if◌then◌else◌}
 use Rattle.std.specs.List.{list_any, list_all, onto_first, prefix_len, take_while}
@@ -17,8 +16,8 @@ abbrev pub onto_line : (ends : Bool) → ℕ → List (List ℕ) → List (List 
 onto_line ends b [] = if ends then (b ∷ []) ∷ [] else []
 onto_line ends b (line ∷ lines) = (b ∷ line) ∷ lines
 
--- the parts that line feeds end, and, where the input ends there, what follows the last of them, if
--- anything does; a line keeps its carriage return
+-- the parts that line feeds end, and, where the input ends there, what follows the last of them, if anything does; a line keeps its
+-- carriage return
 abbrev pub lines_of : (ends : Bool) → List ℕ → List (List ℕ)
 lines_of ends [] = []
 lines_of ends (b ∷ rest) = if b == 0x0A then [] ∷ lines_of ends rest else onto_line ends b (lines_of ends rest)
@@ -41,8 +40,7 @@ pub data Member : Type 0 where
   Dot : (line : ℕ) (text : List ℕ) → Member
   Fault : (line : ℕ) (fault : SplitFault) → Member
 
--- a semicolon outside literals, quoted names and comments ends a statement (section "Line
--- Structure")
+-- a semicolon outside literals, quoted names and comments ends a statement (section "Line Structure")
 abbrev pub ends_statement : Piece → Bool
 ends_statement p = is_symbol_kind p.kind && next_is (λ b. b == 0x3B) (first_byte p.text)
 
@@ -67,8 +65,7 @@ unit_line n ps = line_behind n (text_of (gaps_before ps))
 abbrev pub unit_of : ℕ → List Piece → Member
 unit_of n ps = Sql (unit_line n ps) (text_of (from_first_word ps))
 
--- the unit of a part that ends with a semicolon, if it has another word: a statement without words
--- is none (own choice)
+-- the unit of a part that ends with a semicolon, if it has another word: a statement without words is none (own choice)
 abbrev pub ended_unit : ℕ → List Piece → List Member
 ended_unit n ps = if nat_lt 1 (count_by is_word ps) then unit_of n ps ∷ [] else []
 
@@ -109,8 +106,7 @@ units_in r = ended_units r.first (parts_in r)
 abbrev pub tail_in : Reading → ℕ × List Piece
 tail_in r = tail_of r.first (parts_in r)
 
--- whether what follows the last statement is only white space and closed comments; it counts as
--- nothing then
+-- whether what follows the last statement is only white space and closed comments; it counts as nothing then
 abbrev pub is_idle : Reading → Bool
 is_idle r = list_all is_gap (tail_in r).1
 
@@ -132,8 +128,8 @@ pub data Role : Type 0 where
 abbrev pub size_with : Reading → List ℕ → ℕ
 size_with r line = (if is_idle r then 0 else length (pending_in r) + 1) + length line
 
--- the tests of a line in their order: too long, not UTF-8, U+0000 (own choice), a full stop where
--- nothing is pending (section "Line Structure")
+-- the tests of a line in their order: too long, not UTF-8, U+0000 (own choice), a full stop where nothing is pending (section "Line
+-- Structure")
 abbrev pub role_of : Reading → List ℕ → Role
 role_of r line =
     if nat_lt most_bytes (size_with r line) then Refused fault.TooLong
@@ -163,8 +159,7 @@ at_line n = record { line = n; first = n; block = None }
 abbrev pub without_block : Reading → Reading
 without_block r = at_line (numbered (r.line + 1))
 
--- how reading goes on after a line of a role; in a block a line has lost the carriage return at
--- its end, if it had one
+-- how reading goes on after a line of a role; in a block a line has lost the carriage return at its end, if it had one
 abbrev pub after_role : Role → Reading → List ℕ → Reading
 after_role (Refused why) r line = without_block r
 after_role Command r line = without_block r
@@ -189,8 +184,7 @@ closed_by _ r = units_in r
 abbrev pub told_by : Reading → List ℕ → List Member
 told_by r line = closed_by (role_of r line) r ++ member_of (role_of r line) r line
 
--- the text that no semicolon ends: incomplete where something in it is open, and else a unit if it
--- has a word (own choice)
+-- the text that no semicolon ends: incomplete where something in it is open, and else a unit if it has a word (own choice)
 abbrev pub last_member : ℕ × List Piece → List Member
 last_member tail =
     if list_any is_open tail.1 then Fault (unit_line tail.0 tail.1) (fault.Incomplete (unit_line tail.0 tail.1)) ∷ []

@@ -1,7 +1,6 @@
--- Meaning. The words of SQL by their forms: which bytes of a text are a word, a comment or white
--- space, by what stands in them and after them, without a state. A text falls into such pieces in
--- one way, which is `pieces_of`: the law `words_by_forms`. The sections and pages in quotes are
--- those of "SQL As Understood By SQLite".
+-- Meaning. The words of SQL by their forms: which bytes of a text are a word, a comment or white space, by what stands in them and after
+-- them, without a state. A text falls into such pieces in one way, which is `pieces_of`: the law `words_by_forms`. The sections and pages
+-- in quotes are those of "SQL As Understood By SQLite".
 use Rattle.std.specs.Prelude.{◌≡◌, ◌≢◌, ◌==◌, ℕ, Bool, true, false, List, [], ◌∷◌, ◌++◌, All, codes}
 use Rattle.std.specs.Char.{is_ascii_digit}
 use Rattle.shell_text.specs.declared.words.SqlKind.{SqlKind}
@@ -18,8 +17,7 @@ pub record IsRun (p : ℕ → Bool) (bytes behind : List ℕ) : Type 0 where
   pub run : All (λ b. p b ≡ true) bytes
   pub ends : next_is p (first_byte behind) ≡ false
 
--- The marks: apostrophes around a literal ("Literal Values (Constants)"), quotation marks or
--- backquotes around a name ("SQLite Keywords").
+-- The marks: apostrophes around a literal ("Literal Values (Constants)"), quotation marks or backquotes around a name ("SQLite Keywords").
 pub data IsMark : ℕ → SqlKind → Type 0 where
   apostrophe : IsMark 0x27 kinds.Text
   quotation_mark : IsMark 0x22 kinds.Quoted
@@ -35,11 +33,9 @@ pub data IsInMarks (mark : ℕ) : List ℕ → Type 0 where
 pub data IsForm : PieceKind → List ℕ → List ℕ → Type 0 where
   -- white space is one byte ("SQL Comment Syntax")
   white_space : {b : ℕ} {behind : List ℕ} → is_space b ≡ true → IsForm (Closed Gap) (b ∷ []) behind
-  -- a comment of two hyphens goes up to before the next line feed, or to the end ("SQL Comment
-  -- Syntax")
+  -- a comment of two hyphens goes up to before the next line feed, or to the end ("SQL Comment Syntax")
   line_comment : {inside behind : List ℕ} → Lacks (codes "\n") inside → ends_line (first_byte behind) ≡ true → IsForm (Closed Gap) (codes "--" ++ inside) behind
-  -- one of a slash and a star goes up to the next star and slash after these, and else is open
-  -- ("SQL Comment Syntax")
+  -- one of a slash and a star goes up to the next star and slash after these, and else is open ("SQL Comment Syntax")
   block_comment : {inside behind : List ℕ} → Lacks (codes "*/") inside → IsForm (Closed Gap) (codes "/*" ++ (inside ++ codes "*/")) behind
   open_comment : {inside : List ℕ} → Lacks (codes "*/") inside → IsForm Open (codes "/*" ++ inside) []
   -- a literal or a name between marks; one more mark after it would double the last one

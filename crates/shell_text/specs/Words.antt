@@ -1,10 +1,8 @@
--- Meaning. The words of SQL. A text falls into pieces: words, and gaps of white space and comments
--- between them. Words are those of "SQL As Understood By SQLite" so far as the shell needs them:
--- literals in quotation marks (its page "SQL Language Expressions", section "Literal Values
--- (Constants)"), names quoted in any of three ways (page "SQLite Keywords"), comments (page "SQL
--- Comment Syntax"), words, runs of digits, and single characters. That a number is a run of digits
--- alone, and that a dollar sign may stand in a word, is our own choice. So is how a text is read:
--- in pieces, byte by byte, each by its place and the byte after it.
+-- Meaning. The words of SQL. A text falls into pieces: words, and gaps of white space and comments between them. Words are those of "SQL As
+-- Understood By SQLite" so far as the shell needs them: literals in quotation marks (its page "SQL Language Expressions", section "Literal
+-- Values (Constants)"), names quoted in any of three ways (page "SQLite Keywords"), comments (page "SQL Comment Syntax"), words, runs of
+-- digits, and single characters. That a number is a run of digits alone, and that a dollar sign may stand in a word, is our own choice. So
+-- is how a text is read: in pieces, byte by byte, each by its place and the byte after it.
 use Rattle.std.specs.Prelude.{⊤, ◌<◌, ◌≤◌, is_some, option_map, option_to_list, ℕ, ◌+◌, Bool, true, false, ◌==◌, ◌&&◌, ◌||◌, nat_le, List, []}
 use Rattle.std.specs.Prelude.{◌∷◌, ◌++◌, length, Option, Some, None, if◌then◌else◌, ◌≡◌, Result, IfOk, OnOk, IsErrOf}
 use Rattle.std.specs.Char.{is_ascii_alphabetic, is_ascii_digit}
@@ -24,13 +22,11 @@ use Rattle.shell_text.specs.declared.words.Ended.TheVariants.{Word, Gap}
 use Rattle.shell_text.specs.declared.words.Turn.{Turn}
 use Rattle.shell_text.specs.declared.words.Turn.TheVariants.{Goes, Ends}
 
--- white space between words: a tab, a line feed, a form feed, a carriage return or a space ("SQL
--- Comment Syntax")
+-- white space between words: a tab, a line feed, a form feed, a carriage return or a space ("SQL Comment Syntax")
 abbrev pub is_space : ℕ → Bool
 is_space b = (b == 0x09) || (b == 0x0A) || (b == 0x0C) || (b == 0x0D) || (b == 0x20)
 
--- a letter of ASCII, an underscore, or a byte from 128 on, which is part of a character of 128 or
--- more ("SQLite Keywords")
+-- a letter of ASCII, an underscore, or a byte from 128 on, which is part of a character of 128 or more ("SQLite Keywords")
 abbrev pub begins_word : ℕ → Bool
 begins_word b = is_ascii_alphabetic b || (b == 0x5F) || nat_le 128 b
 
@@ -52,8 +48,7 @@ pub record Piece : Type 0 where
 abbrev pub next_is : (ℕ → Bool) → Option ℕ → Bool
 next_is p next = option_map_or p next false
 
--- whether a line ends before the next byte, as at the end of the text: so far goes a comment that
--- two hyphens begin ("SQL Comment Syntax")
+-- whether a line ends before the next byte, as at the end of the text: so far goes a comment that two hyphens begin ("SQL Comment Syntax")
 abbrev pub ends_line : Option ℕ → Bool
 ends_line None = true
 ends_line (Some b) = b == 0x0A
@@ -66,15 +61,14 @@ in_word next = if next_is goes_on_word next then Goes InWord else Ends (Word kin
 abbrev pub in_number : Option ℕ → Turn
 in_number next = if next_is is_ascii_digit next then Goes InNumber else Ends (Word kinds.Number)
 
--- a byte of what goes up to a mark, by the place after a first one of two: inside, the mark is
--- doubled ("Literal Values (Constants)", "SQLite Keywords")
+-- a byte of what goes up to a mark, by the place after a first one of two: inside, the mark is doubled ("Literal Values (Constants)",
+-- "SQLite Keywords")
 abbrev pub in_marks : Place → Place → SqlKind → ℕ → ℕ → Option ℕ → Turn
 in_marks inside doubled kind mark b next =
     if b == mark then (if next_is (λ c. c == mark) next then Goes doubled else Ends (Word kind)) else Goes inside
 
--- a byte at which a piece begins, by the byte after it: white space, a comment of either kind, a
--- literal, a quoted name, a word, a number, or else a character alone ("SQL Comment Syntax",
--- "Literal Values (Constants)", "SQLite Keywords")
+-- a byte at which a piece begins, by the byte after it: white space, a comment of either kind, a literal, a quoted name, a word, a number,
+-- or else a character alone ("SQL Comment Syntax", "Literal Values (Constants)", "SQLite Keywords")
 unfoldable pub begun : ℕ → Option ℕ → Turn
 begun b next =
     if is_space b then Ends Gap
@@ -88,8 +82,7 @@ begun b next =
     else if is_ascii_digit b then in_number next
     else Ends (Word kinds.Symbol)
 
--- a byte of a block comment, after what opens it; a slash after a star closes it ("SQL Comment
--- Syntax")
+-- a byte of a block comment, after what opens it; a slash after a star closes it ("SQL Comment Syntax")
 abbrev pub in_comment : ℕ → Turn
 in_comment b = if b == 0x2A then Goes Star else Goes BlockComment
 

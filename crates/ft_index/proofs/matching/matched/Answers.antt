@@ -7,7 +7,7 @@ use Rattle.ft_query.specs.Occurs.{hits_of}
 use Rattle.ft_query.specs.Walk.{StandsBefore}
 use Rattle.ft_query.specs.Lists.{is_failed}
 use Rattle.ft_query.specs.declared.lists.ListFault.TheVariants as refusals
-use Rattle.ft_content.specs.Answer.{query_read}
+use Rattle.std.specs.Result.{result_unwrap_or}
 use Rattle.ft_documents.proofs.{hits_chosen, none_chosen}
 use Rattle.ft_index.specs.DocumentsRead.{LooksFor}
 use Rattle.ft_index.specs.Walked.{AreReliable}
@@ -73,7 +73,7 @@ returns-in_ok-taken-in-Ok-clause-counted g c content name text read indexed =
     (subst (λ (n : ℕ). Grows c.new-lists.result.store.now.rows_read n c.open.new.lists.store.now.rows_read c.open.new.lists.given) none ((reads_in g at).counted whole))
     (c.in-Ok.ensures.given here.0 (omega (arith, none)) ∙ (λ i. min (none i + entry_count (tree_of c.in-Some.query.now) (here.1 i)) (2 ^ 64 - 1)))
     ∙ ap (λ n. min (n + count) (2 ^ 64 - 1)) rows)
-    ∙ ap (λ q. min (c.args.store.now.rows_read + entries_asked content (query_read q)) (2 ^ 64 - 1)) (sym (read ∙ ap (λ q. Ok (option_map (λ q. tree_of q.now) q)) c.in-Some.is))
+    ∙ ap (λ q. min (c.args.store.now.rows_read + entries_asked content (result_unwrap_or q None)) (2 ^ 64 - 1)) (sym (read ∙ ap (λ q. Ok (option_map (λ q. tree_of q.now) q)) c.in-Some.is))
 
 pub returns-in_default-clause-told : goal.returns-in_default-clause-told
 returns-in_default-clause-told g c = λ content name text read indexed.

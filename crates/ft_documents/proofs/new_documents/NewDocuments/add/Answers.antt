@@ -6,7 +6,7 @@ use Rattle.ft_documents.proofs.KeyedRows.{find_looked_up, keys_put, true_of, of_
 use Rattle.ft_documents.proofs.IndexOf.{insert_put}
 use Rattle.ft_documents.proofs.InsertRows.{taken_is, row_is_new, put_shown, all_put_more, not_stored}
 use Rattle.ft_documents.proofs.new_documents.NewDocuments.add.Goals.{then-is_stored, else-is_stored, After-docid_for_row}
-use Rattle.ft_content.specs.Deserved as deserved
+use Rattle.ft_content.specs.Step as step
 use Rattle.ft_documents.proofs.new_documents.NewDocuments.add.Goals as goal
 
 is_there : (entries : List (ℤ × Vec Value Global)) (docid : ℤ) (b : Bool) → FitsSigned w64 docid → b ≡ is_some (lookup (λ k. is_eq (int_cmp (to_z w64 (of_z w64 docid)) k)) entries) → b ≡ is_some (find int_cmp docid (map shown_new entries))
@@ -20,13 +20,13 @@ if_some N (Some x) h f = f x h
 
 module _ (c : After-docid_for_row) (documents : Documents) where
   abbrev docids : List ℤ
-  docids = deserved.docids_named (zip (map (λ n. n.now) c.args.names.now) (map shown_value c.args.row.now))
+  docids = step.docids_named (zip (map (λ n. n.now) c.args.names.now) (map shown_value c.args.row.now))
 
   abbrev cells : List Cell
-  cells = deserved.new_cells (zip (map (λ n. n.now) c.args.names.now) (map shown_value c.args.row.now)) (map column_of c.args.columns.now)
+  cells = step.new_cells (zip (map (λ n. n.now) c.args.names.now) (map shown_value c.args.row.now)) (map column_of c.args.columns.now)
 
-  row_is : AreBeside documents c.args.self.now → IfSome (slice_get docids 0) (λ docid. deserved.has_docid documents docid ≡ c.args.is_stored) →
-      deserved.insert_row (with_new c.args.self.now documents) docids cells ≡ placed (with_new c.args.self.now documents) cells c.docid_for_row.result
+  row_is : AreBeside documents c.args.self.now → IfSome (slice_get docids 0) (λ docid. step.has_docid documents docid ≡ c.args.is_stored) →
+      step.insert_row (with_new c.args.self.now documents) docids cells ≡ placed (with_new c.args.self.now documents) cells c.docid_for_row.result
   row_is beside stored =
       let new = shown_documents c.args.self.now in
       let all = with_new c.args.self.now documents in
@@ -40,7 +40,7 @@ module _ (c : After-docid_for_row) (documents : Documents) where
               (subst (λ b. IfSome c.row_docid-given.result (λ docid. b ≡ is_some (find int_cmp docid new))) (sym w.is_taken-is) (if_some _ c.row_docid-given.result w.is_some_and-is_taken.ensures (λ x p. let has : w.is_some_and-is_taken.result ≡ is_some (lookup (λ k. is_eq (int_cmp (to_z w64 (of_z w64 x)) k)) c.args.self.now.documents.entries) = search rules in let fits : FitsSigned w64 x = search rules in is_there c.args.self.now.documents.entries x _ fits has))),
         )
       ]) in
-      c.docid_for_row.ensures all docids cells beside.last (sym given) (subst (λ (o : Option ℤ). IfSome o (λ docid. deserved.has_docid all docid ≡ c.if-is_stored.is_taken)) (sym given) taken)
+      c.docid_for_row.ensures all docids cells beside.last (sym given) (subst (λ (o : Option ℤ). IfSome o (λ docid. step.has_docid all docid ≡ c.if-is_stored.is_taken)) (sym given) taken)
 
 pub returns-in_err-docid : goal.returns-in_err-docid
 returns-in_err-docid c documents beside stored =
@@ -49,7 +49,7 @@ returns-in_err-docid c documents beside stored =
     let fault : Fault = c.in_err-docid.field-0.0 in
     let is : c.from_residual.result ≡ Err fault = search rules in
     let refused : c.docid_for_row.result ≡ Err fault = search rules in
-    subst (λ (r : Result (Unit {0}) Fault). Places documents (deserved.insert_row all (docids at documents) (cells at documents)) c.args.self.now r) (sym is) (inr (row_is at documents beside stored ∙ ap (placed all (cells at documents)) refused))
+    subst (λ (r : Result (Unit {0}) Fault). Places documents (step.insert_row all (docids at documents) (cells at documents)) c.args.self.now r) (sym is) (inr (row_is at documents beside stored ∙ ap (placed all (cells at documents)) refused))
 
 pub returns : goal.returns
 returns c documents beside stored =
@@ -59,7 +59,7 @@ returns c documents beside stored =
     let fits : FitsSigned w64 c.in_ok-docid.docid = search rules in
     let docid : ℤ = c.in_ok-docid.docid in
     let passed : to_z w64 (of_z w64 c.in_ok-docid.docid) ≡ c.in_ok-docid.docid = to_z-of_z fits in
-    let made : deserved.insert_row all (docids at documents) (cells at documents) ≡ Ok (put int_cmp docid (cells at documents) all) = row_is at documents beside stored ∙ ap (placed all (cells at documents)) c.in_ok-docid.was in
+    let made : step.insert_row all (docids at documents) (cells at documents) ≡ Ok (put int_cmp docid (cells at documents) all) = row_is at documents beside stored ∙ ap (placed all (cells at documents)) c.in_ok-docid.was in
     let none = row_is_new all (docids at documents) (cells at documents) docid (sorted_put int_cmp int_cmp_total exact_signed new documents beside.sorted) made in
     let held = c.args.self.now.documents.entries in
     let added : List Cell = cells_of c.in_ok-cells.cells in

@@ -2,7 +2,7 @@
 use Rattle.std.proofs.Common.{◌≡◌, inl, inr, Err, Result, map, rules, sym, subst, is_ok}
 use Rattle.ft_index.proofs.Common.{fault_of_read, Fault, Reply, shown_info, command_of, answer_of, FullText, Executes, AreHeld, with_tables}
 use Rattle.ft_index.proofs.Common.{CountsRows, Database, shows}
-use Rattle.ft_index.specs.Crashes.{LeavesCommand}
+use Rattle.ft_index.specs.Kept.{CommitsCommand, Leaves}
 use Rattle.ft_index.proofs.Doing.{looks_up, store_answer, store_blamed, then_either, pinged, counts_nothing, counts_then, does_nothing, does_then, outside_of, ok_then}
 use Rattle.ft_store.specs.Rows.{value_of as rows_of}
 use Rattle.ft_index.specs.Refused.{CantDo}
@@ -20,7 +20,7 @@ returns-in-Err g c =
     let new = with_tables mid tables in
     record {
       executes = subst (λ (k : FullText g.row.S.Denot). Executes g.S.Store k command (answer_of answer) new) c.self.view_is does.executes;
-      leaves = subst (λ (k : FullText g.row.S.Denot). LeavesCommand g.S.Store k command (is_ok answer) new) c.self.view_is (record {
+      leaves = subst (λ (k : FullText g.row.S.Denot). Leaves g.S.Store k new (is_ok answer) (CommitsCommand g.S.Store k command)) c.self.view_is (record {
         live = λ clean done. ok_then answer (does.live clean) done;
         settled = λ up. c.is_settled.ensures up.clean up.is_open;
         survives = does.crash;
@@ -42,7 +42,7 @@ returns g c =
     let does = does_then g.S.Store old mid _ c.ping.ensures c.in_default.ensures.live tables new command done.result done.ensures.does in
     record {
       executes = subst (λ (k : FullText g.row.S.Denot). Executes g.S.Store k command (answer_of done.result) new) c.self.view_is does.executes;
-      leaves = subst (λ (k : FullText g.row.S.Denot). LeavesCommand g.S.Store k command (is_ok done.result) new) c.self.view_is (record {
+      leaves = subst (λ (k : FullText g.row.S.Denot). Leaves g.S.Store k new (is_ok done.result) (CommitsCommand g.S.Store k command)) c.self.view_is (record {
         live = λ clean done_so. ok_then done.result (does.live clean) done_so;
         settled = λ up. c.is_settled-2.ensures up.clean up.is_open;
         survives = does.crash;

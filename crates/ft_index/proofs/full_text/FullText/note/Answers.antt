@@ -2,7 +2,7 @@
 use Rattle.std.proofs.Common.{map, refl, subst, sym, is_ok}
 use Rattle.ft_index.proofs.Common.{survives_weaker, shown_info, FullText, with_tables, shows}
 use Rattle.ft_index.specs.Kept.{Notes}
-use Rattle.ft_index.specs.Crashes.{LeavesNote}
+use Rattle.ft_index.specs.Kept.{CommitsNote, Leaves}
 use Rattle.ft_index.proofs.Calls.{note_holds}
 use Rattle.ft_index.proofs.Doing.{ok_then}
 use Rattle.ft_index.proofs.full_text.FullText.note.Goals as goal
@@ -26,7 +26,7 @@ returns g c =
         noted = λ up. changed.value tables up;
         tables = refl;
       });
-      leaves = subst (λ (k : FullText g.row.S.Denot). LeavesNote g.S.Store k c.args.name.now (is_ok c.note_name-result.result) new) c.self.view_is (record {
+      leaves = subst (λ (k : FullText g.row.S.Denot). Leaves g.S.Store k new (is_ok c.note_name-result.result) (CommitsNote g.S.Store k c.args.name.now)) c.self.view_is (record {
         live = λ clean done. ok_then c.note_name-result.result (c.note_name-result.ensures.makes.live clean) done;
         settled = λ up. c.is_settled.ensures up.clean up.is_open;
         survives = survives_weaker (shows g.S.Store c.self.inside.store) (shows g.S.Store c.note_name-result.new.store) _ _ (λ clean db commits. (record { clean = commits.0.clean; is_open = commits.0.is_open }, λ up. commits.1)) c.note_name-result.ensures.makes.crash;

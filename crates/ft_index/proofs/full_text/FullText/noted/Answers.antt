@@ -1,6 +1,6 @@
 -- the store is asked, and then the names are read, without their small letters
 use Rattle.std.proofs.Common.{◌≡◌, ℕ, List, map, string_bytes, sym, ap, subst, ◌∙◌, arith, rules, is_ok, true}
-use Rattle.ft_index.proofs.Common.{map-map, doubt, StoreValue, shows, shown_info, FullText, OnlyLooks, store_value, LeavesRead, with_tables}
+use Rattle.ft_index.proofs.Common.{map-map, doubt, StoreValue, shows, shown_info, FullText, OnlyLooks, store_value, Leaves, with_tables}
 use Rattle.ft_rows.specs.Shown.{shown_note}
 use Rattle.ft_index.specs.Changed.{LooksAsked}
 use Rattle.ft_index.proofs.Doing.{asked_looks, read_leaves, read_looks, value_mid}
@@ -26,8 +26,8 @@ returns-clause-looks g c =
 pub returns-clause-leaves : goal.returns-clause-leaves
 returns-clause-leaves g c =
     let tables = map shown_info c.self.inside.tables.items in
-    subst (λ (k : FullText g.row.S.Denot). LeavesRead g.S.Store k true (with_tables c.noted.new.self tables)) c.self.view_is
-    (subst (λ b. LeavesRead g.S.Store (with_tables c.self.inside.store tables) b (with_tables c.noted.new.self tables)) (ap is_ok c.in_ok-noted.was)
+    subst (λ (k : FullText g.row.S.Denot). Leaves g.S.Store k (with_tables c.noted.new.self tables) true (λ _. ⊥)) c.self.view_is
+    (subst (λ b. Leaves g.S.Store (with_tables c.self.inside.store tables) (with_tables c.noted.new.self tables) b (λ _. ⊥)) (ap is_ok c.in_ok-noted.was)
     (read_leaves g.S.Store c.self.inside.store c.noted.new.self tables c.noted.result (asked g (goal.at.returns-clause-leaves g c).After-noted) (λ up. c.is_settled.ensures up.clean up.is_open)))
 
 pub returns-in_err-noted-clause-looks : goal.returns-in_err-noted-clause-looks
