@@ -13,7 +13,7 @@ CRATES := $(shell sed -n 's/^\([a-z0-9_]*\):.*/\1/p' crates.txt)
 LIBRARIES := $(filter-out $(patsubst crates/%/src/main.rt,%,$(wildcard crates/*/src/main.rt)),$(CRATES))
 # The crates of the repository that a crate stands on.
 below = $(filter $(CRATES),$(shell sed -n 's/^$(1)://p' crates.txt))
-side_by_side = $(MAKE) --no-print-directory -j$(RT_JOBS)
+side_by_side = $(MAKE) --no-print-directory -j$(RT_JOBS) RT_JOBS=$(RT_JOBS)
 
 .PHONY: all build demo test test-all wrong-bodies install clean $(CRATES:%=prove-%)
 
@@ -26,10 +26,14 @@ build:
 	mkdir -p bin
 	cp crates/ft_main/out/ft_main bin/ft4sh
 
+# How many processors a check takes from nothing: one, but two where all others wait for it and four crates fit side by side.
+check_jobs = 1
+prove-ft_store prove-ft_index prove-ft_shell prove-ft_program: private check_jobs = $(if $(filter 1 2 3,$(RT_JOBS)),1,2)
+
 # `prove-NAME` proves a library, after those that it stands on.
 $(foreach it,$(CRATES),$(eval prove-$(it): $(addprefix prove-,$(call below,$(it)))))
 $(LIBRARIES:%=prove-%): prove-%:
-	@tests/gate/prove $*
+	@tests/gate/prove $* $(check_jobs)
 
 # Loads the log of a harbour, searches it and changes it: examples/search.sql.
 demo: build
