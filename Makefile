@@ -26,14 +26,14 @@ build:
 	mkdir -p bin
 	cp crates/ft_main/out/ft_main bin/ft4sh
 
-# How many processors a check takes from nothing: one, but two where all others wait for it and four crates fit side by side.
-check_jobs = 1
-prove-ft_store prove-ft_index prove-ft_shell prove-ft_program: private check_jobs = $(if $(filter 1 2 3,$(RT_JOBS)),1,2)
+# How many processors a check takes from nothing: one, but two on the way that everything waits for, where four crates fit side by side.
+processors = 1
+prove-ft_store prove-ft_index prove-ft_shell prove-ft_program: private processors = $(if $(filter 1 2 3,$(RT_JOBS)),1,2)
 
 # `prove-NAME` proves a library, after those that it stands on.
 $(foreach it,$(CRATES),$(eval prove-$(it): $(addprefix prove-,$(call below,$(it)))))
 $(LIBRARIES:%=prove-%): prove-%:
-	@tests/gate/prove $* $(check_jobs)
+	@tests/gate/prove $* $(processors)
 
 # Loads the log of a harbour, searches it and changes it: examples/search.sql.
 demo: build
