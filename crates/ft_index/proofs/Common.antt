@@ -70,15 +70,16 @@ pub use Rattle.ft_documents.specs.Rewrite.{shown_rewrite, Rewrite, AreRight, rew
 pub use Rattle.ft_documents.specs.Rewrite.{under_docids, removal, rewritten_content}
 pub use Rattle.ft_documents.specs.Tables.{table_rows, table_index, IsOfDocids}
 pub use Rattle.ft_documents.specs.declared.documents.Document.{Document}
-unfoldable pub use Rattle.ft_index.specs.Kept.{left_by}
+unfoldable pub use Rattle.ft_calls.specs.Kept.{left_by}
 pub use Rattle.ft_index.specs.Changed.{with_tables, Does, MakesRows}
-pub use Rattle.ft_index.specs.Kept.{Leaves, SurvivesCrash}
+pub use Rattle.ft_calls.specs.Kept.{Leaves, SurvivesCrash}
 pub use Rattle.ft_index.specs.DocumentsRead.{Looks, HasRows}
-pub use Rattle.ft_index.specs.Kept.{AreHeld, StoreHolds, table_info, PlansFrom, Stands, FullText, IsUp, ReachesStep, Answers, Executes}
-pub use Rattle.ft_index.specs.Kept.{is_outside, KeepsOthers, HoldsTable, is_sound, IsOutside, store_value, AreSound, Holds, OnlyLooks, StaysNear}
+pub use Rattle.ft_calls.specs.Kept.{AreHeld, StoreHolds, table_info, PlansFrom, Stands, FullText, IsUp, ReachesStep, Answers, Executes}
+pub use Rattle.ft_calls.specs.Kept.{is_outside, KeepsOthers, HoldsTable, is_sound, IsOutside, store_value, AreSound, Holds, OnlyLooks, StaysNear}
 pub use Rattle.ft_index.specs.Opened.{IsListed, state_of, AreMarked, HasState, HasTableMark, IsNamed}
 pub use Rattle.ft_index.specs.Planned.{table_change, PlansTable, changes_of}
-pub use Rattle.ft_index.specs.Refused.{AreThere, BlamesMade, AreRewrites, BlamesDone, alone, behind}
+pub use Rattle.ft_index.specs.Refused.{AreThere, BlamesMade, BlamesDone}
+pub use Rattle.ft_calls.specs.Causes.{AreRewrites, alone, behind}
 unfoldable pub use Rattle.ft_index.specs.RowsRead.{rows_asked}
 pub use Rattle.ft_index.specs.RowsRead.{reads_document, CountsRows, CountsCommand, CountsFound, CountsHeld, count_asked, entries_asked}
 pub use Rattle.ft_index.specs.Selected.{hit_cells, IsAsked, IsOf}

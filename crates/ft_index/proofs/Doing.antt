@@ -16,10 +16,10 @@ use Rattle.ft_query.specs.Lists.{Reaches, Stays, Goes, Ends}
 use Rattle.ft_store.proofs.{kept_then}
 use Rattle.ft_content.specs.Command.{Reply}
 use Rattle.ft_index.specs.Changed.{Changed, DoesAsked, LooksAsked, MakesAsked}
-use Rattle.ft_index.proofs.NameLemmas.{apart_after}
+use Rattle.ft_calls.proofs.{apart_after}
 use Rattle.ft_index.proofs.OneTable.{keeps_same, sound_rows, sound_table}
 use Rattle.ft_index.proofs.TablePlans.{refused_answers}
-use Rattle.ft_index.specs.Kept.{CommitsCommand, HoldsLeft}
+use Rattle.ft_calls.specs.Kept.{CommitsCommand, HoldsLeft}
 use Rattle.ft_values.specs.declared.rows.RowChange.TheVariants as row
 use Rattle.ft_rows.specs.Changes.{CanApply}
 use Rattle.ft_store.specs.Kept.{Pings, ReadsRows}
@@ -36,11 +36,11 @@ use Rattle.ft_store.specs.Calls.{IsReadFault}
 use Rattle.ft_content.proofs.{cut_of_map}
 use Rattle.ft_documents.proofs.{all_found}
 use Rattle.ft_content.specs.Index.{Entry, entries, spot_lists, spots_at, key_cmp, key_of}
-use Rattle.ft_index.specs.Kept.{BlamesStore, puts_rows}
+use Rattle.ft_calls.specs.Kept.{BlamesStore, puts_rows}
 use Rattle.ft_index.specs.Walked.{Fails, FailsIf}
 use Rattle.ft_index.proofs.OpenedTables.{blamed_after}
 use Rattle.ft_content.specs.declared.command.Reply.TheVariants as replies
-use Rattle.ft_index.specs.Refused.{AreOwn, CantMake}
+use Rattle.ft_calls.specs.Causes.{AreOwn, CantMake}
 
 -- where nothing is done, nothing is committed
 pub nothing_done : (s : State) {P : Trees → Type 0} → Survives s s P

@@ -20,7 +20,7 @@ use Rattle.std.proofs.lemmas.Int.{ints}
 use Rattle.ft_documents.proofs.{added_rows, added_index, spares_others}
 use Rattle.ft_content.specs.Laws.{content_with}
 use Rattle.ft_documents.specs.RowLaws.{changed_table}
-use Rattle.ft_index.specs.Kept.{has_table_id}
+use Rattle.ft_calls.specs.Kept.{has_table_id}
 
 -- what is known of two that stand in order, and of none
 pub less : (o : Ordering) → is_lt o ≡ true → o ≡ Less

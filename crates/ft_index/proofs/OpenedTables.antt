@@ -7,7 +7,7 @@ use Rattle.ft_index.proofs.Common.{list_key_cmp, Column, Content, IsContent, con
 use Rattle.ft_index.proofs.Common.{state_of, IsListed, HasTableMark, shown_table, repeats_name, with_tables, AreHeld, StoreHolds, table_info}
 use Rattle.ft_index.proofs.Common.{AreMarked, AllByRecursion, list_all, AreInOrder, Fault, RustTableInfo, Check, Done, shown_info, table_named}
 use Rattle.ft_index.proofs.Common.{on_found, deserved, step, step_by, reply_to, after, info_named, AreSound, IsNamed}
-use Rattle.ft_index.specs.Kept.{HoldsOneContents}
+use Rattle.ft_calls.specs.Kept.{HoldsOneContents}
 use Rattle.ft_content.proofs.{contents_are_one, rows_are_read}
 use Rattle.ft_store.proofs.{blamed_then}
 use Rattle.ft_values.specs.declared.rows.CellRow as stored_cell
@@ -25,7 +25,7 @@ use Rattle.ft_rows.specs.Terms.{lists_of_postings, lists_under, lists_by_terms}
 use Rattle.ft_rows.specs.declared.terms.TermLists.{TermLists}
 use Rattle.ft_documents.proofs.{sized_once}
 use Rattle.ft_rows.specs.Shown.{table_listed, AreNamedApart}
-use Rattle.ft_index.specs.Kept.{HoldsSome}
+use Rattle.ft_calls.specs.Kept.{HoldsSome}
 use Rattle.std.specs.List.{find}
 use Rattle.std.proofs.lemmas.List.Sums.{AllPass-from_list_all, list_all-from_AllPass}
 use Rattle.std.proofs.lemmas.List.Folds.{list_all-map}

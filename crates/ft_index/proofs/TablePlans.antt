@@ -10,7 +10,7 @@ use Rattle.ft_content.specs.declared.command.Creation.{Creation}
 use Rattle.ft_content.specs.Step.{created}
 use Rattle.ft_index.proofs.OneTable.{ids_sorted, free_is_free, adds_one, IsOne, one_named, held_named, one_spares, drops_one, none_named, some_named, keeps_dropped, keeps_same, makes_table}
 use Rattle.ft_content.specs.Laws.{content_with}
-use Rattle.ft_index.proofs.NameLemmas.{apart_after}
+use Rattle.ft_calls.proofs.{apart_after}
 use Rattle.ft_content.proofs.{create_makes_content}
 use Rattle.ft_values.specs.declared.fault.Fault.TheVariants as faults
 use Rattle.ft_content.specs.Command.{Reply}

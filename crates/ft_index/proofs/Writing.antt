@@ -8,7 +8,7 @@ use Rattle.ft_index.proofs.Common.{shown_rewrite, AreHeld, StoreHolds, StaysNear
 use Rattle.ft_index.proofs.Common.{HasAll, WritesDocuments, WritesIn, PlansTo, Ghosts, StoreState, value_in, with_tables, Written}
 use Rattle.ft_index.proofs.OneTable.{held_named, IsSoundTable, sound_table, sound_is, unfit_is, sound_rows, leaves_rest, lifts, keeps_changed}
 use Rattle.ft_content.specs.Step.{touched_of, touched_found, touched_held}
-use Rattle.ft_index.specs.Kept.{AreOfFound}
+use Rattle.ft_calls.specs.Kept.{AreOfFound}
 use Rattle.ft_values.specs.declared.fault.Fault.TheVariants as faults
 use Rattle.ft_documents.specs.declared.rewrite.Rewrite as source
 

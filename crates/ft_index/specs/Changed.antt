@@ -10,8 +10,8 @@ use Rattle.ft_values.specs.declared.fault.Fault.{Fault}
 use Rattle.ft_content.specs.declared.command.Reply.{Reply}
 use Rattle.ft_content.specs.Command.{Command}
 use Rattle.ft_content.specs.Views.{TableInfo, answer_of}
-use Rattle.ft_index.specs.Kept.{FullText, IsUp, IsOutside, Executes}
-use Rattle.ft_index.specs.Kept.{CommitsCommand}
+use Rattle.ft_calls.specs.Kept.{FullText, IsUp, IsOutside, Executes}
+use Rattle.ft_calls.specs.Kept.{CommitsCommand}
 
 abbrev pub with_tables : {S : Type 0} → StoreState S → List TableInfo → FullText S
 with_tables store tables = record { store = store; tables = tables }

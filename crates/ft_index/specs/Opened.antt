@@ -15,7 +15,7 @@ use Rattle.ft_content.specs.Step.{TableState, Sound, Stale, Loose, Contents}
 use Rattle.ft_index.specs.declared.row_state.RowState.{RowState}
 use Rattle.ft_index.specs.declared.row_state.RowState.TheVariants as states
 use Rattle.ft_index.specs.DocumentsRead.{Looks}
-use Rattle.ft_index.specs.Kept.{FullText, IsUp, Stands, StoreHolds, Holds, table_info}
+use Rattle.ft_calls.specs.Kept.{FullText, IsUp, Stands, StoreHolds, Holds, table_info}
 use Rattle.ft_documents.specs.Tables.{table_rows, table_index}
 
 abbrev pub state_of : TableState → RowState

@@ -13,7 +13,7 @@ use Rattle.ft_content.specs.Command.{Command}
 use Rattle.ft_content.specs.Views.{shown_info, column_of, option_of, names_in, creation_of}
 use Rattle.ft_content.specs.Step.{Contents, table_named, made_columns, deserved}
 use Rattle.ft_content.specs.Step.{free_id_from, made_column}
-use Rattle.ft_index.specs.Kept.{AreHeld, PlansFrom}
+use Rattle.ft_calls.specs.Kept.{AreHeld, PlansFrom}
 
 -- the changes of a plan as changes of the store's value
 abbrev pub changes_of : Result (Vec RowChange Global) Fault → Result (List Change) Fault

@@ -12,7 +12,7 @@ use Rattle.ft_content.specs.Step.{TableState, Sound, Stale, Loose, Table, Conten
 use Rattle.ft_content.specs.Meaning.{content_documents}
 use Rattle.ft_store.specs.Kept.{more_rows}
 use Rattle.sqlite.specs.Store.{Ghosts}
-use Rattle.ft_index.specs.Kept.{FullText, IsUp, Holds}
+use Rattle.ft_calls.specs.Kept.{FullText, IsUp, Holds}
 
 -- an item whose cells are read of the document
 abbrev pub reads_document : Item → Bool

@@ -18,8 +18,9 @@ use Rattle.ft_documents.specs.declared.rewrite.Rewrite as source
 use Rattle.ft_documents.specs.Rewrite.{Rewrite, AreOf, AreRight, HasContent, shown_rewrite, rewritten_docids, rewritten}
 use Rattle.ft_documents.specs.Tables.{IsOfDocids}
 use Rattle.ft_index.specs.declared.written.Written.{Written}
-use Rattle.ft_index.specs.Kept.{IsUp, AreHeld, PlansFrom, puts_rows}
-use Rattle.ft_index.specs.Refused.{AreOwn, AreRewrites, BlamesDone, BlamesMade, BlamesOver}
+use Rattle.ft_calls.specs.Kept.{IsUp, AreHeld, PlansFrom, puts_rows}
+use Rattle.ft_index.specs.Refused.{BlamesDone, BlamesMade, BlamesOver}
+use Rattle.ft_calls.specs.Causes.{AreOwn, AreRewrites}
 use Rattle.ft_index.specs.Planned.{changes_of, table_change}
 use Rattle.ft_content.specs.declared.command.Reply.{Reply}
 use Rattle.ft_content.specs.Command.{Done}

@@ -11,7 +11,7 @@ ghost use Rattle.ft_index.specs.DocumentsRead.{HasRows, LooksFor};
 ghost use Rattle.ft_documents.specs.Gathered.{shown_document};
 ghost use Rattle.ft_index.specs.Walked.{IsIndexed};
 ghost use Rattle.ft_documents.specs.Chosen.{ReadsFilterAs, document_at};
-ghost use Rattle.ft_index.specs.Kept.{IsOutside};
+ghost use Rattle.ft_calls.specs.Kept.{IsOutside};
 ghost use Rattle.ft_index.specs.Refused.{BlamesContent, AreThere};
 
 use crate::documents::{all_documents, document};

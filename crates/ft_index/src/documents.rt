@@ -11,7 +11,7 @@ ghost use Rattle.ft_content.specs.Views as views;
 ghost use Rattle.ft_index.specs.DocumentsRead.{HasRows, LooksFor, AsksStore};
 ghost use Rattle.ft_index.specs.RowsRead.{are_short, docids_asked};
 ghost use Rattle.ft_documents.specs.Gathered.{shown_document, has_given};
-ghost use Rattle.ft_index.specs.Kept.{BlamesStore, IsOutside};
+ghost use Rattle.ft_calls.specs.Kept.{BlamesStore, IsOutside};
 
 use ft_content::{Fault, Value, cut};
 use ft_documents::{Document, gathered};

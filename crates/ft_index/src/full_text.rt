@@ -30,8 +30,8 @@ pub struct NewFault<S: Alter> {
 impl<S: Alter> Model for FullText<S> {
     ghost use Rattle.std.specs.Prelude.{map};
     ghost use Rattle.ft_content.specs.Views.{shown_info};
-    ghost use Rattle.ft_index.specs.Kept as kept;
-    ghost use Rattle.ft_index.specs.Kept.{full_text_code, HoldsSome};
+    ghost use Rattle.ft_calls.specs.Kept as kept;
+    ghost use Rattle.ft_calls.specs.Kept.{full_text_code, HoldsSome};
 
     ghost Value = { kept.FullText S };
 
@@ -57,10 +57,9 @@ impl<S: Alter> FullText<S> {
     ghost use Rattle.ft_index.specs.RowsRead.{CountsRows};
     ghost use Rattle.ft_index.specs.DocumentsRead.{Looks};
     ghost use Rattle.ft_index.specs.Opened.{OpensStore, OpensWhatIsLeft};
-    ghost use Rattle.ft_index.specs.Kept.{IsUp, store_value, Holds, AreSound, OnlyLooks, BlamesStore, BlamesChanges, Executes, Plans, Notes};
-    ghost use Rattle.ft_index.specs.Refused.{BlamesCommand, DoesForCause};
-    ghost use Rattle.ft_index.specs.Kept.{CommitsCommand, CommitsNote, DoesCall, HoldsOneContents, KeptByCalls, Leaves, NamesStayApart};
-    ghost use Rattle.ft_index.specs.Kept.{NoneGetsUnsound, SurvivesCrash};
+    ghost use Rattle.ft_calls.specs.Kept.{IsUp, store_value, Holds, AreSound, OnlyLooks, BlamesStore, BlamesChanges, Executes, Plans, Notes};
+    ghost use Rattle.ft_calls.specs.Causes.{BlamesCommand};
+    ghost use Rattle.ft_calls.specs.Kept.{CommitsCommand, CommitsNote, HoldsOneContents, Leaves, SurvivesCrash};
 
     /// Takes a store, and marks each table whose rows aren't documents with exactly the index rows
     /// made from scratch. The store is only read; where a read is refused it is handed back.
@@ -200,20 +199,6 @@ impl<S: Alter> FullText<S> {
         let FullText { store, .. } = self;
         store
     }
-
-    /// After any calls of `execute` and `note` the contents are those of the accepted commands, the
-    /// index rows of each sound table are exactly those made from scratch, and each command was
-    /// answered by the definitions. No table becomes unsound, and no two get one name.
-    pub fn kept_by_calls()
-        ensures kept { KeptByCalls S.Store (DoesCall S.Store) }
-        ensures sound { NoneGetsUnsound }
-        ensures names { NamesStayApart }
-    {}
-
-    /// The same of calls of which it is known why each command was refused that was.
-    pub fn kept_with_causes()
-        ensures { KeptByCalls S.Store (DoesForCause S.Store) }
-    {}
 
     /// What a store holds is settled: no two contents are held by one store. So `new` gives each
     /// table one mark, and of what a crash left the marks of the contents before the command or

@@ -1,6 +1,7 @@
 //! Full-text tables over a store, with an index that is always the one made from scratch.
 #![tactic(auto)]
 
+mod calls;
 mod chosen;
 mod commands;
 mod documents;
@@ -13,6 +14,7 @@ mod table_lists;
 mod tables;
 mod written;
 
+pub use ft_calls::TextTables;
 pub use ft_content::{
     Column, Command, Creation, Deletion, Fault, Filter, Grid, Insertion, Item, Items, Modification,
     Reply, Selection, TableInfo, Value,

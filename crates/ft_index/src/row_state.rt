@@ -7,7 +7,7 @@ ghost use Rattle.ft_store.specs.Kept.{shows, value_in};
 ghost use Rattle.ft_content.specs.Views.{column_of, shown_info};
 ghost use Rattle.ft_content.specs.Step.{TableState};
 ghost use Rattle.ft_index.specs.DocumentsRead.{AsksStore};
-ghost use Rattle.ft_index.specs.Kept.{is_sound};
+ghost use Rattle.ft_calls.specs.Kept.{is_sound};
 ghost use Rattle.ft_index.specs.Opened.{state_of, StandsSo, HasState, IsListed, AreMarked};
 ghost use Rattle.ft_documents.specs.Tables.{table_rows, table_index};
 

@@ -12,7 +12,7 @@ ghost use Rattle.ft_content.specs.Answer as answer;
 ghost use Rattle.ft_content.specs.Answer.{chosen, query_in};
 ghost use Rattle.ft_content.specs.Step as step;
 ghost use Rattle.ft_content.specs.Views.{bare_content, rows_of, column_of, item_of, items_of, filter_of, selection_of, shown_info, answer_of};
-ghost use Rattle.ft_index.specs.Kept.{Executes, OnlyLooks, IsOutside};
+ghost use Rattle.ft_calls.specs.Kept.{Executes, OnlyLooks, IsOutside};
 ghost use Rattle.ft_index.specs.Changed.{with_tables};
 ghost use Rattle.ft_index.specs.Refused.{BlamesContent, BlamesOver, AreThere, NeverStore};
 ghost use Rattle.ft_index.specs.DocumentsRead.{HasRows, LooksFor};

@@ -3,7 +3,7 @@ ghost use Rattle.std.specs.Prelude.{map, ◌≡◌, ℕ, List, Some};
 ghost use Rattle.ft_content.specs.Views.{shown_info, answer_of};
 ghost use Rattle.ft_index.specs.Changed.{with_tables, Does};
 ghost use Rattle.ft_index.specs.DocumentsRead.{LooksOn};
-ghost use Rattle.ft_index.specs.Kept.{Executes, Answers, BlamesStore, table_info};
+ghost use Rattle.ft_calls.specs.Kept.{Executes, Answers, BlamesStore, table_info};
 ghost use Rattle.ft_store.specs.Kept.{shows};
 ghost use Rattle.ft_documents.specs.Found.{info_named};
 ghost use Rattle.ft_index.specs.Refused.{BlamesDone, NeverStore};

@@ -3,7 +3,7 @@ ghost use Rattle.std.specs.Prelude.{◌≡◌, ◌∷◌, [], map, All, IfOk};
 ghost use Rattle.ft_rows.specs.Changes.{shown_change, CanApply};
 ghost use Rattle.ft_content.specs.Views.{shown_info, creation_of};
 ghost use Rattle.ft_content.specs.Step.{Contents};
-ghost use Rattle.ft_index.specs.Kept.{BlamesStore, BlamesChanges, table_info};
+ghost use Rattle.ft_calls.specs.Kept.{BlamesStore, BlamesChanges, table_info};
 ghost use Rattle.ft_index.specs.Planned.{PlansOver, PlansTable, table_change};
 ghost use Rattle.ft_index.specs.Changed.{with_tables, MakesRows, Does, MakesAsked};
 ghost use Rattle.ft_index.specs.Refused.{BlamesDone, NeverStore};

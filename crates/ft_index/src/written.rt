@@ -13,7 +13,7 @@ ghost use Rattle.ft_index.specs.DocumentsRead.{HasRows, LooksOn, LooksFor};
 ghost use Rattle.ft_documents.specs.Gathered.{has_given};
 ghost use Rattle.ft_content.specs.Answer.{chosen};
 ghost use Rattle.ft_index.specs.Changed.{with_tables, Does};
-ghost use Rattle.ft_index.specs.Kept.{BlamesStore, IsOutside};
+ghost use Rattle.ft_calls.specs.Kept.{BlamesStore, IsOutside};
 ghost use Rattle.ft_index.specs.Refused.{BlamesOver, BlamesDone};
 ghost use Rattle.ft_content.specs.Content as content;
 

@@ -16,9 +16,9 @@ use Rattle.std.specs.Io.KnownBytes.{Appends, Consumes}
 use Rattle.sqlite.specs.Held.{Held}
 use Rattle.shell_text.specs.Print.{AppendsFront, Settings}
 use Rattle.ft_store.specs.Kept.{StoreState}
-use Rattle.ft_index.specs.Kept.{FullText, Holds, IsUp}
-use Rattle.ft_index.specs.Kept.{SurvivesCrash}
-use Rattle.ft_index.proofs.{clean_at_first}
+use Rattle.ft_calls.specs.Kept.{FullText, Holds, IsUp}
+use Rattle.ft_calls.specs.Kept.{SurvivesCrash}
+use Rattle.ft_calls.proofs.{clean_at_first}
 use Rattle.ft_index.specs.Opened.{OpensStore}
 use Rattle.shell_io.specs.Writing.{AppendsUpTo, Sends}
 use Rattle.ft_program.specs.Inputs.{AreRead, Closes, EndsAs, InTurn, Outputs, RunsAndKeeps, RunsInTurn, RunsOne, RunsOver, Stage, WritesOwn, console, due, exit_status}

@@ -12,7 +12,7 @@ use Rattle.sqlite.specs.State.{HasCleanDisk}
 use Rattle.shell_text.specs.Print.{Settings}
 use Rattle.ft_store.specs.declared.fault.StoreFault.TheVariants as store
 use Rattle.ft_store.specs.Kept.{StoreState, shows}
-use Rattle.ft_index.specs.Kept.{StoreHolds}
+use Rattle.ft_calls.specs.Kept.{StoreHolds}
 use Rattle.ft_files.specs.declared.databases.OpenFault.{OpenFault}
 use Rattle.ft_files.specs.declared.databases.OpenFault.TheVariants as opening
 use Rattle.ft_files.specs.Hosts.{IsLeft, Names, OpensBothIn, Stay, StayBut, files_in}

@@ -23,8 +23,8 @@ use Rattle.ft_store.specs.Opened.{IsNotTakenFrom}
 use Rattle.ft_store.specs.Rows.{value_of}
 use Rattle.ft_store.specs.Tables.{store_schema}
 use Rattle.ft_content.specs.Step.{Contents}
-use Rattle.ft_index.specs.Kept.{StoreHolds}
-use Rattle.ft_index.specs.Kept.{HoldsLeft, Name}
+use Rattle.ft_calls.specs.Kept.{StoreHolds}
+use Rattle.ft_calls.specs.Kept.{HoldsLeft, Name}
 use Rattle.ft_files.specs.Opening.{IsStoreFrom}
 use Rattle.ft_program.specs.Reopened.{FindsWhatIsLeft}
 

@@ -6,8 +6,8 @@ use Rattle.sqlite.specs.Store.{Ghosts}
 use Rattle.sqlite.specs.Held.{Held}
 use Rattle.shell_text.specs.Print.{Settings}
 use Rattle.ft_store.specs.Kept.{StoreState, value_in}
-use Rattle.ft_index.specs.Kept.{FullText, Holds, StoreHolds}
-use Rattle.ft_index.specs.Kept.{SurvivesCrash}
+use Rattle.ft_calls.specs.Kept.{FullText, Holds, StoreHolds}
+use Rattle.ft_calls.specs.Kept.{SurvivesCrash}
 use Rattle.ft_index.specs.Opened.{OpensStore}
 use Rattle.ft_content.specs.Step.{Contents}
 use Rattle.std.specs.Fmt.{signed_decimal}

@@ -11,8 +11,8 @@ use Rattle.ft_store.specs.declared.fault.StoreFault.TheVariants as fault
 use Rattle.ft_store.specs.Kept.{StoreState, shows, value_in}
 use Rattle.ft_store.specs.Opened.{IsNotTakenFrom}
 use Rattle.ft_content.specs.Step.{Contents}
-use Rattle.ft_index.specs.Kept.{StoreHolds}
-use Rattle.ft_index.specs.Kept.{HoldsLeft, Name}
+use Rattle.ft_calls.specs.Kept.{StoreHolds}
+use Rattle.ft_calls.specs.Kept.{HoldsLeft, Name}
 use Rattle.ft_files.specs.Opening.{IsStoreFrom}
 
 -- Of files that held this image a store is opened that holds these contents and noted names; and they are never refused as no store, or as

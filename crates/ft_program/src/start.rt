@@ -13,6 +13,7 @@ ghost use Rattle.ft_program.specs.Memory as memory;
 ghost use Rattle.ft_program.specs.Memory.{RefusesLine, RefusesWords, RunsInMemory, Starts};
 
 use clap::error::ErrorKind;
+use ft_calls::TextTables;
 use ft_files::{
     Databases, Left, OpenFault, SystemDatabases, SystemFiles, close_one, left_files, names_of,
     open_both_in, open_in_memory,
@@ -340,8 +341,8 @@ fn status_of<E: Write>(ended: Result<Status, RunFault>, err: &mut E) -> u8
 }
 
 // Runs the texts that were given, or else the input.
-fn run_all<P: Alter, S: Alter, R: Read, O: Write, E: Write>(
-    session: &mut Session<P, S>,
+fn run_all<P: Alter, S: Alter, T: TextTables<Over = S>, R: Read, O: Write, E: Write>(
+    session: &mut Session<P, T>,
     inputs: &[String],
     input: &mut R,
     files: &mut SystemFiles<'_>,
@@ -353,7 +354,7 @@ fn run_all<P: Alter, S: Alter, R: Read, O: Write, E: Write>(
         (stage_of O.contents E.contents session.new outputs.new) }
     ensures writers { SameWriters outputs.old outputs.new }
 {
-    Session::<P, S>::kept_by_runs();
+    Session::<P, T>::kept_by_runs();
     if inputs.is_empty() {
         session.run(input, outputs.out, outputs.err, files)
     } else {
@@ -362,8 +363,8 @@ fn run_all<P: Alter, S: Alter, R: Read, O: Write, E: Write>(
 }
 
 // Runs texts in turn, each as an input of its own, until one ends the session.
-fn run_texts<P: Alter, S: Alter, O: Write, E: Write>(
-    session: &mut Session<P, S>,
+fn run_texts<P: Alter, S: Alter, T: TextTables<Over = S>, O: Write, E: Write>(
+    session: &mut Session<P, T>,
     inputs: &[String],
     files: &mut SystemFiles<'_>,
     outputs: &mut Outputs<'_, O, E>,

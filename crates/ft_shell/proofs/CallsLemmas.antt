@@ -5,7 +5,7 @@ use Rattle.shell_text.specs.Print.{Settings}
 use Rattle.shell_text.specs.Units.{Member, Sql, Dot, Fault}
 use Rattle.shell_text.specs.Dot.{dot_words_of}
 use Rattle.shell_text.specs.Words.{is_unclosed}
-use Rattle.ft_index.specs.Kept.{Leaves, Runs}
+use Rattle.ft_calls.specs.Kept.{Leaves, Runs}
 use Rattle.shell_io.specs.Outcomes.{Answer, blames, lacks_memory}
 use Rattle.plain_sql.specs.Imports.{delimiter_of, row_cells}
 use Rattle.shell_io.specs.Records.{warnings, kept, records_in}

@@ -6,9 +6,9 @@ pub use Rattle.sqlite.specs.Held.{Held, state}
 pub use Rattle.sqlite.specs.Store.{Ghosts}
 pub use Rattle.ft_content.specs.Command.{Insert, Command, Filter, Items, Reply, Select}
 pub use Rattle.ft_content.specs.Views.{TableInfo, shown_info, info_names, column_of, command_of, reply_of, rows_of, cells_of}
-pub use Rattle.ft_index.specs.Refused.{DoesForCause}
-pub use Rattle.ft_index.specs.Kept.{Call, Looked, Noted, CallsKept, Executed, KeptByCalls, NoneGetsUnsound, accepted, left_by, AreAnswered}
-pub use Rattle.ft_index.specs.Kept.{FullText, OnlyLooks, is_outside}
+pub use Rattle.ft_calls.specs.Causes.{DoesForCause}
+pub use Rattle.ft_calls.specs.Kept.{Call, Looked, Noted, CallsKept, Executed, KeptByCalls, NoneGetsUnsound, accepted, left_by, AreAnswered}
+pub use Rattle.ft_calls.specs.Kept.{FullText, OnlyLooks, is_outside}
 pub use Rattle.ft_statements.specs.Dots.{DotCommand, Import, Nothing, SetMode, SetHeaders, SetSeparator, SetNull, SetEcho, SetBail, Print, Importing, Tables, Quit, Usage, Unknown, dot_command_of}
 pub use Rattle.ft_statements.specs.Plain.{asks, made_name}
 pub use Rattle.ft_statements.specs.Replies.{reply_text, AreSorted, listed}

@@ -7,7 +7,7 @@ use Rattle.shell_text.specs.Words.{is_unclosed}
 use Rattle.ft_values.specs.declared.fault.Fault.{Fault}
 use Rattle.ft_content.specs.Step.{Contents, deserved}
 use Rattle.ft_content.specs.Step.{after, reply_to, step, step_by}
-use Rattle.ft_index.specs.Kept.{Runs, left_by, AreAnswered, SurvivesCrash}
+use Rattle.ft_calls.specs.Kept.{Runs, left_by, AreAnswered, SurvivesCrash}
 use Rattle.ft_statements.specs.Statements.{FullText as FullTextClass}
 use Rattle.shell_io.specs.declared.run.Status.{Status}
 use Rattle.shell_io.specs.declared.run.RunFault.{RunFault}

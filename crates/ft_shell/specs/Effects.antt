@@ -1,6 +1,6 @@
 -- Meaning. What turns of a session write, and which calls they make of the full-text tables (own choice).
 use Rattle.std.specs.Prelude.{ℕ, Bool, false, List, [], ◌++◌, ◌+◌}
-use Rattle.ft_index.specs.Kept.{Call}
+use Rattle.ft_calls.specs.Kept.{Call}
 use Rattle.shell_io.specs.Outcomes.{Outcome}
 
 -- what one or more turns write, and the calls that they make of the full-text tables

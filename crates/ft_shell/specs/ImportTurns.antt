@@ -11,9 +11,9 @@ use Rattle.ft_values.specs.declared.fault.Fault.{Fault}
 use Rattle.ft_content.specs.Command.{Command, Insert, Reply}
 use Rattle.ft_content.specs.Views.{TableInfo}
 use Rattle.ft_documents.specs.Found.{info_named}
-use Rattle.ft_index.specs.Kept.{FullText}
-use Rattle.ft_index.specs.Kept.{Executed}
-use Rattle.ft_index.specs.Refused.{DoesForCause}
+use Rattle.ft_calls.specs.Kept.{FullText}
+use Rattle.ft_calls.specs.Kept.{Executed}
+use Rattle.ft_calls.specs.Causes.{DoesForCause}
 use Rattle.ft_statements.specs.Dots.{Import}
 use Rattle.ft_shell.specs.FullTextTurns.{NoteTurn}
 use Rattle.plain_sql.specs.Imports.{delimiter_of, row_cells}

@@ -6,7 +6,7 @@ use Rattle.sqlite.specs.Held.{Held, state}
 use Rattle.sqlite.specs.State.{Executes}
 use Rattle.sqlite.specs.declared.error.Error.{Error}
 use Rattle.shell_text.specs.Print.{Settings}
-use Rattle.ft_index.specs.Kept.{FullText}
+use Rattle.ft_calls.specs.Kept.{FullText}
 use Rattle.ft_statements.specs.Plain.{asks, made_name, seeks}
 use Rattle.ft_statements.specs.Words.{sql_tokens}
 use Rattle.plain_sql.specs.PlainStatements.{TellsRefusal, IfClean, QueryTurn}

@@ -8,9 +8,9 @@ use Rattle.ft_content.specs.Command.{Command, Filter, Items, Reply, Select}
 use Rattle.ft_content.specs.Step.{Contents}
 use Rattle.ft_content.specs.Step.{reply_to}
 use Rattle.sqlite.specs.State.{HasCleanDisk}
-use Rattle.ft_index.specs.Kept.{FullText, Holds}
-use Rattle.ft_index.specs.Kept.{Call, CallsKept, Executed, Runs, SurvivesCrash, accepted, left_by, is_unsound}
-use Rattle.ft_index.specs.Refused.{DoesForCause}
+use Rattle.ft_calls.specs.Kept.{FullText, Holds}
+use Rattle.ft_calls.specs.Kept.{Call, CallsKept, Executed, Runs, SurvivesCrash, accepted, left_by, is_unsound}
+use Rattle.ft_calls.specs.Causes.{DoesForCause}
 use Rattle.shell_io.specs.declared.run.Status.{Status}
 use Rattle.shell_io.specs.declared.run.RunFault.{RunFault}
 use Rattle.ft_shell.specs.Shell.{Parts, Shell}

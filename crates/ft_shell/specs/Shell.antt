@@ -4,7 +4,7 @@ use Rattle.std.specs.Coded.{Coded, code_by, coded×}
 use Rattle.sqlite.specs.Held.{Held, held_code}
 use Rattle.shell_text.specs.Print.{Settings}
 use Rattle.shell_text.specs.contracts.settings.Settings as settings
-use Rattle.ft_index.specs.Kept.{FullText, full_text_code}
+use Rattle.ft_calls.specs.Kept.{FullText, full_text_code}
 use Rattle.shell_io.specs.Sources.{Files}
 
 -- The settings, the connection to the plain database over a store P, the full-text tables over a store S, and what is known of the files

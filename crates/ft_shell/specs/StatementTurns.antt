@@ -6,7 +6,7 @@ use Rattle.sqlite.specs.Held.{Held}
 use Rattle.shell_text.specs.Print.{Settings}
 use Rattle.shell_text.specs.Words.{is_unclosed}
 use Rattle.ft_content.specs.Views.{TableInfo}
-use Rattle.ft_index.specs.Kept.{FullText}
+use Rattle.ft_calls.specs.Kept.{FullText}
 use Rattle.ft_statements.specs.Words.{sql_tokens}
 use Rattle.ft_statements.specs.Statements.{Class, Plain, FullText as FullTextClass, class_of}
 use Rattle.ft_shell.specs.FullTextTurns.{FullTextTurn}

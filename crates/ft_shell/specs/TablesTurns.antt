@@ -3,8 +3,8 @@
 use Rattle.std.specs.Prelude.{ℕ, ◌≡◌, List, map, true, false, codes}
 use Rattle.sqlite.specs.Store.{Ghosts}
 use Rattle.sqlite.specs.Held.{Held}
-use Rattle.ft_index.specs.Kept.{FullText, IsUp, OnlyLooks, store_value}
-use Rattle.ft_index.specs.Kept.{Leaves}
+use Rattle.ft_calls.specs.Kept.{FullText, IsUp, OnlyLooks, store_value}
+use Rattle.ft_calls.specs.Kept.{Leaves}
 use Rattle.plain_sql.specs.Listings.{Lists}
 use Rattle.shell_io.specs.Outcomes.{Answer, blames, Tells}
 use Rattle.ft_shell.specs.StatementTurns.{known_names}

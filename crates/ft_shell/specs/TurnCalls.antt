@@ -7,8 +7,8 @@ use Rattle.sqlite.specs.Held.{Held}
 use Rattle.shell_text.specs.Print.{Settings}
 use Rattle.shell_text.specs.Words.{is_unclosed}
 use Rattle.ft_content.specs.Command.{Insert}
-use Rattle.ft_index.specs.Kept.{FullText}
-use Rattle.ft_index.specs.Kept.{Call, Executed, Looked, Noted}
+use Rattle.ft_calls.specs.Kept.{FullText}
+use Rattle.ft_calls.specs.Kept.{Call, Executed, Looked, Noted}
 use Rattle.ft_statements.specs.Words.{sql_tokens}
 use Rattle.ft_statements.specs.Plain.{asks, made_name}
 use Rattle.ft_statements.specs.Statements.{Class, Plain, FullText as FullTextClass, class_of}

@@ -12,7 +12,7 @@ use Rattle.ft_statements.specs.Dots.{DotCommand, dot_command_of}
 use Rattle.ft_shell.specs.DotTurns.{DotTurn}
 use Rattle.ft_shell.specs.DotParts.{after_stop}
 use Rattle.ft_shell.specs.StatementTurns.{StatementTurn}
-use Rattle.ft_index.specs.Kept.{Call}
+use Rattle.ft_calls.specs.Kept.{Call}
 use Rattle.ft_shell.specs.TurnCalls.{dot_in, statement_in}
 use Rattle.shell_io.specs.Outcomes.{Answer, Outcome, blames, echo_text, echoed, lacks_memory, outcome_of}
 use Rattle.ft_shell.specs.Effects.{Effects, outcome_in, idle, and_then}

@@ -11,7 +11,7 @@ ghost use Rattle.ft_shell.specs.TablesTurns.{TablesTurn};
 ghost use Rattle.ft_shell.specs.DotParts as parts;
 
 use crate::import::import_turn;
-use ft_index::FullText;
+use ft_calls::TextTables;
 use ft_statements::{DotCommand, FaultText, apply, dot_command, listed_tables, print_text};
 use plain_sql::found_tables;
 use shell_io::{Answer, Complaint, Output, Source};
@@ -20,18 +20,18 @@ use sqlite::{Alter, Connection};
 use std::alloc::Global;
 
 // Does what a dot-command says.
-fn dot_turn<P: Alter, S: Alter, F: Source>(
+fn dot_turn<P: Alter, S: Alter, T: TextTables<Over = S>, F: Source>(
     alloc: Global,
     settings: &mut Settings,
     plain: &mut Connection<P>,
-    full_text: &mut FullText<S>,
+    full_text: &mut T,
     source: &mut F,
     command: &DotCommand,
 ) -> Answer
     ensures { DotOrLacks P.Store S.Store
-        (shell_of settings.old plain.old full_text.old (F.holds source.old))
-        (shell_of settings.new plain.new full_text.new (F.holds source.new)) (answer_as result)
-        (command_as command.now) }
+        (shell_of settings.old plain.old (T.known full_text.old) (F.holds source.old))
+        (shell_of settings.new plain.new (T.known full_text.new) (F.holds source.new))
+        (answer_as result) (command_as command.now) }
 {
     match command {
         DotCommand::Print(words) => {
@@ -67,18 +67,18 @@ fn after_stop(text: &str) -> &str
 }
 
 /// Does what a dot line says.
-pub(crate) fn dot_line_turn<P: Alter, S: Alter, F: Source>(
+pub(crate) fn dot_line_turn<P: Alter, S: Alter, T: TextTables<Over = S>, F: Source>(
     alloc: Global,
     settings: &mut Settings,
     plain: &mut Connection<P>,
-    full_text: &mut FullText<S>,
+    full_text: &mut T,
     source: &mut F,
     text: &str,
 ) -> Answer
     ensures { DotOrLacks P.Store S.Store
-        (shell_of settings.old plain.old full_text.old (F.holds source.old))
-        (shell_of settings.new plain.new full_text.new (F.holds source.new)) (answer_as result)
-        (dot_command_of (dot_words_of (parts.after_stop text.now))) }
+        (shell_of settings.old plain.old (T.known full_text.old) (F.holds source.old))
+        (shell_of settings.new plain.new (T.known full_text.new) (F.holds source.new))
+        (answer_as result) (dot_command_of (dot_words_of (parts.after_stop text.now))) }
 {
     let words = dot_words(alloc, after_stop(text))?;
     let command = dot_command(alloc, words.as_slice())?;
@@ -86,13 +86,13 @@ pub(crate) fn dot_line_turn<P: Alter, S: Alter, F: Source>(
 }
 
 // Lists the full-text tables, and those plain tables that were noted and can be read.
-fn tables_turn<P: Alter, S: Alter>(
+fn tables_turn<P: Alter, S: Alter, T: TextTables<Over = S>>(
     alloc: Global,
     plain: &mut Connection<P>,
-    full_text: &mut FullText<S>,
+    full_text: &mut T,
 ) -> Answer
-    ensures { TablesTurn P.Store S.Store plain.old plain.new full_text.old full_text.new
-        (answer_as result) }
+    ensures { TablesTurn P.Store S.Store plain.old plain.new (T.known full_text.old)
+        (T.known full_text.new) (answer_as result) }
 {
     let noted = full_text.noted()?;
     let found = found_tables(alloc, plain, noted.as_slice())?;

@@ -14,8 +14,8 @@ ghost use Rattle.ft_content.specs.Views as views;
 ghost use Rattle.plain_sql.specs.Imports as forms;
 
 use crate::turns::note_turn;
+use ft_calls::TextTables;
 use ft_content::{Command, Insertion, TableInfo, Value};
-use ft_index::FullText;
 use ft_statements::Import;
 use ft_values::table_place;
 use plain_sql::{ImportFault, delimiter_of, import_records, into_table, reads_table};
@@ -25,18 +25,18 @@ use sqlite::{Alter, Connection};
 use std::alloc::{AllocError, Global};
 
 /// Puts the records of a file into a table, all of them or none.
-pub(crate) fn import_turn<P: Alter, S: Alter, F: Source>(
+pub(crate) fn import_turn<P: Alter, S: Alter, T: TextTables<Over = S>, F: Source>(
     alloc: Global,
     settings: &Settings,
     plain: &mut Connection<P>,
-    full_text: &mut FullText<S>,
+    full_text: &mut T,
     source: &mut F,
     what: &Import,
 ) -> Answer
     ensures { DotTurn P.Store S.Store
-        (shell_of settings.now plain.old full_text.old (F.holds source.old))
-        (shell_of settings.now plain.new full_text.new (F.holds source.new)) (answer_as result)
-        (Importing (import_as what.now)) }
+        (shell_of settings.now plain.old (T.known full_text.old) (F.holds source.old))
+        (shell_of settings.now plain.new (T.known full_text.new) (F.holds source.new))
+        (answer_as result) (Importing (import_as what.now)) }
 {
     let Some(delimiter) = delimiter_of(what.csv, settings) else {
         return Err(Complaint::fixed("bad separator"));
@@ -50,18 +50,19 @@ pub(crate) fn import_turn<P: Alter, S: Alter, F: Source>(
 }
 
 // Records into the table of that name. The first of them has this number.
-fn records_turn<P: Alter, S: Alter>(
+fn records_turn<P: Alter, S: Alter, T: TextTables<Over = S>>(
     alloc: Global,
     plain: &mut Connection<P>,
-    full_text: &mut FullText<S>,
+    full_text: &mut T,
     what: &Import,
     first: usize,
     records: Vec<Vec<String>>,
 ) -> Answer
     requires { first + length records.items < 2 ^ 64 }
-    ensures { IntoNamed P.Store S.Store (import_as what.now) plain.old plain.new full_text.old
-        full_text.new (answer_as result) (enumerate_from first (map texts_of records.items))
-        (width_in full_text.old.tables (import_as what.now).table) }
+    ensures { IntoNamed P.Store S.Store (import_as what.now) plain.old plain.new
+        (T.known full_text.old) (T.known full_text.new) (answer_as result)
+        (enumerate_from first (map texts_of records.items))
+        (width_in (T.known full_text.old).tables (import_as what.now).table) }
 {
     match columns_named(full_text.tables(), what.table.as_str()) {
         Some(columns) => full_text_import(alloc, full_text, what, columns, first, records),
@@ -80,9 +81,9 @@ fn columns_named(tables: &[TableInfo], name: &str) -> Option<usize>
 }
 
 // Records into a full-text table with so many columns: one command.
-fn full_text_import<S: Alter>(
+fn full_text_import<S: Alter, T: TextTables<Over = S>>(
     alloc: Global,
-    full_text: &mut FullText<S>,
+    full_text: &mut T,
     what: &Import,
     columns: usize,
     first: usize,
@@ -90,8 +91,8 @@ fn full_text_import<S: Alter>(
 ) -> Answer
     requires { first + length records.items < 2 ^ 64 }
     ensures { TextImport S.Store (import_as what.now) columns
-        (enumerate_from first (map texts_of records.items)) full_text.old full_text.new
-        (answer_as result) }
+        (enumerate_from first (map texts_of records.items)) (T.known full_text.old)
+        (T.known full_text.new) (answer_as result) }
 {
     let lines = warnings(
         alloc,
@@ -106,18 +107,18 @@ fn full_text_import<S: Alter>(
 }
 
 // Records into a plain table.
-fn plain_import<P: Alter, S: Alter>(
+fn plain_import<P: Alter, S: Alter, T: TextTables<Over = S>>(
     alloc: Global,
     plain: &mut Connection<P>,
-    full_text: &mut FullText<S>,
+    full_text: &mut T,
     what: &Import,
     first: usize,
     records: &[Vec<String>],
 ) -> Answer
     requires { first + length records.now < 2 ^ 64 }
     ensures { PlainImport P.Store (import_as what.now)
-        (enumerate_from first (map texts_of records.now)) S.Store plain.old plain.new full_text.old
-        full_text.new (answer_as result) }
+        (enumerate_from first (map texts_of records.now)) S.Store plain.old plain.new
+        (T.known full_text.old) (T.known full_text.new) (answer_as result) }
 {
     let can_read = reads_table(alloc, plain, what.table.as_str())?;
     if can_read {
@@ -127,18 +128,18 @@ fn plain_import<P: Alter, S: Alter>(
 }
 
 // Records into a plain table that the first of them names the columns of.
-fn into_new_table<P: Alter, S: Alter>(
+fn into_new_table<P: Alter, S: Alter, T: TextTables<Over = S>>(
     alloc: Global,
     plain: &mut Connection<P>,
-    full_text: &mut FullText<S>,
+    full_text: &mut T,
     what: &Import,
     first: usize,
     records: &[Vec<String>],
 ) -> Answer
     requires { first + length records.now < 2 ^ 64 }
     ensures { IntoNew P.Store (import_as what.now)
-        (enumerate_from first (map texts_of records.now)) S.Store plain.old plain.new full_text.old
-        full_text.new (answer_as result) }
+        (enumerate_from first (map texts_of records.now)) S.Store plain.old plain.new
+        (T.known full_text.old) (T.known full_text.new) (answer_as result) }
 {
     let [names, rest @ ..] = records else {
         return Err(Complaint::fixed("no header record"));

@@ -6,13 +6,13 @@ ghost use Rattle.shell_io.specs.LinesRead.{HasNoEnd, Way, at_end, behind, member
 ghost use Rattle.ft_shell.specs.Ran.{moment, Ends, GoesOn, IsWithinLine, NoneWaits, Runs, TakesRead};
 ghost use Rattle.ft_shell.specs.Runs.{console_of};
 ghost use Rattle.ft_shell.specs.Promise.{IsAny, IsClean, KeptByRuns, RanAndKept};
-ghost use Rattle.ft_index.specs.Kept.{SurvivesCrash};
+ghost use Rattle.ft_calls.specs.Kept.{SurvivesCrash};
 ghost use Rattle.ft_shell.specs.Shell.{shell_with};
 ghost use Rattle.shell_io.specs.Sources.{Files};
 ghost use Rattle.shell_io.specs.Writing.{SameWriters};
 
 use crate::turns::unit_turn;
-use ft_index::FullText;
+use ft_calls::{TextTables, kept_by_calls, kept_with_causes};
 use ft_statements::split_text;
 use ram_disk::Honest;
 use shell_io::{
@@ -33,36 +33,40 @@ const CHUNK: usize = 1 << 16;
 
 /// A plain database and full-text tables, with the settings of a shell.
 #[derive(Drop)]
-pub struct Session<P: Alter, S: Alter> {
+pub struct Session<P: Alter, T: TextTables> {
     alloc: Global,
     settings: Settings,
     plain: Connection<P>,
-    full_text: FullText<S>,
+    full_text: T,
 }
 
-impl<P: Alter, S: Alter> Model for Session<P, S> {
+impl<P: Alter, T: TextTables> Model for Session<P, T> {
     ghost use Rattle.ft_shell.specs.Shell.{Parts, parts_code};
 
-    ghost Value = { Parts P S };
+    ghost Value = { Parts P T.Over };
 
-    ghost coded = { parts_code P.code S.code };
+    ghost coded = { parts_code P.code T.Over.code };
 
     ghost view = { λ s. record {
       settings = s.settings;
       plain = s.plain;
-      full_text = s.full_text;
+      full_text = T.known s.full_text;
     } };
 }
 
-impl<P: Alter, S: Alter> Session<P, S> {
+impl<P: Alter, S: Alter, T: TextTables<Over = S>> Session<P, T> {
     /// A session over plain tables and full-text tables, which begins with these settings.
     pub fn new(
         alloc: Global,
         plain: Connection<P>,
-        full_text: FullText<S>,
+        full_text: T,
         settings: Settings,
-    ) -> Session<P, S>
-        ensures { result ≡ record { settings = settings; plain = plain; full_text = full_text } }
+    ) -> Session<P, T>
+        ensures { result ≡ record {
+          settings = settings;
+          plain = plain;
+          full_text = T.known full_text;
+        } }
     {
         Session {
             alloc,
@@ -73,8 +77,9 @@ impl<P: Alter, S: Alter> Session<P, S> {
     }
 
     /// Both parts as they stand.
-    pub fn into_parts(self) -> (Connection<P>, FullText<S>)
-        ensures { result ≡ (self.plain, self.full_text) }
+    pub fn into_parts(self) -> (Connection<P>, T)
+        ensures plain { result.0 ≡ self.plain }
+        ensures full_text { T.known result.1 ≡ self.full_text }
     {
         let Session {
             plain,
@@ -109,7 +114,7 @@ impl<P: Alter, S: Alter> Session<P, S> {
             (O.contents out.new) (E.contents err.new)) }
         ensures source { (name : List ℕ) → F.holds source.new name ≡ F.holds source.old name }
     {
-        Session::<P, S>::kept_by_runs();
+        Session::<P, T>::kept_by_runs();
         self.is_settled();
         self.run_pieces(reader, source, &mut Outputs::new(out, err))
     }
@@ -121,8 +126,8 @@ impl<P: Alter, S: Alter> Session<P, S> {
     pub fn kept_by_runs()
         ensures { KeptByRuns P.Store S.Store (IsClean S.Store) }
     {
-        FullText::<S>::kept_by_calls();
-        FullText::<S>::kept_with_causes();
+        kept_by_calls::<S>();
+        kept_with_causes::<S>();
     }
 
     // The law that a crash leaves what an open store holds, and nothing else.
@@ -387,11 +392,11 @@ impl<P: Alter, S: Alter> Session<P, S> {
     }
 }
 
-impl<P: Alter, S: Honest> Session<P, S> {
+impl<P: Alter, S: Honest, T: TextTables<Over = S>> Session<P, T> {
     /// The same in memory, where the disk always returns what was written: nothing is supposed.
     pub fn kept_in_memory()
         ensures { KeptByRuns P.Store S.Store IsAny }
     {
-        Session::<P, S>::kept_by_runs();
+        Session::<P, T>::kept_by_runs();
     }
 }

@@ -13,8 +13,8 @@ ghost use Rattle.ft_statements.specs.Words.{sql_tokens};
 ghost use Rattle.ft_content.specs.Views as views;
 
 use crate::dot_turn::dot_line_turn;
+use ft_calls::TextTables;
 use ft_content::{Command, Fault};
-use ft_index::FullText;
 use ft_statements::{Class, PlainStatement, read_plain, read_statement, write_reply};
 use plain_sql::{query_turn, refusal};
 use shell_io::{Answer, Complaint, Output, Source};
@@ -23,17 +23,18 @@ use sqlite::{Alter, Connection};
 use std::alloc::Global;
 
 /// Runs a unit.
-pub(crate) fn unit_turn<P: Alter, S: Alter, F: Source>(
+pub(crate) fn unit_turn<P: Alter, S: Alter, T: TextTables<Over = S>, F: Source>(
     alloc: Global,
     settings: &mut Settings,
     plain: &mut Connection<P>,
-    full_text: &mut FullText<S>,
+    full_text: &mut T,
     source: &mut F,
     unit: &Unit,
 ) -> Answer
     ensures { Body P.Store S.Store (member_of_unit unit.now)
-        (shell_of settings.old plain.old full_text.old (F.holds source.old))
-        (shell_of settings.new plain.new full_text.new (F.holds source.new)) (answer_as result) }
+        (shell_of settings.old plain.old (T.known full_text.old) (F.holds source.old))
+        (shell_of settings.new plain.new (T.known full_text.new) (F.holds source.new))
+        (answer_as result) }
 {
     let text = unit.text.as_str();
     match unit.kind {
@@ -43,15 +44,15 @@ pub(crate) fn unit_turn<P: Alter, S: Alter, F: Source>(
 }
 
 // Runs a statement, by its class.
-fn statement_turn<P: Alter, S: Alter>(
+fn statement_turn<P: Alter, S: Alter, T: TextTables<Over = S>>(
     alloc: Global,
     settings: &Settings,
     plain: &mut Connection<P>,
-    full_text: &mut FullText<S>,
+    full_text: &mut T,
     text: &str,
 ) -> Answer
-    ensures { StatementTurn P.Store S.Store settings.now text.now plain.old plain.new full_text.old
-        full_text.new (answer_as result) }
+    ensures { StatementTurn P.Store S.Store settings.now text.now plain.old plain.new
+        (T.known full_text.old) (T.known full_text.new) (answer_as result) }
 {
     let words = sql_words(alloc, text)?;
     let words = words.as_slice();
@@ -62,14 +63,14 @@ fn statement_turn<P: Alter, S: Alter>(
 }
 
 // Executes a command, and prints its reply.
-fn full_text_turn<S: Alter>(
+fn full_text_turn<S: Alter, T: TextTables<Over = S>>(
     alloc: Global,
     settings: &Settings,
-    full_text: &mut FullText<S>,
+    full_text: &mut T,
     command: &Command,
 ) -> Answer
-    ensures { FullTextTurn S.Store settings.now (views.command_of command.now) full_text.old
-        full_text.new (answer_as result) }
+    ensures { FullTextTurn S.Store settings.now (views.command_of command.now)
+        (T.known full_text.old) (T.known full_text.new) (answer_as result) }
 {
     let reply = full_text.execute(command)?;
     let mut bytes: Vec<u8> = Vec::new(alloc);
@@ -78,13 +79,13 @@ fn full_text_turn<S: Alter>(
 }
 
 /// Notes the name of a plain table that was made, and gives the warnings of that.
-pub(crate) fn note_turn<S: Alter>(
-    full_text: &mut FullText<S>,
+pub(crate) fn note_turn<S: Alter, T: TextTables<Over = S>>(
+    full_text: &mut T,
     name: &str,
     warnings: String,
 ) -> Answer
-    ensures { NoteTurn S.Store (string_bytes warnings) name.now full_text.old full_text.new
-        (answer_as result) }
+    ensures { NoteTurn S.Store (string_bytes warnings) name.now (T.known full_text.old)
+        (T.known full_text.new) (answer_as result) }
 {
     match full_text.note(name) {
         Ok(()) => Ok(Output::Warnings(warnings)),
@@ -94,17 +95,17 @@ pub(crate) fn note_turn<S: Alter>(
 }
 
 // Runs what is no query. The name of the table that it makes is noted.
-fn command_turn<P: Alter, S: Alter>(
+fn command_turn<P: Alter, S: Alter, T: TextTables<Over = S>>(
     alloc: Global,
     plain: &mut Connection<P>,
-    full_text: &mut FullText<S>,
+    full_text: &mut T,
     text: &str,
     statement: &PlainStatement,
 ) -> Answer
     requires { statement.now.seeks ≡ seeks (sql_tokens text.now) }
     ensures { CommandTurn P.Store S.Store text.now
-        (option_map string_bytes statement.now.made) plain.old plain.new full_text.old
-        full_text.new (answer_as result) }
+        (option_map string_bytes statement.now.made) plain.old plain.new (T.known full_text.old)
+        (T.known full_text.new) (answer_as result) }
 {
     match plain.execute(text, &[]) {
         Ok(_) => match &statement.made {
@@ -116,18 +117,18 @@ fn command_turn<P: Alter, S: Alter>(
 }
 
 // Runs a statement of plain SQL. The words are those of the text.
-fn plain_turn<P: Alter, S: Alter>(
+fn plain_turn<P: Alter, S: Alter, T: TextTables<Over = S>>(
     alloc: Global,
     settings: &Settings,
     plain: &mut Connection<P>,
-    full_text: &mut FullText<S>,
+    full_text: &mut T,
     text: &str,
     words: &[SqlWord],
 ) -> Answer
     requires { words.now ≡ words_of text.now }
     ensures { OrNothing (PlainTurn P.Store S.Store settings.now text.now plain.old plain.new
-        full_text.old full_text.new (answer_as result)) plain.old plain.new full_text.old
-        full_text.new (answer_as result) }
+        (T.known full_text.old) (T.known full_text.new) (answer_as result)) plain.old plain.new
+        (T.known full_text.old) (T.known full_text.new) (answer_as result) }
 {
     let statement = read_plain(alloc, text, words)?;
     if statement.asks {

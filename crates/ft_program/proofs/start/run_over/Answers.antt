@@ -12,4 +12,4 @@ returns-clause-runs g c =
     inr (runs_over g.P.Store g.S.Store (λ parts. AreHeldIn g.P.Store g.S.Store parts c.into_parts-plain.result.0 c.into_store.result) c.args.work.settings c.args.plain c.args.store c.in-Ok.full_text _ c.run_all-ended.result _ _ c.new-session.result
     (record { parts = c.run_all-ended.new.session; on = record { out = g.O.Write.contents c.run_all-ended.new.outputs.out.now; err = g.E.Write.contents c.run_all-ended.new.outputs.err.now } })
     c.status_of-status.result c.in-Ok.ensures.opened c.is_settled.ensures c.new-session.ensures c.run_all-ended.ensures.runs
-    (record { plain_is = ap (λ p. p.0) c.into_parts-plain.ensures; store_is = c.into_store.ensures ∙ ap (λ p. p.1.store) c.into_parts-plain.ensures }) refl c.status_of-status.ensures)
+    (record { plain_is = c.into_parts-plain.ensures.plain; store_is = c.into_store.ensures ∙ ap (λ k. k.store) c.into_parts-plain.ensures.full_text }) refl c.status_of-status.ensures)

@@ -16,8 +16,8 @@ returns-in_err-execute g c =
     let is : answer ≡ blames (fault_text fault) = search rules in
     let command : command_of c.in_ok-command.command ≡ Insert (string_bytes c.args.what.now.table) None (map (row_cells c.args.columns) (records_in rows)) =
     c.in_ok-command.ensures ∙ (λ j. Insert (c.as_str-2.ensures.value j) None (map (row_cells c.args.columns) (sym (records_numbered c.args.first (map texts_of c.args.records.items)) j))) in
-    executed (subst (λ k. InsertTurn g.S.Store k (warnings (string_bytes c.args.what.now.file) c.args.columns rows) c.args.full_text.now c.execute.new.self answer) command
-    (record { answer = Err fault; does = (c.in_err-execute.ensures.executes, c.in_err-execute.ensures.leaves, c.in_err-execute.ensures.refused); tells = is }))
+    executed (subst (λ k. InsertTurn g.S.Store k (warnings (string_bytes c.args.what.now.file) c.args.columns rows) (g.T.TextTables.known c.args.full_text.now) (g.T.TextTables.known c.execute.new.self) answer) command
+    (record { answer = Err fault; does = c.in_err-execute.ensures; tells = is }))
 
 pub returns : goal.returns
 returns g c =
@@ -27,6 +27,6 @@ returns g c =
     let lines : string_bytes c.in_ok-lines.lines ≡ warnings (string_bytes c.args.what.now.file) c.args.columns rows =
     c.in_ok-lines.ensures ∙ (λ j. warnings (c.as_str.ensures.value j) c.args.columns (enumerate_from c.args.first (map texts_of (c.as_slice.ensures.value j)))) in
     let answer = warned (string_bytes c.in_ok-lines.lines) in
-    executed (subst (λ l. InsertTurn g.S.Store (Insert (string_bytes c.args.what.now.table) None (map (row_cells c.args.columns) (records_in rows))) l c.args.full_text.now c.execute.new.self answer) lines
-    (subst (λ k. InsertTurn g.S.Store k (string_bytes c.in_ok-lines.lines) c.args.full_text.now c.execute.new.self answer) command
-    (record { answer = Ok (reply_of c.in_ok-execute.field-0); does = (c.in_ok-execute.ensures.executes, c.in_ok-execute.ensures.leaves, c.in_ok-execute.ensures.refused); tells = refl })))
+    executed (subst (λ l. InsertTurn g.S.Store (Insert (string_bytes c.args.what.now.table) None (map (row_cells c.args.columns) (records_in rows))) l (g.T.TextTables.known c.args.full_text.now) (g.T.TextTables.known c.execute.new.self) answer) lines
+    (subst (λ k. InsertTurn g.S.Store k (string_bytes c.in_ok-lines.lines) (g.T.TextTables.known c.args.full_text.now) (g.T.TextTables.known c.execute.new.self) answer) command
+    (record { answer = Ok (reply_of c.in_ok-execute.field-0); does = c.in_ok-execute.ensures; tells = refl })))

@@ -15,7 +15,7 @@ returns-in_err-bytes g c =
     let fault = c.in_err-bytes.field-0.0 in
     let is : answer_as c.from_residual.result ≡ blames (fetch_words fault) = search rules in (
       (refl, λ i name. c.fetch.ensures.same name i),
-      subst (DelimitedTurn g.P.Store g.S.Store (import_as c.args.what.now) c.args.plain.now c.args.plain.now c.args.full_text.now c.args.full_text.now (answer_as c.from_residual.result) (g.F.Source.holds c.args.source.now)) c.in-Some.ensures
+      subst (DelimitedTurn g.P.Store g.S.Store (import_as c.args.what.now) c.args.plain.now c.args.plain.now (g.T.TextTables.known c.args.full_text.now) (g.T.TextTables.known c.args.full_text.now) (answer_as c.from_residual.result) (g.F.Source.holds c.args.source.now)) c.in-Some.ensures
           (unfetched fault (subst (λ n. Refuses (g.F.Source.holds c.args.source.now) n fault) c.as_str.ensures.value c.in_err-bytes.ensures.refused) (refl, refl, is)),
     )
 
@@ -25,10 +25,10 @@ returns-in_err-records g c =
     let answer = answer_as c.from_residual-in_err-records.result in
     let is : answer ≡ blames (record_words fault) = search rules in (
       (refl, λ i name. c.fetch.ensures.same name i),
-      subst (DelimitedTurn g.P.Store g.S.Store (import_as c.args.what.now) c.args.plain.now c.args.plain.now c.args.full_text.now c.args.full_text.now answer (g.F.Source.holds c.args.source.now)) c.in-Some.ensures
+      subst (DelimitedTurn g.P.Store g.S.Store (import_as c.args.what.now) c.args.plain.now c.args.plain.now (g.T.TextTables.known c.args.full_text.now) (g.T.TextTables.known c.args.full_text.now) answer (g.F.Source.holds c.args.source.now)) c.in-Some.ensures
           (fetched c.in_ok-bytes.bytes.items (subst (λ n. GivesFile (g.F.Source.holds c.args.source.now) n c.in_ok-bytes.bytes.items) c.as_str.ensures.value c.in_ok-bytes.ensures.bytes)
-          (subst (λ b. BytesTurn g.P.Store g.S.Store (import_as c.args.what.now) c.args.plain.now c.args.plain.now c.args.full_text.now c.args.full_text.now answer c.in-Some.delimiter b) c.as_slice.ensures.value
-          (records_refused g.P.Store g.S.Store (import_as c.args.what.now) c.args.plain.now c.args.full_text.now answer c.in-Some.delimiter c.as_slice.result.now fault c.in_err-records.ensures.bad is))),
+          (subst (λ b. BytesTurn g.P.Store g.S.Store (import_as c.args.what.now) c.args.plain.now c.args.plain.now (g.T.TextTables.known c.args.full_text.now) (g.T.TextTables.known c.args.full_text.now) answer c.in-Some.delimiter b) c.as_slice.ensures.value
+          (records_refused g.P.Store g.S.Store (import_as c.args.what.now) c.args.plain.now (g.T.TextTables.known c.args.full_text.now) answer c.in-Some.delimiter c.as_slice.result.now fault c.in_err-records.ensures.bad is))),
     )
 
 pub returns-in_err-left : goal.returns-in_err-left
@@ -36,9 +36,9 @@ returns-in_err-left g c =
     let answer = answer_as c.from_residual-in_err-left.result in
     let is : answer ≡ lacks_memory = search rules in (
       (refl, λ i name. c.fetch.ensures.same name i),
-      subst (DelimitedTurn g.P.Store g.S.Store (import_as c.args.what.now) c.args.plain.now c.args.plain.now c.args.full_text.now c.args.full_text.now answer (g.F.Source.holds c.args.source.now)) c.in-Some.ensures
+      subst (DelimitedTurn g.P.Store g.S.Store (import_as c.args.what.now) c.args.plain.now c.args.plain.now (g.T.TextTables.known c.args.full_text.now) (g.T.TextTables.known c.args.full_text.now) answer (g.F.Source.holds c.args.source.now)) c.in-Some.ensures
           (fetched c.in_ok-bytes.bytes.items (subst (λ n. GivesFile (g.F.Source.holds c.args.source.now) n c.in_ok-bytes.bytes.items) c.as_str.ensures.value c.in_ok-bytes.ensures.bytes)
-          (subst (λ b. BytesTurn g.P.Store g.S.Store (import_as c.args.what.now) c.args.plain.now c.args.plain.now c.args.full_text.now c.args.full_text.now answer c.in-Some.delimiter b) c.as_slice.ensures.value
+          (subst (λ b. BytesTurn g.P.Store g.S.Store (import_as c.args.what.now) c.args.plain.now c.args.plain.now (g.T.TextTables.known c.args.full_text.now) (g.T.TextTables.known c.args.full_text.now) answer c.in-Some.delimiter b) c.as_slice.ensures.value
           (read (map texts_of c.in_ok-records.records.items) c.in_ok-records.ensures.records (inr (refl, refl, is))))),
     )
 
@@ -51,9 +51,9 @@ returns g c =
     let rows : enumerate_from (c.skipped-skip.result + 1) (map texts_of c.in_ok-left.left.items) ≡ kept c.args.what.now.skip found =
     left_rows c.args.what.now.skip c.skipped-skip.result c.in_ok-records.records.items c.in_ok-left.left.items (c.skipped-skip.ensures ∙ ap (min (unwrap_or c.args.what.now.skip 0)) count) c.in_ok-left.ensures in (
       (refl, λ i name. c.fetch.ensures.same name i),
-      subst (DelimitedTurn g.P.Store g.S.Store what c.args.plain.now c.records_turn.new.plain c.args.full_text.now c.records_turn.new.full_text answer (g.F.Source.holds c.args.source.now)) c.in-Some.ensures
+      subst (DelimitedTurn g.P.Store g.S.Store what c.args.plain.now c.records_turn.new.plain (g.T.TextTables.known c.args.full_text.now) (g.T.TextTables.known c.records_turn.new.full_text) answer (g.F.Source.holds c.args.source.now)) c.in-Some.ensures
           (fetched c.in_ok-bytes.bytes.items (subst (λ n. GivesFile (g.F.Source.holds c.args.source.now) n c.in_ok-bytes.bytes.items) c.as_str.ensures.value c.in_ok-bytes.ensures.bytes)
-          (subst (λ b. BytesTurn g.P.Store g.S.Store what c.args.plain.now c.records_turn.new.plain c.args.full_text.now c.records_turn.new.full_text answer c.in-Some.delimiter b) c.as_slice.ensures.value
+          (subst (λ b. BytesTurn g.P.Store g.S.Store what c.args.plain.now c.records_turn.new.plain (g.T.TextTables.known c.args.full_text.now) (g.T.TextTables.known c.records_turn.new.full_text) answer c.in-Some.delimiter b) c.as_slice.ensures.value
           (read found c.in_ok-records.ensures.records
-          (inl (subst (λ rows. IntoNamed g.P.Store g.S.Store what c.args.plain.now c.records_turn.new.plain c.args.full_text.now c.records_turn.new.full_text answer rows (width_in c.args.full_text.now.tables what.table)) rows c.records_turn.ensures))))),
+          (inl (subst (λ rows. IntoNamed g.P.Store g.S.Store what c.args.plain.now c.records_turn.new.plain (g.T.TextTables.known c.args.full_text.now) (g.T.TextTables.known c.records_turn.new.full_text) answer rows (width_in (g.T.TextTables.known c.args.full_text.now).tables what.table)) rows c.records_turn.ensures))))),
     )

@@ -34,7 +34,7 @@ returns-in_err-import_records g c =
     let answer = answer_as c.from_residual-in_err-import_records.result in
     let is : answer ≡ blames (fault_words fault) = search rules in
     making_refused g.P.Store (import_as c.args.what.now) (enumerate_from c.args.first (map texts_of c.args.records.now)) {T = Unit {0}} g.S.Store fault (c.args.first, names) rest
-    c.args.plain.now c.import_records.new.plain c.args.full_text.now answer (split_rows c.args.first c.args.records.now c.names-item.result names c.in-len1-up.len_at_least (ap texts_of c.names-item.is)) narrow c.in_err-import_records.ensures.kept
+    c.args.plain.now c.import_records.new.plain (g.T.TextTables.known c.args.full_text.now) answer (split_rows c.args.first c.args.records.now c.names-item.result names c.in-len1-up.len_at_least (ap texts_of c.names-item.is)) narrow c.in_err-import_records.ensures.kept
     (λ refused. subst (λ s. Declines g.P.Store s c.args.plain.now c.import_records.new.plain)
     (λ j. import_steps (Some (map string_bytes (c.as_slice.ensures.value j))) (c.as_str-table.ensures.value j) (count j) (sym (records_numbered (c.args.first + 1) found) j))
     (c.in_err-import_records.ensures.declined refused)) is
@@ -53,5 +53,5 @@ returns g c =
     (subst (λ s. CommitsAll g.P.Store s c.args.plain.now c.import_records.new.plain)
     (λ j. import_steps (Some (map string_bytes (c.as_slice.ensures.value j))) (c.as_str-table.ensures.value j) (count j) (sym (records_numbered (c.args.first + 1) found) j))
     c.in_ok-import_records.ensures.done)
-    (subst (λ l. NoteTurn g.S.Store l (string_bytes c.args.what.now.table) c.args.full_text.now c.note_turn.new.full_text answer) lines
-    (subst (λ t. NoteTurn g.S.Store (string_bytes c.in_ok-lines.lines) t c.args.full_text.now c.note_turn.new.full_text answer) c.as_str-table.ensures.value c.note_turn.ensures))
+    (subst (λ l. NoteTurn g.S.Store l (string_bytes c.args.what.now.table) (g.T.TextTables.known c.args.full_text.now) (g.T.TextTables.known c.note_turn.new.full_text) answer) lines
+    (subst (λ t. NoteTurn g.S.Store (string_bytes c.in_ok-lines.lines) t (g.T.TextTables.known c.args.full_text.now) (g.T.TextTables.known c.note_turn.new.full_text) answer) c.as_str-table.ensures.value c.note_turn.ensures))

@@ -2,10 +2,10 @@
 use Rattle.std.proofs.Common.{◌≡◌, inl, inr, Err, Result, map, rules, sym, subst, is_ok}
 use Rattle.ft_index.proofs.Common.{fault_of_read, Fault, Reply, shown_info, command_of, answer_of, FullText, Executes, AreHeld, with_tables}
 use Rattle.ft_index.proofs.Common.{CountsRows, Database, shows}
-use Rattle.ft_index.specs.Kept.{CommitsCommand, Leaves}
+use Rattle.ft_calls.specs.Kept.{CommitsCommand, Leaves}
 use Rattle.ft_index.proofs.Doing.{looks_up, store_answer, store_blamed, then_either, pinged, counts_nothing, counts_then, does_nothing, does_then, outside_of, ok_then}
 use Rattle.ft_store.specs.Rows.{value_of as rows_of}
-use Rattle.ft_index.specs.Refused.{CantDo}
+use Rattle.ft_calls.specs.Causes.{CantDo}
 use Rattle.ft_index.proofs.full_text.FullText.execute.Goals as goal
 
 pub returns-in-Err : goal.returns-in-Err

@@ -1,9 +1,9 @@
 -- a note changes no table
 use Rattle.std.proofs.Common.{map, refl, subst, sym, is_ok}
 use Rattle.ft_index.proofs.Common.{survives_weaker, shown_info, FullText, with_tables, shows}
-use Rattle.ft_index.specs.Kept.{Notes}
-use Rattle.ft_index.specs.Kept.{CommitsNote, Leaves}
-use Rattle.ft_index.proofs.Calls.{note_holds}
+use Rattle.ft_calls.specs.Kept.{Notes}
+use Rattle.ft_calls.specs.Kept.{CommitsNote, Leaves}
+use Rattle.ft_calls.proofs.{note_holds}
 use Rattle.ft_index.proofs.Doing.{ok_then}
 use Rattle.ft_index.proofs.full_text.FullText.note.Goals as goal
 

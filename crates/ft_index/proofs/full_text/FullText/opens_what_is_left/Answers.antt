@@ -1,6 +1,6 @@
 -- by the marks of an opening
 use Rattle.std.proofs.Common.{sym, subst}
-use Rattle.ft_index.specs.Kept.{StoreHolds}
+use Rattle.ft_calls.specs.Kept.{StoreHolds}
 use Rattle.ft_index.proofs.full_text.FullText.opens_what_is_left.Goals as goal
 
 pub returns : goal.returns

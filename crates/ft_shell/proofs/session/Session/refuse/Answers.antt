@@ -17,7 +17,7 @@ returns-in_default-clause-runs g c = λ holds.
 
 pub returns-clause-runs : goal.returns-clause-runs
 returns-clause-runs g c = λ holds.
-    let parts : Parts g.row.P.Denot g.row.S.Denot = record { settings = c.self.inside.settings; plain = c.self.inside.plain; full_text = c.self.inside.full_text } in
+    let parts : Parts g.row.P.Denot g.row.S.Denot = record { settings = c.self.inside.settings; plain = c.self.inside.plain; full_text = g.T.TextTables.known c.self.inside.full_text } in
     let old : Shell g.row.P.Denot g.row.S.Denot = shell_with parts holds in
     let line = c.in-Some.refusal.line in
     let fault = c.in-Some.refusal.fault in

@@ -16,7 +16,7 @@ returns-in_err-echo_text-clause-runs g c =
     let e = g.E.Write.contents c.args.outputs.now.err.now in
     let text = string_bytes c.args.unit.now.text in
     let held = g.F.Source.holds c.args.source.now in
-    let old : Shell g.row.P.Denot g.row.S.Denot = record { settings = c.self.inside.settings; plain = c.self.inside.plain; full_text = c.self.inside.full_text; holds = held } in
+    let old : Shell g.row.P.Denot g.row.S.Denot = record { settings = c.self.inside.settings; plain = c.self.inside.plain; full_text = g.T.TextTables.known c.self.inside.full_text; holds = held } in
     let unit = member_of_unit c.args.unit.now in
     let is : c.from_residual.result ≡ Err c.in_err-echo_text.field-0.0 = search rules in
     let spoken : AppendsUpTo a b (echo_text c.echo.result text) = subst (λ t. AppendsUpTo a b (echo_text c.echo.result t)) c.as_str.ensures.value c.in_err-echo_text.ensures.out in
@@ -35,8 +35,8 @@ returns-clause-runs g c =
     let f = g.E.Write.contents c.tell.new.outputs.err.now in
     let text = string_bytes c.args.unit.now.text in
     let held = g.F.Source.holds c.args.source.now in
-    let old : Shell g.row.P.Denot g.row.S.Denot = record { settings = c.self.inside.settings; plain = c.self.inside.plain; full_text = c.self.inside.full_text; holds = held } in
-    let new : Shell g.row.P.Denot g.row.S.Denot = record { settings = c.unit_turn-answer.new.settings; plain = c.unit_turn-answer.new.plain; full_text = c.unit_turn-answer.new.full_text; holds = g.F.Source.holds c.unit_turn-answer.new.source } in
+    let old : Shell g.row.P.Denot g.row.S.Denot = record { settings = c.self.inside.settings; plain = c.self.inside.plain; full_text = g.T.TextTables.known c.self.inside.full_text; holds = held } in
+    let new : Shell g.row.P.Denot g.row.S.Denot = record { settings = c.unit_turn-answer.new.settings; plain = c.unit_turn-answer.new.plain; full_text = g.T.TextTables.known c.unit_turn-answer.new.full_text; holds = g.F.Source.holds c.unit_turn-answer.new.source } in
     let body = answer_as c.unit_turn-answer.result in
     let told = outcome_of c.bail-bail.result c.args.unit.now.line body in
     let calls = calls_in g.P.Store g.S.Store (member_of_unit c.args.unit.now) old new body c.unit_turn-answer.ensures in

@@ -1,11 +1,16 @@
 -- No two tables get one name, and none gets unsound.
 use Rattle.std.proofs.Common.{◌≡◌, ℕ, Bool, true, false, cond, not, ◌||◌, List, [], ◌∷◌, Some, ℤ, pos, refl, sym, ap, ◌∙◌, filter, is_some, Less, Equal, Greater, int_cmp, int_eq}
-use Rattle.ft_index.proofs.Common.{or_parts, list_any, nat_list_eq_equiv, by_order, put, same_name, repeats_name, Command, Create, Drop, Insert}
-use Rattle.ft_index.proofs.Common.{Update, Delete, Rebuild, TableState, Table, Contents, table_named, made_columns, free_id_from, new_table, inserted}
-use Rattle.ft_index.proofs.Common.{updated, deleted, with_documents, rebuilt, on_table, after, table_names, left_by, Content, Documents, Sound}
-use Rattle.ft_index.proofs.Common.{is_sound}
+use Rattle.std.proofs.lemmas.Bool.{or_parts}
+use Rattle.std.specs.List.{list_any}
+use Rattle.std.specs.Cmp.Lexicographic.{nat_list_eq_equiv}
+use Rattle.std.specs.FinMap.Entries.{by_order, put}
+use Rattle.ft_content.specs.Content.{same_name, repeats_name, Content, Documents}
+use Rattle.ft_content.specs.Command.{Command, Create, Drop, Insert, Update, Delete, Rebuild}
+use Rattle.ft_content.specs.Step.{TableState, Table, Contents, table_named, made_columns, free_id_from, new_table, inserted, updated, deleted, with_documents, rebuilt, on_table, after, Sound}
+use Rattle.ft_content.specs.Views.{table_names}
+use Rattle.ft_calls.specs.Kept.{left_by, is_sound}
 use Rattle.std.specs.Str.{str_to_ascii_lowercase}
-use Rattle.ft_index.specs.Kept.{NamesStayApart, is_unsound, NoneGetsUnsound}
+use Rattle.ft_calls.specs.Kept.{NamesStayApart, is_unsound, NoneGetsUnsound}
 
 no_or : (a b : Bool) → a ≡ false → b ≡ false → (a || b) ≡ false
 no_or true b h g = absurd (let no = h in cc)

@@ -1,7 +1,7 @@
 -- by induction over the calls, and over the commands
-use Rattle.ft_index.proofs.Calls.{kept}
-use Rattle.ft_index.proofs.NameLemmas.{none_gets_unsound, names_stay_apart}
-use Rattle.ft_index.proofs.full_text.FullText.kept_by_calls.Goals as goal
+use Rattle.ft_calls.proofs.Calls.{kept}
+use Rattle.ft_calls.proofs.NameLemmas.{none_gets_unsound, names_stay_apart}
+use Rattle.ft_calls.proofs.laws.kept_by_calls.Goals as goal
 
 pub returns-clause-kept : goal.returns-clause-kept
 returns-clause-kept c d = kept _

@@ -1,0 +1,3 @@
+-- Meaning
+pub mod Kept
+pub mod Causes
