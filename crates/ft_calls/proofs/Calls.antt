@@ -2,7 +2,7 @@
 use Rattle.std.proofs.Common.{◌≡◌, ℕ, Bool, true, false, cond, List, [], ◌∷◌, ◌++◌, ◌||◌, Option, Some, None, Result, Ok, Err, refl, ◌⊎◌, sym, ap, ap₂, subst, subst₂, ◌∙◌, inl, inr, append_assoc, arith, IsTrue, is_ok}
 use Rattle.std.specs.List.{list_any}
 use Rattle.ft_values.specs.declared.fault.Fault.{Fault}
-use Rattle.ft_content.specs.Command.{Command}
+use Rattle.ft_commands.specs.Command.{Command}
 use Rattle.ft_content.specs.Step.{Contents, deserved, step, step_by, after}
 use Rattle.sqlite.specs.State.{HasCleanDisk}
 use Rattle.sqlite.specs.Store.{Ghosts}
@@ -10,7 +10,7 @@ use Rattle.sqlite.specs.Tree.{Trees}
 use Rattle.ft_rows.specs.Store.{StoreValue, applied, Note}
 use Rattle.ft_store.specs.Kept.{shows}
 use Rattle.ft_calls.specs.Kept.{StoreHolds, FullText, IsUp, store_value, Holds, Answers, is_outside, SurvivesCrash, left_by}
-use Rattle.ft_content.specs.Command.{Reply}
+use Rattle.ft_commands.specs.Command.{Reply}
 use Rattle.ft_calls.specs.Causes.{DoesForCause}
 use Rattle.ft_calls.specs.Kept.{HoldsLeft, Name, Call, Executed, Looked, Noted, DoesCall, Runs, is_answered, accepted, with_name, noted_by, contents_with, names_with, AreAnswered, StandsAfter, LeftAfter, at_rest, running, KeptByCalls}
 

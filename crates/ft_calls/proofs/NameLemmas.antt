@@ -5,7 +5,7 @@ use Rattle.std.specs.List.{list_any}
 use Rattle.std.specs.Cmp.Lexicographic.{nat_list_eq_equiv}
 use Rattle.std.specs.FinMap.Entries.{by_order, put}
 use Rattle.ft_content.specs.Content.{same_name, repeats_name, Content, Documents}
-use Rattle.ft_content.specs.Command.{Command, Create, Drop, Insert, Update, Delete, Rebuild}
+use Rattle.ft_commands.specs.Command.{Command, Create, Drop, Insert, Update, Delete, Rebuild}
 use Rattle.ft_content.specs.Step.{TableState, Table, Contents, table_named, made_columns, free_id_from, new_table, inserted, updated, deleted, with_documents, rebuilt, on_table, after, Sound}
 use Rattle.ft_content.specs.Views.{table_names}
 use Rattle.ft_calls.specs.Kept.{left_by, is_sound}

@@ -11,7 +11,7 @@ use Rattle.ft_store.specs.Parts.{CanMake}
 use Rattle.ft_store.specs.Puts.{CantPutAll}
 use Rattle.ft_values.specs.declared.fault.Fault.{Fault}
 use Rattle.ft_values.specs.declared.fault.Fault.TheVariants as faults
-use Rattle.ft_content.specs.Command.{Command, Reply}
+use Rattle.ft_commands.specs.Command.{Command, Reply}
 use Rattle.ft_content.specs.Content.{Content}
 use Rattle.ft_content.specs.Step.{Contents}
 use Rattle.ft_documents.specs.Rewrite.{Rewrite, AreOf}

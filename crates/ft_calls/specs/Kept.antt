@@ -19,7 +19,7 @@ use Rattle.ft_values.specs.declared.fault.Fault.{Fault}
 use Rattle.ft_values.specs.declared.fault.Fault.TheVariants as faults
 use Rattle.ft_content.specs.Content.{Column, Content, TableRows, IsContent, content_rows, repeats_name}
 use Rattle.ft_content.specs.Index.{IndexRows, index_rows}
-use Rattle.ft_content.specs.Command.{Command, Drop, Insert, Update, Delete, Select, Check, Optimize, Reply}
+use Rattle.ft_commands.specs.Command.{Command, Drop, Insert, Update, Delete, Select, Check, Optimize, Reply}
 use Rattle.ft_content.specs.Views.{TableInfo, table_names}
 use Rattle.ft_content.specs.Step.{TableState, Sound, Stale, Loose, Table, Contents, held_content, table_named, deserved, step, after, touched}
 use Rattle.ft_documents.specs.Tables.{table_rows, table_index, IsOfDocids}

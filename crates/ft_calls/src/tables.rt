@@ -1,7 +1,8 @@
 //! Full-text tables as a session calls them.
 ghost use Rattle.std.specs.Prelude.{◌≡◌, ◌⊎◌, map, string_bytes, is_ok, IfOk, IfErr};
 ghost use Rattle.ft_values.specs.declared.fault.Fault.TheVariants as faults;
-ghost use Rattle.ft_content.specs.Views.{shown_info, command_of, answer_of};
+ghost use Rattle.ft_content.specs.Views.{shown_info};
+ghost use Rattle.ft_commands.specs.Views.{command_of, answer_of};
 ghost use Rattle.ft_calls.specs.Kept.{FullText, IsUp, SurvivesCrash, store_value};
 ghost use Rattle.ft_calls.specs.Kept.{Executed, Looked, Noted};
 ghost use Rattle.ft_calls.specs.Causes.{DoesForCause};

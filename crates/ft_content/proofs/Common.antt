@@ -23,11 +23,12 @@ pub use Rattle.ft_query.specs.Reads.{query_of}
 pub use Rattle.ft_query.specs.Trees.{Tree, tree_of}
 pub use Rattle.ft_values.specs.Cells.{Cell, Null, Int, Text, shown_value}
 pub use Rattle.ft_content.specs.Answer.{cells_with, item_cells, offsets_cell, cut, reading, chosen, answer, is_chosen, column_place}
-pub use Rattle.ft_content.specs.Command.{Item, AllColumns, Named, OffsetsOf, Filter, All, Docid, Match, Counted, Listed, Command, Create, Drop, Insert, Update, Delete, Select, Rebuild, Check, Optimize, Reply, Done, Rows}
+pub use Rattle.ft_commands.specs.Command.{Item, AllColumns, Named, OffsetsOf, Filter, All, Docid, Match, Counted, Listed, Command, Create, Drop, Insert, Update, Delete, Select, Rebuild, Check, Optimize, Reply, Done, Rows}
 pub use Rattle.ft_content.specs.Content.{Content, names_of, Documents, same_name, is_name, names_clash, is_too_long, has_nul, is_cell, is_document, is_docid, repeats_name, CellRow, skipped_from, document_rows, with_cell, gathered, content_in, RowsAreRead, ContentsAreOne}
 pub use Rattle.ft_content.specs.Step.{is_offsets, TableState, Sound, Stale, Loose, Contents, inserted_rows, deserved, listed_columns, docids_named, value_under, with_values, new_cells, next_docid, append_document, insert_row, then_rows, has_docid, docid_of_value, move_fault, moves_fault, Table, table_named, is_tokenize, is_notindexed, made_columns, is_text, has_column, reading_fault, item_unknown, items_in, names_unknown, is_null}
 pub use Rattle.ft_content.specs.Index.{EntryRow, SizeRow, entries, spot_lists, sizes, index_rows, entry_rows, Spot, Entry, Key, key_cmp, key_of, spots_at, document_postings, entry_at, document_entries, indexed_text, document_tokens, SpotLists}
 pub use Rattle.ft_content.specs.Laws.{RowsAreCutFirst, InsertKeepsContent, UpdateKeepsContent, DeleteKeepsContent, CreateMakesContent, entries_of_docid, spots_of_key, some_if_any, ListsAreEntries, DocidIsTaken, content_with, document_lists}
 pub use Rattle.ft_content.specs.Small.{HasLowercase}
 pub use Rattle.ft_content.specs.Step.{after, reply_to, step, without_docid, made_column, moved, free_id_from, docids_of}
-pub use Rattle.ft_content.specs.Views.{column_of, last_docid, table_names, table_ids, info_names, info_ids, option_of, placed, bare_content, cells_of, item_of, names_in, filter_of, items_of, set_of}
+pub use Rattle.ft_content.specs.Views.{column_of, last_docid, table_names, table_ids, info_names, info_ids, placed, bare_content}
+pub use Rattle.ft_commands.specs.Views.{option_of, cells_of, item_of, texts_of, filter_of, items_of, set_of}

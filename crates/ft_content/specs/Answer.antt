@@ -11,7 +11,7 @@ use Rattle.ft_query.specs.Reads.{query_of}
 use Rattle.ft_query.specs.Occurs.{accepts, offsets_of, offsets_text}
 use Rattle.ft_content.specs.Content.{Cell, Null, Int, Text, Documents, Content, same_name, is_docid, names_of}
 use Rattle.ft_content.specs.Index.{document_postings}
-use Rattle.ft_content.specs.Command.{Filter, All, Docid, Match, Item, AllColumns, Named, OffsetsOf, Items, Counted, Listed, Grid}
+use Rattle.ft_commands.specs.Command.{Filter, All, Docid, Match, Item, AllColumns, Named, OffsetsOf, Items, Counted, Listed, Grid}
 
 -- the column with this name. A MATCH name that is no column is the table, and stands for every column ("Simple FTS Queries")
 abbrev pub column_place : Content → List ℕ → Option ℕ

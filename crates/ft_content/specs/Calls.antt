@@ -9,7 +9,7 @@ use Rattle.ft_values.specs.declared.fault.Fault.{Fault}
 use Rattle.ft_values.specs.declared.fault.Fault.TheVariants as faults
 use Rattle.ft_values.specs.Cells.{Cell, Text}
 use Rattle.ft_content.specs.Content.{Content}
-use Rattle.ft_content.specs.Command.{Match, Item}
+use Rattle.ft_commands.specs.Command.{Match, Item}
 use Rattle.ft_content.specs.Answer.{reading, offsets_cell, cells_with, item_cells}
 use Rattle.ft_content.specs.Step.{Contents, is_offsets, query_fault}
 use Rattle.ft_content.specs.Step.{free_id_from}

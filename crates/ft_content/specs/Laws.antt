@@ -4,7 +4,7 @@ use Rattle.std.specs.Ordering.{int_cmp, int_eq, eq_by_cmp}
 use Rattle.std.specs.FinMap.Entries.{put, find}
 use Rattle.ft_values.specs.Cells.{Cell}
 use Rattle.ft_content.specs.Content.{Column, Documents, Content, IsContent}
-use Rattle.ft_content.specs.Command.{Filter}
+use Rattle.ft_commands.specs.Command.{Filter}
 use Rattle.ft_content.specs.Step.{Contents, has_docid, listed_columns, create_fault, insert_fault, update_fault}
 use Rattle.ft_content.specs.Answer.{cut}
 use Rattle.ft_content.specs.Index.{Spot, Entry, Key, key_cmp, key_of, SpotLists, spot_lists, document_entries}

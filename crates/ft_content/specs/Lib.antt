@@ -1,7 +1,6 @@
 -- Meaning
 pub mod Content
 pub mod Index
-pub mod Command
 pub mod Views
 pub mod Answer
 pub mod Step

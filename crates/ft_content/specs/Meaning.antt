@@ -11,7 +11,7 @@ use Rattle.ft_query.specs.Occurs.{PlainHit, hits_of, offsets_of}
 use Rattle.ft_values.specs.Cells.{Cell}
 use Rattle.ft_content.specs.Content.{Content, IsContent}
 use Rattle.ft_content.specs.Index.{document_tokens, document_postings, Spot, Entry, Key, index_rows}
-use Rattle.ft_content.specs.Command.{Match}
+use Rattle.ft_commands.specs.Command.{Match}
 use Rattle.ft_content.specs.Answer.{reading, chosen}
 
 -- the documents of a content, each with the tokens of its columns

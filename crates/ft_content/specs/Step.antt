@@ -13,8 +13,8 @@ use Rattle.ft_query.specs.declared.query.QueryFault.{QueryFault}
 use Rattle.ft_query.specs.declared.query.QueryFault.TheVariants.{Malformed, TooLarge, Memory}
 use Rattle.ft_content.specs.Content.{Cell, Null, Int, Text, Column, Documents, Content, TableRows, same_name, is_docid, is_name, names_of}
 use Rattle.ft_content.specs.Content.{repeats_name, names_clash, is_too_long, has_nul, content_in}
-use Rattle.ft_content.specs.Command.{Filter, Match, Item, AllColumns, Named, OffsetsOf, Items, Counted, Listed, Reply, Done, Rows}
-use Rattle.ft_content.specs.Command.{Command, Create, Drop, Insert, Update, Delete, Select, Rebuild, Check, Optimize}
+use Rattle.ft_commands.specs.Command.{Filter, Match, Item, AllColumns, Named, OffsetsOf, Items, Counted, Listed, Reply, Done, Rows}
+use Rattle.ft_commands.specs.Command.{Command, Create, Drop, Insert, Update, Delete, Select, Rebuild, Check, Optimize}
 use Rattle.ft_content.specs.Answer.{Tree, reading, is_chosen, chosen, answer}
 
 -- ---- tables

@@ -4,10 +4,11 @@ ghost use Rattle.std.specs.List.{list_any};
 ghost use Rattle.ft_content.specs.Content as content;
 ghost use Rattle.ft_content.specs.Answer as answer;
 ghost use Rattle.ft_content.specs.Step as step;
-ghost use Rattle.ft_content.specs.Views.{bare_content, column_of, filter_of};
+ghost use Rattle.ft_content.specs.Views.{bare_content, column_of};
+ghost use Rattle.ft_commands.specs.Views.{filter_of};
 
-use crate::command::Filter;
 use crate::names::is_docid;
+use ft_commands::Filter;
 use ft_values::{Column, same_name};
 use std::alloc::{AllocError, Global};
 

@@ -5,10 +5,11 @@ ghost use Rattle.ft_content.specs.Calls.{IsFreeId};
 ghost use Rattle.ft_content.specs.Content as content;
 ghost use Rattle.ft_content.specs.Step as step;
 ghost use Rattle.ft_content.specs.Step.{Contents};
-ghost use Rattle.ft_content.specs.Views.{option_of, column_of, table_names, info_names, info_ids};
+ghost use Rattle.ft_content.specs.Views.{column_of, table_names, info_names, info_ids};
+ghost use Rattle.ft_commands.specs.Views.{option_of};
 
-use crate::command::Creation;
 use crate::names::{are_names, has_name, is_name, names_clash};
+use ft_commands::Creation;
 use ft_values::{Column, Fault, TableInfo, has_table, same_name};
 use std::alloc::{AllocError, Global};
 

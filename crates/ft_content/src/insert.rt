@@ -5,7 +5,8 @@ ghost use Rattle.ft_values.specs.Cells.{shown_value};
 ghost use Rattle.ft_values.specs.Cells as stored;
 ghost use Rattle.ft_content.specs.Content as content;
 ghost use Rattle.ft_content.specs.Step as step;
-ghost use Rattle.ft_content.specs.Views.{bare_content, cells_of, column_of};
+ghost use Rattle.ft_content.specs.Views.{bare_content, column_of};
+ghost use Rattle.ft_commands.specs.Views.{cells_of};
 
 use crate::columns::has_column;
 use crate::names::is_docid;

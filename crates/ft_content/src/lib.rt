@@ -2,7 +2,6 @@
 #![tactic(auto)]
 
 mod columns;
-mod command;
 mod create;
 mod docid;
 mod insert;
@@ -15,12 +14,12 @@ mod update;
 mod value;
 
 pub use columns::{column_names, has_column};
-pub use command::{
+pub use create::{create_fault, free_id, made_columns, made_names};
+pub use docid::{docid_for_row, last_docid_after, moves_fault};
+pub use ft_commands::{
     Command, Creation, Deletion, Filter, Grid, Insertion, Item, Items, Modification, Reply,
     Selection,
 };
-pub use create::{create_fault, free_id, made_columns, made_names};
-pub use docid::{docid_for_row, last_docid_after, moves_fault};
 pub use ft_values::{Column, Fault, TableInfo, Value};
 pub use insert::{insert_tests, listed_names, new_cells, row_docid};
 pub use laws::{

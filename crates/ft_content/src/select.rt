@@ -6,11 +6,12 @@ ghost use Rattle.ft_values.specs.Cells.{shown_value};
 ghost use Rattle.ft_content.specs.Answer as answer;
 ghost use Rattle.ft_content.specs.Calls.{IsItemRow};
 ghost use Rattle.ft_content.specs.Step as step;
-ghost use Rattle.ft_content.specs.Views.{bare_content, cells_of, names_in, rows_of, item_of, items_of, filter_of};
+ghost use Rattle.ft_content.specs.Views.{bare_content};
+ghost use Rattle.ft_commands.specs.Views.{cells_of, texts_of, rows_of, item_of, items_of, filter_of};
 
 use crate::columns::{column_names, column_place, has_column, names_unknown};
-use crate::command::{Filter, Item, Items};
 use crate::names::is_docid;
+use ft_commands::{Filter, Item, Items};
 use ft_values::{Column, Fault, Value, same_name};
 use std::alloc::{AllocError, Global};
 
@@ -80,7 +81,7 @@ pub fn answer_names(
     columns: &[Column],
     items: &Items,
 ) -> Result<Vec<String>, AllocError>
-    ensures { IfOk result (λ names. names_in names
+    ensures { IfOk result (λ names. texts_of names
         ≡ answer.answer_names table.now (bare_content columns.now) (items_of items.now)) }
 {
     let Items::List(items) = items else {

@@ -3,12 +3,13 @@ ghost use Rattle.std.specs.Prelude.{◌≡◌, map, slice_get, string_bytes, IfO
 ghost use Rattle.ft_values.specs.Cells.{shown_value};
 ghost use Rattle.ft_content.specs.Content as content;
 ghost use Rattle.ft_content.specs.Step as step;
-ghost use Rattle.ft_content.specs.Views.{bare_content, cells_of, column_of, set_of, filter_of};
+ghost use Rattle.ft_content.specs.Views.{bare_content, column_of};
+ghost use Rattle.ft_commands.specs.Views.{cells_of, set_of, filter_of};
 
 use crate::columns::{has_column, names_unknown};
-use crate::command::Filter;
 use crate::names::{Named, is_docid, repeats};
 use crate::value::{docid_under, has_nul, is_too_long};
+use ft_commands::Filter;
 use ft_values::{Column, Fault, Value, same_name};
 use std::alloc::{AllocError, Global};
 

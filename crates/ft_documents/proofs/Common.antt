@@ -28,12 +28,13 @@ pub use Rattle.ft_values.specs.declared.fault.Fault.{Fault}
 pub use Rattle.ft_values.specs.declared.rows.Value.{Value}
 pub use Rattle.ft_values.specs.declared.table.TableInfo.{TableInfo}
 pub use Rattle.ft_content.specs.Answer.{is_chosen, chosen, query_in, reading, cut}
-pub use Rattle.ft_content.specs.Command.{Filter, All, Docid, Insert, Match}
+pub use Rattle.ft_commands.specs.Command.{Filter, All, Docid, Insert, Match}
 pub use Rattle.ft_content.specs.Content.{Column, Content, names_of, skipped_from, content_rows, TableRows, Documents, IsContent, is_document, cell_text, repeats_name, is_cell, has_nul, CellRow, gathered, document_rows, names_clash, is_name, with_cell, content_in, are_columns, same_name}
 pub use Rattle.ft_content.specs.Step.{Contents, first_of, on_sound, listed_columns, inserted_rows, insert_fault, deserved, next_docid, has_docid, insert_row, append_document, then_rows, docids_named, new_cells}
 pub use Rattle.ft_content.specs.Index.{Spot, index_rows, entries, sizes, spot_lists, Entry, Key, IndexRows, entry_at, size_row, document_tokens, key_cmp, key_of, document_entries, document_postings, SizeRow, document_sizes, indexed_text, cell_tokens}
 pub use Rattle.ft_content.specs.Laws.{spots_of_key, some_if_any, content_with, document_lists}
-pub use Rattle.ft_content.specs.Views.{cells_of, last_docid, shown_info, column_of, placed, set_of}
+pub use Rattle.ft_content.specs.Views.{last_docid, shown_info, column_of, placed}
+pub use Rattle.ft_commands.specs.Views.{cells_of, set_of}
 pub use Rattle.ft_query.specs.Documents.{PlaceList, place_count, Posting, Document, IsBefore, AreDocuments, is_filled, has_places, places_with, lists_with, posting, postings_of, plain_list}
 pub use Rattle.ft_query.specs.Occurs.{PlainHit, accepts, hits_of, plain_hit}
 pub use Rattle.ft_query.specs.Tokens.{PlainToken, Scan, is_eligible, token_of, ended, tokens_from, tokens_of}

@@ -5,7 +5,7 @@ use Rattle.std.specs.FinMap.Entries.{find}
 use Rattle.ft_query.specs.Trees.{Tree}
 use Rattle.ft_values.specs.Cells.{Cell}
 use Rattle.ft_content.specs.Content.{Content}
-use Rattle.ft_content.specs.Command.{Filter, All, Docid, Match}
+use Rattle.ft_commands.specs.Command.{Filter, All, Docid, Match}
 use Rattle.ft_content.specs.Answer.{reading}
 
 -- the text of a MATCH reads as this query, where the filter is one

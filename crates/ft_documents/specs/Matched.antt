@@ -10,7 +10,7 @@ use Rattle.ft_query.specs.Walk.{Walk, StandsBefore, lists_to_come, hit_list}
 use Rattle.ft_values.specs.Cells.{Cell}
 use Rattle.ft_content.specs.Content.{Content}
 use Rattle.ft_content.specs.Index.{document_postings}
-use Rattle.ft_content.specs.Command.{Filter}
+use Rattle.ft_commands.specs.Command.{Filter}
 use Rattle.ft_content.specs.Answer.{query_in, chosen}
 
 -- a document with the offsets of the query, none where there is no query

@@ -10,7 +10,8 @@ use Rattle.ft_values.specs.Cells.{Cell}
 use Rattle.ft_values.specs.declared.fault.Fault.{Fault}
 use Rattle.ft_values.specs.declared.fault.Fault.TheVariants as faults
 use Rattle.ft_content.specs.Content.{Documents}
-use Rattle.ft_content.specs.Views.{cells_of, last_docid}
+use Rattle.ft_content.specs.Views.{last_docid}
+use Rattle.ft_commands.specs.Views.{cells_of}
 use Rattle.ft_documents.specs.declared.new_documents.NewDocuments.{NewDocuments}
 use Rattle.ft_documents.specs.Rewrite.{Rewrite}
 use Rattle.ft_documents.specs.RewriteRows.{all_put}

@@ -11,7 +11,7 @@ use Rattle.ft_rows.specs.Store.{PutEntries, all_applied}
 use Rattle.ft_content.specs.Content.{Column, Documents, Content, IsContent, content_rows, is_document}
 use Rattle.ft_content.specs.Index.{index_rows}
 use Rattle.ft_content.specs.Step.{without_docid}
-use Rattle.ft_content.specs.Views.{cells_of}
+use Rattle.ft_commands.specs.Views.{cells_of}
 use Rattle.ft_documents.specs.declared.rewrite.Rewrite as source
 use Rattle.ft_documents.specs.Tables.{table_rows, table_index}
 

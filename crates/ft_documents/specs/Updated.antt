@@ -3,7 +3,7 @@ use Rattle.std.specs.Prelude.{◌≡◌, ℤ, ℕ, if◌then◌else◌, List, []
 use Rattle.std.specs.Ordering.{int_cmp, int_eq, is_lt}
 use Rattle.ft_values.specs.Cells.{Cell}
 use Rattle.ft_content.specs.Content.{Column, Content}
-use Rattle.ft_content.specs.Command.{Filter}
+use Rattle.ft_commands.specs.Command.{Filter}
 use Rattle.ft_content.specs.Answer.{chosen}
 use Rattle.ft_content.specs.Step.{docids_named, with_values}
 use Rattle.ft_content.specs.Step.{docids_of, docid_if_any}

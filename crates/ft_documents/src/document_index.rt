@@ -32,7 +32,8 @@ impl DocumentIndex {
     ghost use Rattle.std.specs.FinMap.Entries.{put, find};
     ghost use Rattle.ft_values.specs.Cells.{shown_value};
     ghost use Rattle.ft_content.specs.Index.{key_cmp};
-    ghost use Rattle.ft_content.specs.Views.{cells_of, column_of};
+    ghost use Rattle.ft_content.specs.Views.{column_of};
+    ghost use Rattle.ft_commands.specs.Views.{cells_of};
     ghost use Rattle.ft_documents.specs.MadeIndex.{Shows, AddsDocuments, AddsCell, lists_in, sizes_in};
     ghost use Rattle.ft_documents.specs.Rewrite.{document_if};
 

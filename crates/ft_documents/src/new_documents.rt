@@ -5,7 +5,8 @@ ghost use Rattle.std.specs.FinMap.Entries.{is_sorted};
 ghost use Rattle.ft_content.specs.Content.{Documents};
 ghost use Rattle.ft_content.specs.Step.{inserted_rows};
 ghost use Rattle.ft_content.specs.Views as views;
-ghost use Rattle.ft_content.specs.Views.{cells_of, column_of};
+ghost use Rattle.ft_content.specs.Views.{column_of};
+ghost use Rattle.ft_commands.specs.Views.{cells_of};
 ghost use Rattle.ft_documents.specs.Inserted.{AreKnown, MakesDocuments};
 
 use crate::rewrite::Rewrite;

@@ -1,6 +1,7 @@
 //! The rewrites that a Delete, an Update and a Rebuild make of documents.
 ghost use Rattle.std.specs.Prelude.{◌≡◌, map, IfOk, OnOk};
-ghost use Rattle.ft_content.specs.Views.{column_of, set_of};
+ghost use Rattle.ft_content.specs.Views.{column_of};
+ghost use Rattle.ft_commands.specs.Views.{set_of};
 ghost use Rattle.ft_documents.specs.Gathered.{shown_document};
 ghost use Rattle.ft_documents.specs.NewDocuments.{new_rewrite};
 ghost use Rattle.ft_documents.specs.Rewrite.{shown_rewrite, removal};

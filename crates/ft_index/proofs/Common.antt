@@ -44,8 +44,8 @@ pub use Rattle.ft_store.specs.Rows.{value_of}
 pub use Rattle.ft_store.specs.declared.fault.StoreFault.{StoreFault}
 unfoldable pub use Rattle.ft_content.specs.Answer.{chosen, answer, reading}
 pub use Rattle.ft_content.specs.Answer.{cut, is_chosen, answer_names, cells_with, column_place, item_rows, query_in}
-pub use Rattle.ft_content.specs.Command.{Done, Command, Filter, Match, Delete, Drop, Listed, AllColumns, Counted, Create, Docid, Insert, Items, Named}
-pub use Rattle.ft_content.specs.Command.{OffsetsOf, Rebuild, Update, Check, Item, Optimize, Rows, Select}
+pub use Rattle.ft_commands.specs.Command.{Done, Command, Filter, Match, Delete, Drop, Listed, AllColumns, Counted, Create, Docid, Insert, Items, Named}
+pub use Rattle.ft_commands.specs.Command.{OffsetsOf, Rebuild, Update, Check, Item, Optimize, Rows, Select}
 pub use Rattle.ft_content.specs.Content.{Content, IsContent, Documents, same_name, Column, content_rows, repeats_name, names_of, TableRows}
 pub use Rattle.ft_content.specs.Content.{skipped_from, CellRow, document_rows, is_docid}
 unfoldable pub use Rattle.ft_content.specs.Step.{deserved, inserted_rows}
@@ -58,10 +58,12 @@ pub use Rattle.ft_content.specs.Meaning.{content_documents}
 unfoldable pub use Rattle.ft_content.specs.Step.{after, reply_to, step, touched}
 pub use Rattle.ft_content.specs.Step.{on_table, with_documents, step_by, docids_of, free_id_from, deleted, inserted, new_table, rebuilt, updated}
 pub use Rattle.ft_content.specs.Step.{dropped, made_column, without_docid}
-pub use Rattle.ft_content.specs.Views.{shown_info, TableInfo, column_of, bare_content, answer_of, filter_of, cells_of, creation_of, item_of, names_in}
-pub use Rattle.ft_content.specs.Views.{items_of, rows_of, command_of, deletion_of, insertion_of, modification_of, table_names, info_names, option_of}
-pub use Rattle.ft_content.specs.Views.{selection_of, set_of}
-pub use Rattle.ft_content.specs.declared.command.Reply.{Reply, Reply as RustReply}
+pub use Rattle.ft_content.specs.Views.{shown_info, TableInfo, column_of, bare_content}
+pub use Rattle.ft_commands.specs.Views.{answer_of, filter_of, cells_of, creation_of, item_of, texts_of}
+pub use Rattle.ft_content.specs.Views.{table_names, info_names}
+pub use Rattle.ft_commands.specs.Views.{items_of, rows_of, command_of, deletion_of, insertion_of, modification_of, option_of}
+pub use Rattle.ft_commands.specs.Views.{selection_of, set_of}
+pub use Rattle.ft_commands.specs.declared.command.Reply.{Reply, Reply as RustReply}
 pub use Rattle.ft_documents.specs.Chosen.{document_at, ReadsFilterAs, cells_at}
 pub use Rattle.ft_documents.specs.Found.{info_named, IsUnfit, IsSoundNamed, with_info, with_sound, without_info}
 pub use Rattle.ft_documents.specs.Gathered.{shown_document, has_given}

@@ -14,7 +14,7 @@ use Rattle.ft_index.proofs.Common.{as_wanted, AreThere, AreRewrites, BlamesMade,
 use Rattle.ft_index.proofs.Common.{IsSoundNamed, info_named, held_content, PlansTo, BlamesDone}
 use Rattle.ft_query.specs.Lists.{Reaches, Stays, Goes, Ends}
 use Rattle.ft_store.proofs.{kept_then}
-use Rattle.ft_content.specs.Command.{Reply}
+use Rattle.ft_commands.specs.Command.{Reply}
 use Rattle.ft_index.specs.Changed.{Changed, DoesAsked, LooksAsked, MakesAsked}
 use Rattle.ft_calls.proofs.{apart_after}
 use Rattle.ft_index.proofs.OneTable.{keeps_same, sound_rows, sound_table}
@@ -39,7 +39,7 @@ use Rattle.ft_content.specs.Index.{Entry, entries, spot_lists, spots_at, key_cmp
 use Rattle.ft_calls.specs.Kept.{BlamesStore, puts_rows}
 use Rattle.ft_index.specs.Walked.{Fails, FailsIf}
 use Rattle.ft_index.proofs.OpenedTables.{blamed_after}
-use Rattle.ft_content.specs.declared.command.Reply.TheVariants as replies
+use Rattle.ft_commands.specs.declared.command.Reply.TheVariants as replies
 use Rattle.ft_calls.specs.Causes.{AreOwn, CantMake}
 
 -- where nothing is done, nothing is committed

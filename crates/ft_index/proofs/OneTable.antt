@@ -36,15 +36,15 @@ pub record IsOne (name : List ℕ) (t x : ℤ × Table) : Type 0 where
   pub agrees : same_name x.1.name name ≡ int_eq t.0 x.0
   pub is : int_eq t.0 x.0 ≡ true → x ≡ t
 
-abbrev names_in : Contents → List (List ℕ)
-names_in contents = map (λ (t : ℤ × Table). t.1.name) contents
+abbrev texts_of : Contents → List (List ℕ)
+texts_of contents = map (λ (t : ℤ × Table). t.1.name) contents
 
 -- after a table of this name stand others
-others_from : (name : List ℕ) (t : ℤ × Table) (xs : Contents) → same_name t.1.name name ≡ true → below_all int_cmp t.0 xs ≡ true → list_any (same_name t.1.name) (names_in xs) ≡ false → AllByRecursion (IsOne name t) xs
+others_from : (name : List ℕ) (t : ℤ × Table) (xs : Contents) → same_name t.1.name name ≡ true → below_all int_cmp t.0 xs ≡ true → list_any (same_name t.1.name) (texts_of xs) ≡ false → AllByRecursion (IsOne name t) xs
 others_from name t [] is below apart = tt
 others_from name t (x ∷ xs) is below apart =
     let b = and_parts (is_lt (int_cmp t.0 x.0)) (below_all int_cmp t.0 xs) below in
-    let a = or_parts (same_name t.1.name x.1.name) (list_any (same_name t.1.name) (names_in xs)) apart in
+    let a = or_parts (same_name t.1.name x.1.name) (list_any (same_name t.1.name) (texts_of xs)) apart in
     let other : int_eq t.0 x.0 ≡ false = ap is_eq (less _ b.0) in (
       record {
         agrees = no_name (same_name x.1.name name) refl a.0 ∙ sym other;
@@ -65,14 +65,14 @@ found_below k name t (x ∷ xs) below found = go (same_name x.1.name name) (and_
     go true parts rest found = subst (λ (y : ℤ × Table). is_lt (int_cmp k y.0) ≡ true) (ap (λ o. unwrap_or o x) found) parts.0
     go false parts rest found = rest parts.1 found
 
-pub one_named : (name : List ℕ) (t : ℤ × Table) (xs : Contents) → is_sorted int_cmp xs ≡ true → repeats_name (names_in xs) ≡ false → table_named xs name ≡ Some t → AllByRecursion (IsOne name t) xs
+pub one_named : (name : List ℕ) (t : ℤ × Table) (xs : Contents) → is_sorted int_cmp xs ≡ true → repeats_name (texts_of xs) ≡ false → table_named xs name ≡ Some t → AllByRecursion (IsOne name t) xs
 one_named name t [] sorted apart found = absurd (let no = found in cc)
 one_named name t (x ∷ xs) sorted apart found =
     let s = and_parts (below_all int_cmp x.0 xs) (is_sorted int_cmp xs) sorted in
-    let a = or_parts (list_any (same_name x.1.name) (names_in xs)) (repeats_name (names_in xs)) apart in
+    let a = or_parts (list_any (same_name x.1.name) (texts_of xs)) (repeats_name (texts_of xs)) apart in
     go (same_name x.1.name name) refl s.0 a.0 (one_named name t xs s.1 a.1) found
   where
-    go : (b : Bool) → same_name x.1.name name ≡ b → below_all int_cmp x.0 xs ≡ true → list_any (same_name x.1.name) (names_in xs) ≡ false → (table_named xs name ≡ Some t → AllByRecursion (IsOne name t) xs) → cond b (Some x) (table_named xs name) ≡ Some t → AllByRecursion (IsOne name t) (x ∷ xs)
+    go : (b : Bool) → same_name x.1.name name ≡ b → below_all int_cmp x.0 xs ≡ true → list_any (same_name x.1.name) (texts_of xs) ≡ false → (table_named xs name ≡ Some t → AllByRecursion (IsOne name t) xs) → cond b (Some x) (table_named xs name) ≡ Some t → AllByRecursion (IsOne name t) (x ∷ xs)
     go true is below apart rest found =
         let same : x ≡ t = ap (λ o. unwrap_or o x) found in (
           record {

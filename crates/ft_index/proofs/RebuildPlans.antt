@@ -11,7 +11,7 @@ use Rattle.ft_index.proofs.Common.{Fault, same_name, Rebuild, Done, Stale, Loose
 use Rattle.ft_index.proofs.Common.{reply_to, info_named, with_sound, PlansFrom, state_of}
 use Rattle.std.proofs.lemmas.Float.{T_from_true}
 use Rattle.std.specs.List.{find as first_of}
-use Rattle.ft_content.specs.Command as plain
+use Rattle.ft_commands.specs.Command as plain
 use Rattle.ft_documents.proofs.{added_rows, added_index, added_in_order, put_anew}
 use Rattle.ft_content.specs.Laws.{content_with}
 use Rattle.ft_index.specs.Written.{MakeTable}

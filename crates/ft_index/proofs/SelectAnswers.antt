@@ -16,7 +16,7 @@ use Rattle.std.proofs.Math.Nat.{mul-add}
 use Rattle.std.proofs.lemmas.List.{drop-take}
 use Rattle.ft_values.specs.Cells.{Null, Int}
 use Rattle.ft_content.specs.Content.{is_cell, is_document}
-use Rattle.ft_content.specs.Command.{All, Grid}
+use Rattle.ft_commands.specs.Command.{All, Grid}
 use Rattle.ft_content.specs.Answer.{named_cell, item_cells, offsets_cell, item_headers}
 use Rattle.ft_content.proofs.{item_cells_are, cut_of_map}
 use Rattle.ft_index.specs.RowsRead.{docids_asked}

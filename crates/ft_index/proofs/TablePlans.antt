@@ -1,20 +1,20 @@
 -- The plans and answers of a Create, a Drop, and of commands that change no document.
 use Rattle.std.proofs.Common.{◌≡◌, ℕ, true, false, cond, List, [], ◌∷◌, map, length, Some, None, Ok, Err, ℤ, pos, string_bytes, refl, sym, ap, subst, ◌∙◌, arith, lt-ltb, IsTrue, is_some, nat_lt, Ordering, Less, Equal, Greater, int_cmp, int_eq, is_lt, is_eq, Bool, not, ◌&&◌, Option, is_none, ◌⊎◌, inl, inr, Result}
 use Rattle.ft_index.proofs.Common.{AllByRecursion, put, by_order, StoreValue, AreInOrder, AddTable, applied, Fault, RustTableInfo, IsContent}
-use Rattle.ft_index.proofs.Common.{names_of, skipped_from, Command, Done, TableInfo, shown_info, option_of, names_in, creation_of, Table, Contents}
+use Rattle.ft_index.proofs.Common.{names_of, skipped_from, Command, Done, TableInfo, shown_info, option_of, texts_of, creation_of, Table, Contents}
 use Rattle.ft_index.proofs.Common.{table_named, made_columns, deserved, free_id_from, made_column, new_table, after, reply_to, step, step_by}
 use Rattle.ft_index.proofs.Common.{with_info, PlansTable, table_change, AreHeld, StoreHolds, table_info, DropTable, same_name, Drop, first_of}
 use Rattle.ft_index.proofs.Common.{dropped, info_named, without_info, KeepsOthers, PlansFrom, Change, Check, Optimize, RustReply, answer_of}
 use Rattle.ft_index.proofs.Common.{StaysNear, Answers, is_outside}
-use Rattle.ft_content.specs.declared.command.Creation.{Creation}
+use Rattle.ft_commands.specs.declared.command.Creation.{Creation}
 use Rattle.ft_content.specs.Step.{created}
 use Rattle.ft_index.proofs.OneTable.{ids_sorted, free_is_free, adds_one, IsOne, one_named, held_named, one_spares, drops_one, none_named, some_named, keeps_dropped, keeps_same, makes_table}
 use Rattle.ft_content.specs.Laws.{content_with}
 use Rattle.ft_calls.proofs.{apart_after}
 use Rattle.ft_content.proofs.{create_makes_content}
 use Rattle.ft_values.specs.declared.fault.Fault.TheVariants as faults
-use Rattle.ft_content.specs.Command.{Reply}
-use Rattle.ft_content.specs.Views.{reply_of}
+use Rattle.ft_commands.specs.Command.{Reply}
+use Rattle.ft_commands.specs.Views.{reply_of}
 
 -- a table under a free id stands among those that are told as it stands among the contents
 told_put : (id : ℤ) (table : Table) (contents : Contents) → AllByRecursion (λ (c : ℤ × Table). int_eq id c.0 ≡ false) contents → map table_info (put int_cmp id table contents) ≡ with_info (table_info (id, table)) (map table_info contents)
@@ -33,10 +33,10 @@ some_columns (n ∷ ns) = lt-ltb 0 (length (n ∷ ns)) (omega arith)
 
 -- the columns that a Create without a fault makes are those of a content
 makes_content : (contents : Contents) (creation : Creation) → deserved contents (creation_of creation) ≡ None →
-    IsContent (string_bytes creation.table) (content_with (map (made_column (map option_of creation.options.items)) (made_columns (names_in creation.columns))) [])
+    IsContent (string_bytes creation.table) (content_with (map (made_column (map option_of creation.options.items)) (made_columns (texts_of creation.columns))) [])
 unfolding deserved
 makes_content contents creation fine =
-    let names = names_in creation.columns in
+    let names = texts_of creation.columns in
     create_makes_content contents (string_bytes creation.table) (string_bytes creation.module) (map option_of creation.options.items) (made_columns names) creation.if_new (some_columns names) fine
 
 -- ---- what is held after a table was made
@@ -49,7 +49,7 @@ made_is_held contents creation made store tables makes order held =
     let m = makes.2 in
     let table = string_bytes creation.table in
     let options = map option_of creation.options.items in
-    let names = names_in creation.columns in
+    let names = texts_of creation.columns in
     let id = pos (free_id_from 1 contents) in
     let columns = map (made_column options) (made_columns names) in
     let new = new_table table options (made_columns names) in
@@ -76,7 +76,7 @@ refused_answers contents command fault due = ap (λ d. step_by d contents comman
 pub nothing_made : (contents : Contents) (creation : Creation) → IsTrue (is_some (table_named contents (string_bytes creation.table))) → after contents (creation_of creation) ≡ contents
 unfolding after
 nothing_made contents creation there =
-    let new = new_table (string_bytes creation.table) (map option_of creation.options.items) (made_columns (names_in creation.columns)) in
+    let new = new_table (string_bytes creation.table) (map option_of creation.options.items) (made_columns (texts_of creation.columns)) in
     ap (λ b. cond b contents (put int_cmp (pos (free_id_from 1 contents)) new contents)) there
 
 -- so it is answered that it is done

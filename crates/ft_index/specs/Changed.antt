@@ -7,9 +7,10 @@ use Rattle.ft_store.specs.Calls.{IsPlainFault, IsStored, Keeps}
 use Rattle.ft_store.specs.declared.fault.StoreFault.{StoreFault}
 use Rattle.ft_store.specs.Kept.{StoreState, shows, value_in}
 use Rattle.ft_values.specs.declared.fault.Fault.{Fault}
-use Rattle.ft_content.specs.declared.command.Reply.{Reply}
-use Rattle.ft_content.specs.Command.{Command}
-use Rattle.ft_content.specs.Views.{TableInfo, answer_of}
+use Rattle.ft_commands.specs.declared.command.Reply.{Reply}
+use Rattle.ft_commands.specs.Command.{Command}
+use Rattle.ft_content.specs.Views.{TableInfo}
+use Rattle.ft_commands.specs.Views.{answer_of}
 use Rattle.ft_calls.specs.Kept.{FullText, IsUp, IsOutside, Executes}
 use Rattle.ft_calls.specs.Kept.{CommitsCommand}
 

@@ -8,9 +8,10 @@ use Rattle.ft_rows.specs.Changes.{shown_change}
 use Rattle.ft_values.specs.declared.fault.Fault.{Fault}
 use Rattle.ft_values.specs.declared.fault.Fault.TheVariants as faults
 use Rattle.ft_values.specs.declared.table.TableInfo.{TableInfo}
-use Rattle.ft_content.specs.declared.command.Creation.{Creation}
-use Rattle.ft_content.specs.Command.{Command}
-use Rattle.ft_content.specs.Views.{shown_info, column_of, option_of, names_in, creation_of}
+use Rattle.ft_commands.specs.declared.command.Creation.{Creation}
+use Rattle.ft_commands.specs.Command.{Command}
+use Rattle.ft_content.specs.Views.{shown_info, column_of}
+use Rattle.ft_commands.specs.Views.{option_of, texts_of, creation_of}
 use Rattle.ft_content.specs.Step.{Contents, table_named, made_columns, deserved}
 use Rattle.ft_content.specs.Step.{free_id_from, made_column}
 use Rattle.ft_calls.specs.Kept.{AreHeld, PlansFrom}
@@ -29,7 +30,7 @@ PlansOver tables command answer = (store : StoreValue) (contents : Contents) →
 pub record IsMade (contents : Contents) (creation : Creation) (made : TableInfo) : Type 0 where
   pub id : made.id ≡ pos (free_id_from 1 contents)
   pub name : string_bytes made.name ≡ string_bytes creation.table
-  pub columns : map column_of made.columns.items ≡ map (made_column (map option_of creation.options.items)) (made_columns (names_in creation.columns))
+  pub columns : map column_of made.columns.items ≡ map (made_column (map option_of creation.options.items)) (made_columns (texts_of creation.columns))
   pub sound : IsTrue made.sound
 
 -- the row change that makes a table

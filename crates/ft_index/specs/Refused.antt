@@ -9,7 +9,7 @@ use Rattle.ft_store.specs.Blame.{IsBlamed}
 use Rattle.ft_store.specs.Kept.{StoreState, shows, value_in}
 use Rattle.ft_values.specs.declared.fault.Fault.{Fault}
 use Rattle.ft_values.specs.declared.fault.Fault.TheVariants as faults
-use Rattle.ft_content.specs.Command.{Command}
+use Rattle.ft_commands.specs.Command.{Command}
 use Rattle.ft_content.specs.Content.{Content}
 use Rattle.ft_content.specs.Views.{TableInfo}
 use Rattle.ft_content.specs.Step.{Contents}

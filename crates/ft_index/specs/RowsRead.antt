@@ -6,7 +6,7 @@ use Rattle.ft_query.specs.Trees.{Tree}
 use Rattle.ft_query.specs.Work.{entry_count}
 use Rattle.ft_values.specs.declared.fault.Fault.{Fault}
 use Rattle.ft_content.specs.Content.{Content, is_docid}
-use Rattle.ft_content.specs.Command.{Filter, All, Docid, Match, Item, AllColumns, Named, OffsetsOf, Items, Counted, Listed, Command, Select, Reply, Rows}
+use Rattle.ft_commands.specs.Command.{Filter, All, Docid, Match, Item, AllColumns, Named, OffsetsOf, Items, Counted, Listed, Command, Select, Reply, Rows}
 use Rattle.ft_content.specs.Answer.{query_in, chosen, cut}
 use Rattle.ft_content.specs.Step.{TableState, Sound, Stale, Loose, Table, Contents, table_named}
 use Rattle.ft_content.specs.Meaning.{content_documents}

@@ -8,7 +8,7 @@ use Rattle.ft_query.specs.Occurs.{offsets_text}
 use Rattle.ft_values.specs.Cells.{Cell, Text}
 use Rattle.ft_store.specs.Kept.{StoreState}
 use Rattle.ft_content.specs.Content.{Column, Content}
-use Rattle.ft_content.specs.Command.{Filter, Item, Items}
+use Rattle.ft_commands.specs.Command.{Filter, Item, Items}
 use Rattle.ft_content.specs.Answer.{cells_with}
 use Rattle.ft_content.specs.Step.{is_match, is_offsets, items_in}
 use Rattle.ft_index.specs.DocumentsRead.{HasRows}

@@ -11,7 +11,7 @@ use Rattle.ft_store.specs.Kept.{StoreState, shows, value_in}
 use Rattle.ft_values.specs.declared.fault.Fault.{Fault}
 use Rattle.ft_values.specs.declared.fault.Fault.TheVariants as faults
 use Rattle.ft_content.specs.Content.{Column, Documents, Content}
-use Rattle.ft_content.specs.Command.{Command}
+use Rattle.ft_commands.specs.Command.{Command}
 use Rattle.ft_content.specs.Views.{TableInfo, column_of}
 use Rattle.ft_content.specs.Step.{Contents}
 use Rattle.ft_documents.specs.declared.rewrite.Rewrite as source
@@ -22,8 +22,8 @@ use Rattle.ft_calls.specs.Kept.{IsUp, AreHeld, PlansFrom, puts_rows}
 use Rattle.ft_index.specs.Refused.{BlamesDone, BlamesMade, BlamesOver}
 use Rattle.ft_calls.specs.Causes.{AreOwn, AreRewrites}
 use Rattle.ft_index.specs.Planned.{changes_of, table_change}
-use Rattle.ft_content.specs.declared.command.Reply.{Reply}
-use Rattle.ft_content.specs.Command.{Done}
+use Rattle.ft_commands.specs.declared.command.Reply.{Reply}
+use Rattle.ft_commands.specs.Command.{Done}
 use Rattle.ft_content.specs.Step.{after, on_table, reply_to, with_documents}
 use Rattle.ft_index.specs.Changed.{with_tables, Does, MakesRows}
 use Rattle.ft_index.specs.DocumentsRead.{LooksOn}

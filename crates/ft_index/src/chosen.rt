@@ -3,10 +3,10 @@ ghost use Rattle.std.specs.Prelude.{◌≡◌, ◌*◌, false, length, map, opti
 ghost use Rattle.ft_query.specs.Trees.{tree_of};
 ghost use Rattle.ft_store.specs.Kept.{more_rows};
 ghost use Rattle.ft_content.specs.Content.{Content};
-ghost use Rattle.ft_content.specs.Command.{Docid};
+ghost use Rattle.ft_commands.specs.Command.{Docid};
 ghost use Rattle.ft_content.specs.Answer.{chosen};
 ghost use Rattle.ft_content.specs.Step.{is_match};
-ghost use Rattle.ft_content.specs.Views.{filter_of};
+ghost use Rattle.ft_commands.specs.Views.{filter_of};
 ghost use Rattle.ft_index.specs.DocumentsRead.{HasRows, LooksFor};
 ghost use Rattle.ft_documents.specs.Gathered.{shown_document};
 ghost use Rattle.ft_index.specs.Walked.{IsIndexed};

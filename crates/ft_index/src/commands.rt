@@ -1,6 +1,7 @@
 //! Commands over a store: what each does, and the row changes that it asks for.
 ghost use Rattle.std.specs.Prelude.{map};
-ghost use Rattle.ft_content.specs.Views.{shown_info, command_of, answer_of};
+ghost use Rattle.ft_content.specs.Views.{shown_info};
+ghost use Rattle.ft_commands.specs.Views.{command_of, answer_of};
 ghost use Rattle.ft_index.specs.Changed.{with_tables, Does};
 ghost use Rattle.ft_index.specs.RowsRead.{CountsRows};
 ghost use Rattle.ft_index.specs.DocumentsRead.{Looks};

@@ -52,7 +52,8 @@ impl<S: Alter> FullText<S> {
     ghost use Rattle.ft_rows.specs.Store.{nothing_held, Note};
     ghost use Rattle.ft_values.specs.declared.fault.Fault.TheVariants as faults;
     ghost use Rattle.ft_content.specs.Step.{Contents};
-    ghost use Rattle.ft_content.specs.Views.{shown_info, command_of, answer_of};
+    ghost use Rattle.ft_content.specs.Views.{shown_info};
+    ghost use Rattle.ft_commands.specs.Views.{command_of, answer_of};
     ghost use Rattle.ft_index.specs.Planned.{changes_of};
     ghost use Rattle.ft_index.specs.RowsRead.{CountsRows};
     ghost use Rattle.ft_index.specs.DocumentsRead.{Looks};

@@ -4,7 +4,7 @@ ghost use Rattle.ft_query.specs.Trees.{tree_of};
 ghost use Rattle.ft_query.specs.Occurs.{plain_hit};
 ghost use Rattle.ft_store.specs.Kept.{more_rows};
 ghost use Rattle.ft_content.specs.Content.{Content};
-ghost use Rattle.ft_content.specs.Command.{Match};
+ghost use Rattle.ft_commands.specs.Command.{Match};
 ghost use Rattle.ft_content.specs.Answer.{reading, query_in, cut};
 ghost use Rattle.ft_index.specs.Walked.{IsIndexed};
 ghost use Rattle.ft_documents.specs.Matched.{chosen_hits, as_wanted};

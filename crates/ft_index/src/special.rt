@@ -1,6 +1,7 @@
 //! The special commands: integrity-check, rebuild and optimize.
 ghost use Rattle.std.specs.Prelude.{map, ◌≡◌, ℕ, List, Some};
-ghost use Rattle.ft_content.specs.Views.{shown_info, answer_of};
+ghost use Rattle.ft_content.specs.Views.{shown_info};
+ghost use Rattle.ft_commands.specs.Views.{answer_of};
 ghost use Rattle.ft_index.specs.Changed.{with_tables, Does};
 ghost use Rattle.ft_index.specs.DocumentsRead.{LooksOn};
 ghost use Rattle.ft_calls.specs.Kept.{Executes, Answers, BlamesStore, table_info};
@@ -9,7 +10,7 @@ ghost use Rattle.ft_documents.specs.Found.{info_named};
 ghost use Rattle.ft_index.specs.Refused.{BlamesDone, NeverStore};
 ghost use Rattle.ft_index.specs.Written.{PlansIn, RebuildsIn};
 ghost use Rattle.ft_content.specs.Step.{Contents};
-ghost use Rattle.ft_content.specs.Command as plain;
+ghost use Rattle.ft_commands.specs.Command as plain;
 ghost use Rattle.ft_content.specs.Views as views;
 
 use crate::documents::all_documents;

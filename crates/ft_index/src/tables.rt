@@ -1,7 +1,8 @@
 //! Tables that are made and removed, and names that are noted.
 ghost use Rattle.std.specs.Prelude.{◌≡◌, ◌∷◌, [], map, All, IfOk};
 ghost use Rattle.ft_rows.specs.Changes.{shown_change, CanApply};
-ghost use Rattle.ft_content.specs.Views.{shown_info, creation_of};
+ghost use Rattle.ft_content.specs.Views.{shown_info};
+ghost use Rattle.ft_commands.specs.Views.{creation_of};
 ghost use Rattle.ft_content.specs.Step.{Contents};
 ghost use Rattle.ft_calls.specs.Kept.{BlamesStore, BlamesChanges, table_info};
 ghost use Rattle.ft_index.specs.Planned.{PlansOver, PlansTable, table_change};
@@ -9,7 +10,7 @@ ghost use Rattle.ft_index.specs.Changed.{with_tables, MakesRows, Does, MakesAske
 ghost use Rattle.ft_index.specs.Refused.{BlamesDone, NeverStore};
 ghost use Rattle.ft_rows.specs.Store.{Note};
 ghost use Rattle.ft_store.specs.Kept.{shows};
-ghost use Rattle.ft_content.specs.Command as plain;
+ghost use Rattle.ft_commands.specs.Command as plain;
 ghost use Rattle.ft_store.specs.Blame.{TakesOut};
 
 use ft_content::{

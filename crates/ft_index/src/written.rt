@@ -1,7 +1,8 @@
 //! Documents that commands write: which they are, and how they are made.
 ghost use Rattle.std.specs.Prelude.{◌++◌, map, IfOk, ◌≡◌, zip, slice_get};
 ghost use Rattle.std.specs.Vec.Iter.{into_iter_items};
-ghost use Rattle.ft_content.specs.Views.{column_of, cells_of, insertion_of, shown_info, modification_of, deletion_of};
+ghost use Rattle.ft_content.specs.Views.{column_of, shown_info};
+ghost use Rattle.ft_commands.specs.Views.{cells_of, insertion_of, modification_of, deletion_of};
 ghost use Rattle.ft_documents.specs.Rewrite.{shown_rewrite};
 ghost use Rattle.ft_documents.specs.RewriteRows.{rewrite_changes};
 ghost use Rattle.ft_rows.specs.Changes.{shown_change};

@@ -3,13 +3,13 @@ use Rattle.std.proofs.Common.{◌≡◌, ℕ, List, map, Option, None, Result, E
 use Rattle.shell_text.specs.Print.{Settings}
 use Rattle.shell_text.specs.Words.{is_unclosed}
 use Rattle.shell_text.specs.declared.words.LexFault.{LexFault}
-use Rattle.ft_statements.specs.declared.statement.StatementFault.{StatementFault}
+use Rattle.ft_commands.specs.declared.fault.StatementFault.{StatementFault}
 use Rattle.shell_io.specs.Outcomes.{Answer, blames}
 use Rattle.shell_io.specs.FaultWords.{lex_words}
 use Rattle.ft_values.specs.declared.table.TableInfo.{TableInfo as RustTableInfo}
 use Rattle.ft_shell.proofs.Common.{Ghosts, Held, sql_tokens, statement_text, OrNothing, ClassTurn, Declines, StatementTurn, TableInfo, shown_info, info_names, FullText, Token, Class, class_of, known_names}
 use Rattle.shell_text.specs.declared.words.LexFault.TheVariants as lex
-use Rattle.ft_statements.specs.declared.statement.StatementFault.TheVariants as faults
+use Rattle.ft_commands.specs.declared.fault.StatementFault.TheVariants as faults
 
 names_known : (tables : List RustTableInfo) → info_names tables ≡ map (λ (t : TableInfo). t.name) (map shown_info tables)
 names_known [] = refl

@@ -2,7 +2,7 @@
 use Rattle.std.specs.Prelude.{◌≡◌, codes}
 use Rattle.sqlite.specs.Store.{Ghosts}
 use Rattle.ft_shell.specs.Shell.{Shell}
-use Rattle.ft_statements.specs.Texts.{usage_text}
+use Rattle.shell_io.specs.Texts.{usage_text}
 use Rattle.ft_statements.specs.Dots.{DotCommand, Nothing, SetMode, SetHeaders, SetSeparator, SetNull, SetEcho, SetBail, Print}
 use Rattle.ft_statements.specs.Dots.{Importing, Tables, Quit, Usage, Unknown}
 use Rattle.ft_statements.specs.Settings.{print_text}

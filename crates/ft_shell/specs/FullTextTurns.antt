@@ -4,11 +4,11 @@ use Rattle.sqlite.specs.Store.{Ghosts}
 use Rattle.shell_text.specs.Print.{Settings}
 use Rattle.ft_values.specs.declared.fault.Fault.{Fault}
 use Rattle.ft_values.specs.declared.fault.Fault.TheVariants as faults
-use Rattle.ft_content.specs.Command.{Command, Reply}
+use Rattle.ft_commands.specs.Command.{Command, Reply}
 use Rattle.ft_calls.specs.Kept.{FullText}
 use Rattle.ft_calls.specs.Kept.{Executed, Noted}
 use Rattle.ft_calls.specs.Causes.{DoesForCause}
-use Rattle.ft_statements.specs.Texts.{fault_text}
+use Rattle.shell_io.specs.Texts.{fault_text}
 use Rattle.ft_statements.specs.Replies.{reply_text}
 use Rattle.shell_io.specs.Outcomes.{Answer, says, warned, blames, complains, Tells}
 

@@ -8,7 +8,7 @@ use Rattle.sqlite.specs.Held.{Held}
 use Rattle.shell_text.specs.Print.{Settings}
 use Rattle.shell_text.specs.Records.{IsNoText, csv_reader}
 use Rattle.ft_values.specs.declared.fault.Fault.{Fault}
-use Rattle.ft_content.specs.Command.{Command, Insert, Reply}
+use Rattle.ft_commands.specs.Command.{Command, Insert, Reply}
 use Rattle.ft_content.specs.Views.{TableInfo}
 use Rattle.ft_documents.specs.Found.{info_named}
 use Rattle.ft_calls.specs.Kept.{FullText}
@@ -23,7 +23,7 @@ use Rattle.shell_io.specs.Records.{kept, records_in, warnings}
 use Rattle.shell_io.specs.Sources.{Files, GivesFile, Refuses, fetch_words}
 use Rattle.shell_io.specs.declared.source.SourceFault.{SourceFault}
 use Rattle.plain_sql.specs.Listings.{Tries}
-use Rattle.ft_statements.specs.Texts.{fault_text}
+use Rattle.shell_io.specs.Texts.{fault_text}
 use Rattle.shell_io.specs.Outcomes.{Answer, blames, lacks_memory, warned}
 
 -- the number of columns of the first table that has this name, if one has

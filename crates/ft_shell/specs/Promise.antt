@@ -4,7 +4,7 @@ use Rattle.std.specs.List.{list_any}
 use Rattle.sqlite.specs.Store.{Ghosts}
 use Rattle.shell_text.specs.Units.{Member, Sql, members_of}
 use Rattle.ft_store.specs.Kept.{shows}
-use Rattle.ft_content.specs.Command.{Command, Filter, Items, Reply, Select}
+use Rattle.ft_commands.specs.Command.{Command, Filter, Items, Reply, Select}
 use Rattle.ft_content.specs.Step.{Contents}
 use Rattle.ft_content.specs.Step.{reply_to}
 use Rattle.sqlite.specs.State.{HasCleanDisk}

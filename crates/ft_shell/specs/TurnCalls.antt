@@ -6,7 +6,7 @@ use Rattle.sqlite.specs.Store.{Ghosts}
 use Rattle.sqlite.specs.Held.{Held}
 use Rattle.shell_text.specs.Print.{Settings}
 use Rattle.shell_text.specs.Words.{is_unclosed}
-use Rattle.ft_content.specs.Command.{Insert}
+use Rattle.ft_commands.specs.Command.{Insert}
 use Rattle.ft_calls.specs.Kept.{FullText}
 use Rattle.ft_calls.specs.Kept.{Call, Executed, Looked, Noted}
 use Rattle.ft_statements.specs.Words.{sql_tokens}

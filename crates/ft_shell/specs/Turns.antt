@@ -7,7 +7,7 @@ use Rattle.sqlite.specs.Store.{Ghosts}
 use Rattle.shell_text.specs.Units.{Member, Sql, Dot, Fault, members_of}
 use Rattle.shell_text.specs.Dot.{dot_words_of}
 use Rattle.ft_shell.specs.Shell.{Shell}
-use Rattle.ft_statements.specs.Texts.{split_text}
+use Rattle.shell_io.specs.Texts.{split_text}
 use Rattle.ft_statements.specs.Dots.{DotCommand, dot_command_of}
 use Rattle.ft_shell.specs.DotTurns.{DotTurn}
 use Rattle.ft_shell.specs.DotParts.{after_stop}

@@ -12,9 +12,9 @@ ghost use Rattle.ft_shell.specs.DotParts as parts;
 
 use crate::import::import_turn;
 use ft_calls::TextTables;
-use ft_statements::{DotCommand, FaultText, apply, dot_command, listed_tables, print_text};
+use ft_statements::{DotCommand, apply, dot_command, listed_tables, print_text};
 use plain_sql::found_tables;
-use shell_io::{Answer, Complaint, Output, Source};
+use shell_io::{Answer, Complaint, FaultText, Output, Source};
 use shell_text::{Settings, dot_words, write_names};
 use sqlite::{Alter, Connection};
 use std::alloc::Global;

@@ -7,10 +7,11 @@ ghost use Rattle.ft_shell.specs.DotTurns.{DotTurn};
 ghost use Rattle.ft_shell.specs.Shell.{shell_of};
 ghost use Rattle.ft_statements.specs.Dots.{Importing};
 ghost use Rattle.shell_io.specs.OutputViews.{answer_as};
-ghost use Rattle.ft_statements.specs.Views.{import_as, texts_of};
+ghost use Rattle.ft_statements.specs.Views.{import_as};
+ghost use Rattle.ft_commands.specs.Views.{texts_of};
 ghost use Rattle.ft_values.specs.Cells.{shown_value};
-ghost use Rattle.ft_content.specs.Command.{Insert};
-ghost use Rattle.ft_content.specs.Views as views;
+ghost use Rattle.ft_commands.specs.Command.{Insert};
+ghost use Rattle.ft_commands.specs.Views as views;
 ghost use Rattle.plain_sql.specs.Imports as forms;
 
 use crate::turns::note_turn;

@@ -13,11 +13,10 @@ ghost use Rattle.shell_io.specs.Writing.{SameWriters};
 
 use crate::turns::unit_turn;
 use ft_calls::{TextTables, kept_by_calls, kept_with_causes};
-use ft_statements::split_text;
 use ram_disk::Honest;
 use shell_io::{
     Complaint, LineReader, Outputs, Refusal, RunFault, Source, Status, echo_text, end_refusal,
-    first_line, flush, is_over, read_chunk, tell,
+    first_line, flush, is_over, read_chunk, split_text, tell,
 };
 use shell_text::{Settings, SplitFault, Unit, blocks_read_whole};
 use sqlite::{Alter, Connection};

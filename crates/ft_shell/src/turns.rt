@@ -10,7 +10,7 @@ ghost use Rattle.ft_shell.specs.PlainTurns.{CommandTurn, PlainTurn, OrNothing};
 ghost use Rattle.shell_text.specs.Words.{words_of};
 ghost use Rattle.ft_statements.specs.Plain.{seeks};
 ghost use Rattle.ft_statements.specs.Words.{sql_tokens};
-ghost use Rattle.ft_content.specs.Views as views;
+ghost use Rattle.ft_commands.specs.Views as views;
 
 use crate::dot_turn::dot_line_turn;
 use ft_calls::TextTables;

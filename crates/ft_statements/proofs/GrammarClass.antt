@@ -3,7 +3,7 @@ use Rattle.std.proofs.Common.{◌≡◌, ℕ, Bool, true, false, cond, ◌&&◌,
 use Rattle.std.specs.Option.{option_map_or}
 use Rattle.std.proofs.lemmas.List.Folds.{Any-from_list_any, list_any-from_Any}
 use Rattle.ft_values.specs.Names.{same_name}
-use Rattle.ft_content.specs.Command.{Command}
+use Rattle.ft_commands.specs.Command.{Command}
 use Rattle.ft_statements.proofs.Common.{Any, list_any, Form, Has, Token, spells, is_one_of, name_of, FrontRead, read, words, IsStatement, Class, Plain, FullText, is_table, names_table, is_full_text, lead_words, IsTable, table_name, IsFullText, makes_virtual, names_one, HasClass, plain_class, full_text_class}
 use Rattle.ft_statements.specs.Grammar.{done, statement}
 use Rattle.ft_statements.specs.Statements.{spelled_command, class_of}

@@ -2,8 +2,8 @@
 use Rattle.std.proofs.Common.{◌≡◌, ℕ, zero, suc, ◌+◌, ◌-◌, ◌<◌, ◌≤◌, Bool, true, false, cond, ◌&&◌, ◌==◌, List, [], ◌∷◌, ◌++◌, length, map, drop, take, get_or, Some, None, refl, sym, ap, ◌∙◌, arith, codes, Result, Ok, Err}
 use Rattle.std.specs.Result.{IsErr, IsErrAnd}
 use Rattle.ft_statements.proofs.Common.{drop_more, take_more, drop_all, take_all, map-append, length-drop, length-map, begins, ends_part, Token, spells, ◌>>=◌, FrontRead, onto_read, list_at, balanced_at, depth_after, read, spelled, mark_of, seen, plain, rest_of, Advances}
-use Rattle.ft_statements.specs.declared.statement.StatementFault.{StatementFault}
-use Rattle.ft_statements.specs.declared.statement.StatementFault.TheVariants.{Syntax}
+use Rattle.ft_commands.specs.declared.fault.StatementFault.{StatementFault}
+use Rattle.ft_commands.specs.declared.fault.StatementFault.TheVariants.{Syntax}
 use Rattle.ft_statements.specs.declared.reading.Reader.{Reader}
 use Rattle.ft_statements.specs.declared.words.Token.{Token as RustToken}
 use Rattle.ft_statements.proofs.FormLaw.{all_onto, onto_all, all_there, some_inj, goes}

@@ -2,8 +2,8 @@
 use Rattle.std.proofs.Common.{◌≡◌, refl, [], ◌∷◌, codes, Some, None, true, false, pos, negsuc, encode_utf8_all}
 use Rattle.std.specs.Str.{chars}
 use Rattle.shell_text.specs.Words.{pieces_from, turn, begun}
-use Rattle.ft_content.specs.Content.{Null, Int, Text}
-use Rattle.ft_content.specs.Command.{All, Docid, Match, AllColumns, Named, OffsetsOf, Counted, Listed, Create, Drop, Insert, Update, Delete, Select, Rebuild, Check}
+use Rattle.ft_values.specs.Cells.{Null, Int, Text}
+use Rattle.ft_commands.specs.Command.{All, Docid, Match, AllColumns, Named, OffsetsOf, Counted, Listed, Create, Drop, Insert, Update, Delete, Select, Rebuild, Check}
 use Rattle.ft_statements.proofs.Common.{sql_tokens, Plain, FullText, asks, made_name}
 use Rattle.ft_statements.specs.Statements.{class_of, spelled_command}
 use Rattle.ft_statements.specs.Plain.{temporary}

@@ -6,7 +6,6 @@ pub mod Create
 pub mod Statements
 pub mod Plain
 pub mod Dots
-pub mod Texts
 pub mod Replies
 pub mod Settings
 pub mod Grammar

@@ -8,8 +8,8 @@ use Rattle.std.specs.Cmp.Lexicographic.{slice_cmp}
 use Rattle.shell_text.specs.Print as print
 use Rattle.shell_text.specs.Print.{Settings, PrintedTable, printed}
 use Rattle.ft_values.specs.Names.{same_name}
-use Rattle.ft_content.specs.Content.{Cell, Null, Int, Text}
-use Rattle.ft_content.specs.Command.{Grid, Reply, Done, Rows}
+use Rattle.ft_values.specs.Cells.{Cell, Null, Int, Text}
+use Rattle.ft_commands.specs.Command.{Grid, Reply, Done, Rows}
 
 -- a cell as a value that is printed
 abbrev pub cell_value : Cell → print.Value

@@ -4,7 +4,7 @@ use Rattle.std.specs.Prelude.{◌≡◌, ℕ, Bool, true, false, ◌&&◌, ◌||
 use Rattle.std.specs.List.{Any, list_any}
 use Rattle.std.specs.Option.{option_map_or}
 use Rattle.ft_values.specs.Names.{same_name}
-use Rattle.ft_content.specs.Command.{Command}
+use Rattle.ft_commands.specs.Command.{Command}
 use Rattle.ft_statements.specs.Words.{Token, spells, is_one_of, name_of}
 use Rattle.ft_statements.specs.Reading.{found, read}
 use Rattle.ft_statements.specs.Grammar.{words, statement, IsStatement}

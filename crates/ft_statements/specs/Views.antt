@@ -2,13 +2,13 @@
 use Rattle.std.specs.Prelude.{ℕ, ◌≡◌, Bool, true, false, List, map, Option, Some, None, Result, option_map, string_bytes, String, Vec, IfOk, OnErr, IsErrOf}
 use Rattle.std.specs.declared.alloc.Global.{Global}
 use Rattle.std.specs.Borrow.{Bor}
-use Rattle.ft_content.specs.Views.{command_of}
+use Rattle.ft_commands.specs.Views.{command_of}
 use Rattle.ft_statements.specs.declared.words.Token.{Token as RustToken}
 use Rattle.ft_statements.specs.declared.reading.Reader.{Reader}
 use Rattle.ft_statements.specs.declared.create.Argument.{Argument}
 use Rattle.ft_statements.specs.declared.create.Argument.TheVariants as arguments
-use Rattle.ft_statements.specs.declared.statement.StatementFault.{StatementFault}
-use Rattle.ft_statements.specs.declared.statement.StatementFault.TheVariants.{Syntax}
+use Rattle.ft_commands.specs.declared.fault.StatementFault.{StatementFault}
+use Rattle.ft_commands.specs.declared.fault.StatementFault.TheVariants.{Syntax}
 use Rattle.ft_statements.specs.declared.statement.Class.{Class}
 use Rattle.ft_statements.specs.declared.statement.Class.TheVariants as classes
 use Rattle.ft_statements.specs.declared.plain.PlainStatement.{PlainStatement}
@@ -32,9 +32,6 @@ plain tokens = map seen tokens
 -- the words that are still to be read
 abbrev pub rest_of : Reader → List Token
 rest_of reader = plain reader.left.now
-
-abbrev pub texts_of : {A : Type 0} → Vec (String Global) A → List (List ℕ)
-texts_of texts = map string_bytes texts.items
 
 abbrev pub argument_as : Argument → makes.Argument
 argument_as (arguments.Setting name value) = makes.Setting (string_bytes name) (string_bytes value)

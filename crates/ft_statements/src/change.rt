@@ -1,15 +1,15 @@
 //! Filters, UPDATE and DELETE.
 ghost use Rattle.std.specs.Prelude.{◌≡◌, List, ℕ};
-ghost use Rattle.ft_content.specs.Content.{Cell};
-ghost use Rattle.ft_content.specs.Views as views;
+ghost use Rattle.ft_values.specs.Cells.{Cell};
+ghost use Rattle.ft_commands.specs.Views as views;
 ghost use Rattle.ft_statements.specs.Reading.{read};
 ghost use Rattle.ft_statements.specs.Grammar as forms;
 ghost use Rattle.ft_statements.specs.Views.{rest_of, Advances, Passes};
 
 use crate::reading::{Reader, Spelled};
-use crate::statement::StatementFault;
 use crate::values::integer;
-use ft_content::{Command, Deletion, Filter, Modification, Value};
+use ft_commands::{Command, Deletion, Filter, Modification, StatementFault};
+use ft_values::Value;
 
 /// Passes one of the names of the docid.
 #[tactic(auto, unfolding(crate::specs::Grammar::key))]

@@ -1,15 +1,14 @@
 //! CREATE VIRTUAL TABLE and DROP TABLE.
 ghost use Rattle.std.specs.Prelude.{◌≡◌, map, string_bytes, IfOk};
-ghost use Rattle.ft_content.specs.Views as views;
+ghost use Rattle.ft_commands.specs.Views as views;
 ghost use Rattle.ft_statements.specs.Create as makes;
 ghost use Rattle.ft_statements.specs.Reading.{read};
 ghost use Rattle.ft_statements.specs.Grammar as forms;
 ghost use Rattle.ft_statements.specs.Views.{plain, argument_as, Advances};
 
 use crate::reading::{Reader, Spelled};
-use crate::statement::StatementFault;
 use crate::words::{Token, bare, literal_of, name_of};
-use ft_content::{Command, Creation};
+use ft_commands::{Command, Creation, StatementFault};
 use std::alloc::{AllocError, Global};
 
 /// An argument: an option with its value, or a column.
@@ -125,7 +124,7 @@ fn sorted(
 ) -> Result<(Vec<(String, String)>, Vec<String>), AllocError>
     ensures { IfOk result (λ sorted.
         (map views.option_of sorted.0.items ≡ makes.settings_in (map argument_as arguments.items))
-        × (views.names_in sorted.1 ≡ makes.columns_in (map argument_as arguments.items))) }
+        × (views.texts_of sorted.1 ≡ makes.columns_in (map argument_as arguments.items))) }
 {
     let mut options = Vec::new(alloc);
     let mut columns = Vec::new(alloc);

@@ -1,14 +1,15 @@
 //! INSERT and the special commands.
 ghost use Rattle.std.specs.Prelude.{◌≡◌, List, option_map, string_bytes};
-ghost use Rattle.ft_content.specs.Content.{Cell};
-ghost use Rattle.ft_content.specs.Views as views;
+ghost use Rattle.ft_values.specs.Cells.{Cell};
+ghost use Rattle.ft_commands.specs.Views as views;
 ghost use Rattle.ft_statements.specs.Reading.{read};
 ghost use Rattle.ft_statements.specs.Grammar as forms;
-ghost use Rattle.ft_statements.specs.Views.{texts_of, Gives, Advances};
+ghost use Rattle.ft_statements.specs.Views.{Gives, Advances};
+ghost use Rattle.ft_commands.specs.Views.{texts_of};
 
 use crate::reading::{Reader, Spelled};
-use crate::statement::StatementFault;
-use ft_content::{Command, Insertion, Value};
+use ft_commands::{Command, Insertion, StatementFault};
+use ft_values::Value;
 
 // The special command of this word.
 fn special_of(table: String, word: &str) -> Result<Command, StatementFault>

@@ -1,7 +1,7 @@
 //! Laws of the definitions.
 ghost use Rattle.std.specs.Prelude.{◌≡◌, ◌↔◌, ℕ, List, [], ◌∷◌, ◌++◌, Some, None, true, false};
 ghost use Rattle.shell_text.specs.WordForms.{IsInMarks};
-ghost use Rattle.ft_content.specs.Command.{Command};
+ghost use Rattle.ft_commands.specs.Command.{Command};
 ghost use Rattle.ft_statements.specs.Words.{Token, StandsFor, halved, closing, between_marks};
 ghost use Rattle.ft_statements.specs.Plain.{Asks, Makes, asks, made_name};
 ghost use Rattle.ft_statements.specs.Statements.{Class, spelled_command, class_of, HasClass};

@@ -1,4 +1,4 @@
-//! The language of the shell: its statements, its dot-commands, and the texts that answer them.
+//! The language of the shell: its statements and its dot-commands, and how replies are printed.
 #![tactic(auto)]
 
 mod change;
@@ -13,7 +13,6 @@ mod select;
 mod setting;
 mod statement;
 mod tables;
-mod texts;
 mod values;
 mod words;
 
@@ -25,6 +24,6 @@ pub use crate::laws::{
 pub use crate::plain::{PlainStatement, read_plain};
 pub use crate::replies::write_reply;
 pub use crate::setting::{apply, print_text};
-pub use crate::statement::{Class, StatementFault, read_statement};
+pub use crate::statement::{Class, read_statement};
 pub use crate::tables::listed_tables;
-pub use crate::texts::{FaultText, fault_text, split_text, statement_text};
+pub use ft_commands::StatementFault;

@@ -8,8 +8,8 @@ ghost use Rattle.ft_statements.specs.Plain as forms;
 ghost use Rattle.ft_statements.specs.Views.{seen, plain, rest_of, Gives, IsRunAs};
 
 use crate::reading::Reader;
-use crate::statement::StatementFault;
 use crate::words::{Token, is_one_of, is_word, tokens_of};
+use ft_commands::StatementFault;
 use shell_text::SqlWord;
 use std::alloc::{AllocError, Global};
 

@@ -1,6 +1,6 @@
 //! Reading words from the front of a statement.
 ghost use Rattle.std.specs.Prelude.{◌≡◌, ◌≤◌, ◌+◌, ◌-◌, ◌==◌, ◌&&◌, codes, ◌<◌, OnOk, ◌^◌, string_bytes, IfOk, ℕ, List, map, length, Some, Ok, IfErr, Err};
-ghost use Rattle.ft_statements.specs.declared.statement.StatementFault.TheVariants.{Syntax};
+ghost use Rattle.ft_commands.specs.declared.fault.StatementFault.TheVariants.{Syntax};
 ghost use Rattle.ft_statements.specs.Forms.{Closes, one, begins, ends, ends_part};
 ghost use Rattle.ft_statements.specs.Words as words;
 ghost use Rattle.ft_statements.specs.Words.{Token};
@@ -9,8 +9,8 @@ ghost use Rattle.ft_statements.specs.Reading.{FrontRead, read, list_at};
 ghost use Rattle.ft_statements.specs.Grammar as forms;
 ghost use Rattle.ft_statements.specs.Views.{seen, plain, rest_of, Advances, Passes, Takes};
 
-use crate::statement::StatementFault;
 use crate::words::{Token, is_word, literal_of, name_of};
+use ft_commands::StatementFault;
 use std::alloc::Global;
 
 /// The words of a statement that are still to be read.

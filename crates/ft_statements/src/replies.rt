@@ -3,10 +3,11 @@ ghost use Rattle.std.specs.Prelude.{◌≡◌, map, IfOk};
 ghost use Rattle.shell_text.specs.Print as print;
 ghost use Rattle.shell_text.specs.Print.{Prints};
 ghost use Rattle.ft_values.specs.Cells.{shown_value};
-ghost use Rattle.ft_content.specs.Views as views;
+ghost use Rattle.ft_commands.specs.Views as views;
 ghost use Rattle.ft_statements.specs.Replies as forms;
 
-use ft_content::{Reply, Value};
+use ft_commands::Reply;
+use ft_values::Value;
 use shell_text::{Cell, Grid, PrintFault, Settings, write_grid};
 use std::alloc::{AllocError, Global};
 use std::io::Write;
@@ -45,7 +46,7 @@ fn rows_of(alloc: Global, rows: Vec<Vec<Value>>) -> Result<Vec<Vec<Cell>>, Alloc
 }
 
 // A grid as it is printed.
-fn grid_of(alloc: Global, grid: ft_content::Grid) -> Result<Grid, AllocError>
+fn grid_of(alloc: Global, grid: ft_commands::Grid) -> Result<Grid, AllocError>
     ensures { IfOk result (λ shown. print.table_of shown
         ≡ forms.printed_table (views.grid_of grid)) }
 {

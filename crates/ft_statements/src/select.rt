@@ -1,16 +1,15 @@
 //! SELECT.
 ghost use Rattle.std.specs.Prelude.{◌≡◌};
-ghost use Rattle.ft_content.specs.Command as commands;
-ghost use Rattle.ft_content.specs.Views as views;
+ghost use Rattle.ft_commands.specs.Command as commands;
+ghost use Rattle.ft_commands.specs.Views as views;
 ghost use Rattle.ft_statements.specs.Reading.{read};
 ghost use Rattle.ft_statements.specs.Grammar as forms;
 ghost use Rattle.ft_statements.specs.Views.{Advances};
 
 use crate::change::{filter, key};
 use crate::reading::{Reader, Spelled};
-use crate::statement::StatementFault;
 use crate::values::count;
-use ft_content::{Command, Item, Items, Selection};
+use ft_commands::{Command, Item, Items, Selection, StatementFault};
 
 // The call of `offsets`.
 #[tactic(auto, unfolding(crate::specs::Grammar::offsets))]

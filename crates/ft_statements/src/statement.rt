@@ -1,8 +1,8 @@
 //! Which class a statement is of.
 ghost use Rattle.std.specs.Prelude.{◌≡◌, IfOk};
 ghost use Rattle.shell_text.specs.Words.{words_of};
-ghost use Rattle.ft_content.specs.Views as views;
-ghost use Rattle.ft_statements.specs.declared.statement.StatementFault.TheVariants.{Memory};
+ghost use Rattle.ft_commands.specs.Views as views;
+ghost use Rattle.ft_values.specs.Names.{info_names};
 ghost use Rattle.ft_statements.specs.Words as tokens;
 ghost use Rattle.ft_statements.specs.Reading.{read};
 ghost use Rattle.ft_statements.specs.Grammar as grammar;
@@ -15,42 +15,16 @@ use crate::insert::insert;
 use crate::reading::Reader;
 use crate::select::select;
 use crate::words::{Token, is_one_of, name_of, tokens_of};
-use ft_content::{Command, TableInfo};
-use ft_values::has_table;
+use ft_commands::{Command, StatementFault};
+use ft_values::{TableInfo, has_table};
 use shell_text::SqlWord;
-use std::alloc::{AllocError, AllocFailed, Global};
-use thiserror::Error;
+use std::alloc::{AllocError, Global};
 
 /// Who runs a statement: plain SQL, or full-text tables.
 #[derive(Debug, Drop)]
 pub enum Class {
     Plain,
     FullText(Command),
-}
-
-/// Why a statement has no class, in the order of the tests.
-#[derive(Clone, Copy, Debug, PartialEq, Eq, Error)]
-pub enum StatementFault {
-    #[error("unsupported full-text statement")]
-    Syntax,
-    #[error("out of memory")]
-    Memory,
-}
-
-impl From<AllocError> for StatementFault {
-    ghost from_gives = { λ _ fault. fault ≡ Memory };
-
-    fn from(_error: AllocError) -> StatementFault {
-        StatementFault::Memory
-    }
-}
-
-impl<T: Drop> From<AllocFailed<T>> for StatementFault {
-    ghost from_gives = { λ _ fault. fault ≡ Memory };
-
-    fn from(_error: AllocFailed<T>) -> StatementFault {
-        StatementFault::Memory
-    }
 }
 
 // A command, by its first word.
@@ -88,7 +62,7 @@ const LEADS: [&str; 6] = ["FROM", "INTO", "UPDATE", "TABLE", "JOIN", "EXISTS"];
 
 // Whether this word is the name of one of these tables.
 fn is_table(alloc: Global, tables: &[TableInfo], word: &Token<'_>) -> Result<bool, AllocError>
-    ensures { IfOk result (λ is. is ≡ forms.is_table (views.info_names tables.now)
+    ensures { IfOk result (λ is. is ≡ forms.is_table (info_names tables.now)
         (seen word.now)) }
 {
     match name_of(alloc, word) {
@@ -100,7 +74,7 @@ fn is_table(alloc: Global, tables: &[TableInfo], word: &Token<'_>) -> Result<boo
 
 // Whether one of these tables is named after a word that leads to it.
 fn names_table(alloc: Global, tables: &[TableInfo], words: &[Token<'_>]) -> Result<bool, AllocError>
-    ensures { IfOk result (λ names. names ≡ forms.names_table (views.info_names tables.now)
+    ensures { IfOk result (λ names. names ≡ forms.names_table (info_names tables.now)
         (plain words.now)) }
 {
     for place in 1..words.len() {
@@ -112,7 +86,7 @@ fn names_table(alloc: Global, tables: &[TableInfo], words: &[Token<'_>]) -> Resu
 }
 
 fn is_full_text(mut words: Reader<'_>, tables: &[TableInfo]) -> Result<bool, AllocError>
-    ensures { IfOk result (λ is. is ≡ forms.is_full_text (views.info_names tables.now)
+    ensures { IfOk result (λ is. is ≡ forms.is_full_text (info_names tables.now)
         (rest_of words.entry)) }
 {
     if words.takes_all(&["CREATE", "VIRTUAL"]) {
@@ -134,7 +108,7 @@ pub fn read_statement(
     tables: &[TableInfo],
 ) -> Result<Class, StatementFault>
     requires { words.now ≡ words_of text.now }
-    ensures { ReadsClass (views.info_names tables.now) (tokens.sql_tokens text.now) result }
+    ensures { ReadsClass (info_names tables.now) (tokens.sql_tokens text.now) result }
 {
     let tokens = tokens_of(alloc, text, words)?;
     let left = tokens.as_slice();

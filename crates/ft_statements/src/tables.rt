@@ -1,22 +1,22 @@
 //! The names that `.tables` lists.
 ghost use Rattle.std.specs.Prelude.{◌≡◌, ◌++◌, map, not, filter, string_bytes, IfOk};
-ghost use Rattle.ft_content.specs.Views as views;
+ghost use Rattle.ft_values.specs.Names.{info_names};
 ghost use Rattle.ft_statements.specs.Replies as forms;
-ghost use Rattle.ft_statements.specs.Views.{texts_of};
+ghost use Rattle.ft_commands.specs.Views.{texts_of};
 
-use ft_content::TableInfo;
+use ft_values::TableInfo;
 use std::alloc::{AllocError, Global};
 
 // Whether one of these tables has this name.
 fn has_table(tables: &[TableInfo], name: &str) -> bool
-    ensures { result ≡ forms.is_own (views.info_names tables.now) name.now }
+    ensures { result ≡ forms.is_own (info_names tables.now) name.now }
 {
     ft_values::has_table(tables, name)
 }
 
 // The names of full-text tables.
 fn own_names(alloc: Global, tables: &[TableInfo]) -> Result<Vec<String>, AllocError>
-    ensures { IfOk result (λ names. texts_of names ≡ views.info_names tables.now) }
+    ensures { IfOk result (λ names. texts_of names ≡ info_names tables.now) }
 {
     let mut names = Vec::new(alloc);
     for table in tables {
@@ -32,7 +32,7 @@ fn all_names(
     found: Vec<String>,
 ) -> Result<Vec<String>, AllocError>
     ensures { IfOk result (λ names. texts_of names
-        ≡ forms.listed (views.info_names tables.now) (texts_of found)) }
+        ≡ forms.listed (info_names tables.now) (texts_of found)) }
 {
     let mut names = own_names(alloc, tables)?;
     for name in found {
@@ -51,7 +51,7 @@ pub fn listed_tables(
     found: Vec<String>,
 ) -> Result<Vec<String>, AllocError>
     ensures { IfOk result (λ names. forms.AreSorted
-        (forms.listed (views.info_names tables.now) (texts_of found)) (texts_of names)) }
+        (forms.listed (info_names tables.now) (texts_of found)) (texts_of names)) }
 {
     let mut names = all_names(alloc, tables, found)?;
     names.sort()?;

@@ -1,16 +1,16 @@
 //! Values of a statement.
 ghost use Rattle.std.specs.Prelude.{◌≡◌, ◌+◌, ◌^◌, min, option_map, Some};
 ghost use Rattle.ft_values.specs.Cells.{shown_value};
-ghost use Rattle.ft_content.specs.Content.{Cell};
+ghost use Rattle.ft_values.specs.Cells.{Cell};
 ghost use Rattle.ft_statements.specs.Values as numbers;
 ghost use Rattle.ft_statements.specs.Reading.{read};
 ghost use Rattle.ft_statements.specs.Grammar as forms;
 ghost use Rattle.ft_statements.specs.Views.{seen, rest_of, Gives, Advances};
 
 use crate::reading::{Reader, Spelled};
-use crate::statement::StatementFault;
 use crate::words::Token;
-use ft_content::Value;
+use ft_commands::StatementFault;
+use ft_values::Value;
 use shell_text::SqlKind;
 
 // The size of the least number of 64 bits.

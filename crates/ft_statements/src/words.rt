@@ -5,7 +5,7 @@ ghost use Rattle.shell_text.specs.Words.{words_of};
 ghost use Rattle.ft_statements.specs.Words as forms;
 ghost use Rattle.ft_statements.specs.Views.{seen, plain, Gives};
 
-use crate::statement::StatementFault;
+use ft_commands::StatementFault;
 use shell_text::{SqlKind, SqlWord, words_on_characters};
 use std::alloc::{AllocError, Global};
 

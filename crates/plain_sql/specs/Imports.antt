@@ -4,7 +4,7 @@ use Rattle.std.specs.Prelude.{ℕ, Bool, ◌==◌, List, [], ◌∷◌, ◌++◌
 use Rattle.std.specs.List.{flat_map}
 use Rattle.shell_text.specs.Print.{Settings, is_csv_separator}
 use Rattle.shell_text.specs.Words.{first_byte}
-use Rattle.ft_content.specs.Content.{Cell, Null, Text}
+use Rattle.ft_values.specs.Cells.{Cell, Null, Text}
 use Rattle.shell_io.specs.Records.{fitted}
 
 -- ---- texts for sqlite

@@ -7,8 +7,7 @@ ghost use Rattle.ft_statements.specs.Plain as forms;
 ghost use Rattle.ft_statements.specs.Words.{sql_tokens};
 
 use crate::answers::row_print;
-use ft_statements::FaultText;
-use shell_io::{Answer, Complaint};
+use shell_io::{Answer, Complaint, FaultText};
 use shell_text::Settings;
 use sqlite::{Alter, Connection, Error, ErrorCode, Row, Statement};
 use std::alloc::{AllocError, Global};

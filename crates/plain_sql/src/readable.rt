@@ -2,7 +2,7 @@
 ghost use Rattle.std.specs.Result.{result_ok};
 ghost use Rattle.plain_sql.specs.Listings.{Tries, Finds, StopsTrying};
 ghost use Rattle.std.specs.Prelude.{map, string_bytes, IfOk, OnErr};
-ghost use Rattle.ft_statements.specs.Views.{texts_of};
+ghost use Rattle.ft_commands.specs.Views.{texts_of};
 
 use crate::imports::reading_text;
 use crate::queries::is_memory_error;

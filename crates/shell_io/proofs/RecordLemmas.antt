@@ -5,7 +5,7 @@ use Rattle.std.specs.List.{enumerate_from}
 use Rattle.std.proofs.lemmas.List.{append-nil, take_more, map-append, length-map, length-replicate, length-take-le}
 use Rattle.std.proofs.lemmas.Grind.{flat_map-append}
 use Rattle.shell_io.specs.Records.{warning, warnings}
-use Rattle.ft_statements.specs.Views.{texts_of}
+use Rattle.ft_commands.specs.Views.{texts_of}
 
 -- ---- fields
 

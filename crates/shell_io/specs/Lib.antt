@@ -2,6 +2,7 @@
 pub mod Records
 pub mod Outcomes
 pub mod Sources
+pub mod Texts
 pub mod Writing
 -- Steps
 pub mod FaultWords

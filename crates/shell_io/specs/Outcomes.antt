@@ -2,7 +2,7 @@
 -- beside the section "Special commands to sqlite3" of "Command Line Shell For SQLite".
 use Rattle.std.specs.Prelude.{ℕ, ◌≡◌, ◌⊎◌, Bool, true, false, if◌then◌else◌, List, [], ◌∷◌, ◌++◌, Option, Some, None, is_some, codes}
 use Rattle.shell_text.specs.Print.{Settings}
-use Rattle.ft_statements.specs.Texts.{fault_line}
+use Rattle.shell_io.specs.Texts.{fault_line}
 
 -- what one or more turns write on the two outputs, how many fault lines are among it, and whether the session ends there
 pub record Outcome : Type 0 where

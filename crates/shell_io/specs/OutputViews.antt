@@ -1,7 +1,7 @@
 -- Steps. What a turn answers as the code holds it.
 use Rattle.std.specs.Prelude.{ℕ, List, [], Option, Some, None, Result, Ok, Err, String, string_bytes}
 use Rattle.std.specs.declared.alloc.Global.{Global}
-use Rattle.ft_statements.specs.Texts.{text_as}
+use Rattle.shell_io.specs.Texts.{text_as}
 use Rattle.shell_io.specs.declared.output.Complaint.{Complaint}
 use Rattle.shell_io.specs.declared.output.Output.{Output}
 use Rattle.shell_io.specs.declared.output.Output.TheVariants as outputs

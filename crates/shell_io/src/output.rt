@@ -1,14 +1,15 @@
 //! What a turn of a session has to say, or why it does nothing.
 ghost use Rattle.std.specs.Prelude.{◌≡◌, string_bytes};
-ghost use Rattle.ft_statements.specs.Texts.{fault_text, statement_text, text_as};
+ghost use Rattle.shell_io.specs.Texts.{fault_text, statement_text, text_as};
 ghost use Rattle.shell_io.specs.Outcomes as forms;
 ghost use Rattle.shell_io.specs.OutputViews.{complaint_as};
 ghost use Rattle.shell_io.specs.Sources.{fetch_words};
 ghost use Rattle.shell_io.specs.FaultWords.{lex_words, record_words, set_words};
 
 use crate::source::SourceFault;
-use ft_content::Fault;
-use ft_statements::{FaultText, StatementFault, fault_text, statement_text};
+use crate::texts::{FaultText, fault_text, statement_text};
+use ft_commands::StatementFault;
+use ft_values::Fault;
 use shell_text::{LexFault, PrintFault, RecordFault, SetFault};
 use std::alloc::{AllocError, AllocFailed};
 

@@ -2,7 +2,7 @@
 ghost use Rattle.std.specs.Prelude.{◌≡◌, ◌+◌, ◌^◌, ◌<◌, ◌++◌, drop, length, map, min, option_map, slice_get, string_bytes, unwrap_or, IfOk, OnOk};
 ghost use Rattle.std.specs.List.{enumerate_from};
 ghost use Rattle.shell_io.specs.Records as forms;
-ghost use Rattle.ft_statements.specs.Views.{texts_of};
+ghost use Rattle.ft_commands.specs.Views.{texts_of};
 
 use std::alloc::{AllocError, Global};
 use std::fmt::Write;

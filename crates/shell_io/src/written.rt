@@ -3,11 +3,11 @@ ghost use Rattle.std.specs.Prelude.{◌++◌, ◌∷◌, []};
 ghost use Rattle.std.specs.List.{flat_map};
 ghost use Rattle.shell_io.specs.Outcomes.{fault_lines};
 ghost use Rattle.shell_io.specs.OutputViews.{answer_as, lines_as};
-ghost use Rattle.ft_statements.specs.Texts.{fault_line, text_as};
+ghost use Rattle.shell_io.specs.Texts.{fault_line, text_as};
 ghost use Rattle.shell_io.specs.Writing.{Sends};
 
 use crate::output::{Answer, Complaint, Output};
-use ft_statements::FaultText;
+use crate::texts::FaultText;
 use itoa::Buffer;
 use shell_text::write_out;
 use std::io::Write;

@@ -2,12 +2,12 @@
 use Rattle.std.proofs.Common.{to_z, of_z, ◌≡◌, ◌++◌, ℕ, ℤ, Bool, false, cond, string_bytes, List, [], ◌∷◌, map, sym, ap, ◌∙◌, rules, option_and_then, slice_get, unwrap_or}
 use Rattle.std.proofs.lemmas.Grind.{common_steps}
 use Rattle.ft_content.proofs.Common.{flat_map, w64, map-append, take_all, Value, Cell, Int, Null, Text, shown_value, is_docid, cells_with, column_place, offsets_cell, bare_content, cells_of, item_of}
-use Rattle.ft_content.specs.declared.command.Item.{Item}
+use Rattle.ft_commands.specs.declared.command.Item.{Item}
 use Rattle.ft_content.proofs.AnswerLemmas.{item_cells_are, offsets_unasked}
 use Rattle.ft_content.proofs.Lists.{copies}
 use Rattle.ft_content.proofs.select.item_row.Goals.{Joined-item, in-All+in_ok-extend_with_clones-in-All, in-Name+in_ok-push-in-Name, in-Name-2+in_ok-cell_named-in-Name-2+in_ok-push-in-Name-2, in-Offsets+in_ok-to_string-in-Offsets+in_ok-push-in-Offsets}
 use Rattle.ft_values.specs.declared.rows.Value.TheVariants as value
-use Rattle.ft_content.specs.Command as plain
+use Rattle.ft_commands.specs.Command as plain
 use Rattle.ft_content.proofs.select.item_row.Goals as goal
 
 whole : (c : goal.After-loop-item) → cells_of c.loop-item.row ≡ flat_map (cells_with (Text c.args.offsets.now) (bare_content c.args.columns.now) (c.args.docid, map shown_value c.args.cells.now)) (map item_of c.args.items.now)

@@ -3,7 +3,7 @@ use Rattle.std.proofs.Common.{◌≡◌, Bool, map, ◌||◌, ap, ◌∙◌, rul
 use Rattle.ft_content.proofs.Common.{list_any, YieldsList-from_slice, item_unknown, items_in, is_offsets, names_unknown, bare_content, filter_of, item_of, items_of}
 use Rattle.ft_content.proofs.Lists.{any_shown}
 use Rattle.ft_content.proofs.select.select_tests.Goals.{Joined-items, in-Count, in-List, After-any-is_unknown, Joined-is_unknown, then-is_unknown, else-is_unknown, After-any_offsets, else-any_offsets-via-then-any_offsets+else-not-matches, else-any_offsets-via-else-any_offsets, in-Match, in_default}
-use Rattle.ft_content.specs.Command as plain
+use Rattle.ft_commands.specs.Command as plain
 use Rattle.ft_content.proofs.select.select_tests.Goals as goal
 
 listed : (c : Joined-items) → map item_of c.match-items.listed.now ≡ items_in (items_of c.args.items.now)

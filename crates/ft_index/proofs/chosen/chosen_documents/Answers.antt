@@ -4,7 +4,7 @@ use Rattle.ft_index.proofs.Common.{find, Value, Document, shown_document, docume
 use Rattle.ft_index.proofs.Common.{IfOk-weaker, map-map, Hit, Tree, tree_of, plain_hit, Match, chosen, cells_of, filter_of, HasRows, Looks, IsIndexed}
 use Rattle.ft_index.proofs.Common.{ReadsFilterAs, document_at, chosen_hits, as_wanted, more_rows, AreThere}
 use Rattle.std.specs.declared.alloc.AllocError.{AllocError}
-use Rattle.ft_content.specs.declared.command.Filter.{Filter}
+use Rattle.ft_commands.specs.declared.command.Filter.{Filter}
 use Rattle.ft_documents.proofs.{chosen_all, chosen_one, of_hits}
 use Rattle.ft_index.proofs.Doing.{rows_then, index_first, on_ok_from, then_blamed, has_at, index_in, hits_there}
 use Rattle.ft_index.proofs.SelectAnswers.{one_rows}

@@ -1,10 +1,10 @@
 -- by what each command counts, and what it was found to write
 use Rattle.std.proofs.Common.{List, map, option_map, string_bytes, sym, subst, subst₂, refl}
-use Rattle.ft_index.proofs.Common.{shown_info, names_in, rows_of, set_of, filter_of, command_of, insertion_of, modification_of, answer_of, Does}
+use Rattle.ft_index.proofs.Common.{shown_info, texts_of, rows_of, set_of, filter_of, command_of, insertion_of, modification_of, answer_of, Does}
 use Rattle.ft_index.proofs.Common.{with_tables, CountsRows, BlamesDone}
-use Rattle.ft_content.specs.declared.command.Command.{Command}
+use Rattle.ft_commands.specs.declared.command.Command.{Command}
 use Rattle.ft_values.specs.declared.table.TableInfo.{TableInfo}
-use Rattle.ft_content.specs.Command as plain
+use Rattle.ft_commands.specs.Command as plain
 use Rattle.ft_index.proofs.Doing.{counts_other}
 use Rattle.ft_index.proofs.InsertWrites as inserts
 use Rattle.ft_index.proofs.UpdateWrites as updates
@@ -14,7 +14,7 @@ pub returns-in-Insert-clause-does : goal.returns-in-Insert-clause-does
 returns-in-Insert-clause-does g c =
     let w = c.in-Insert.insertion in
     subst₂ (λ (ts : List TableInfo) (x : Command). Does g.S.Store (with_tables c.args.store.now (map shown_info ts)) (command_of x) c.write_found.result (with_tables c.write_found.new.store (map shown_info ts))) c.as_slice.ensures.value (sym c.in-Insert.is)
-    (c.write_found.ensures.answers c.args.store.now (map shown_info c.as_slice.result.now) (insertion_of w) (inserts.writes_table (option_map names_in w.columns) (rows_of w.rows) (string_bytes w.table)) c.insert_written-written.ensures.told c.insert_written-written.ensures.looks)
+    (c.write_found.ensures.answers c.args.store.now (map shown_info c.as_slice.result.now) (insertion_of w) (inserts.writes_table (option_map texts_of w.columns) (rows_of w.rows) (string_bytes w.table)) c.insert_written-written.ensures.told c.insert_written-written.ensures.looks)
 
 pub returns-in-Update-clause-does : goal.returns-in-Update-clause-does
 returns-in-Update-clause-does g c =

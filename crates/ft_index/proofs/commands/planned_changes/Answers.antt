@@ -3,8 +3,8 @@ use Rattle.std.proofs.Common.{inl, refl, rules, ◌≡◌, [], string_bytes, ℕ
 use Rattle.ft_index.proofs.Common.{Ghosts, StoreState, changes_of, Fault, RowChange, Change, shown_change, value_in, Reply, TableInfo, shown_info}
 use Rattle.ft_index.proofs.Common.{command_of, items_of, filter_of, IsUnfit, IsSoundNamed, answer_of, Answers, Looks, Written, WritesIn, PlansIn}
 use Rattle.ft_index.proofs.Common.{PlansTo}
-use Rattle.ft_content.specs.Command as plain
-use Rattle.ft_content.specs.declared.command.Command.{Command}
+use Rattle.ft_commands.specs.Command as plain
+use Rattle.ft_commands.specs.declared.command.Command.{Command}
 use Rattle.ft_values.specs.declared.fault.Fault.TheVariants as faults
 use Rattle.ft_index.proofs.SelectAnswers.{select_unplanned, select_fails, select_plans}
 use Rattle.ft_index.proofs.TablePlans.{check_plans, optimize_plans}

@@ -1,7 +1,7 @@
 -- all documents by their docids
 use Rattle.std.proofs.Common.{rules, ◌≡◌, ℤ, List, pos, length, to_z, w64, sym, ap, subst, ◌∙◌, to_z-of_z}
 use Rattle.ft_index.proofs.Common.{length-map, Cell, chosen, filter_of, more_rows, HasRows, count_asked}
-use Rattle.ft_content.specs.declared.command.Filter.{Filter}
+use Rattle.ft_commands.specs.declared.command.Filter.{Filter}
 use Rattle.ft_documents.proofs.{chosen_all}
 use Rattle.ft_index.proofs.select.chosen_count.Goals as goal
 

@@ -2,8 +2,8 @@
 use Rattle.std.proofs.Common.{Bool, sym, ◌∙◌, rules, tests}
 use Rattle.ft_index.proofs.Common.{YieldsList-from_slice, item_of, reads_document}
 use Rattle.std.proofs.lemmas.Iterator.Search.{any_from_yields_List}
-use Rattle.ft_content.specs.declared.command.Item.{Item}
-use Rattle.ft_content.specs.Command as plain
+use Rattle.ft_commands.specs.declared.command.Item.{Item}
+use Rattle.ft_commands.specs.Command as plain
 use Rattle.ft_index.proofs.SelectAnswers.{any_of_map}
 use Rattle.ft_index.proofs.select.has_column.Goals as goal
 

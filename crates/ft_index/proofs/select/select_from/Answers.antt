@@ -1,10 +1,10 @@
 -- by the table that is found, its query, and what was read
 use Rattle.std.proofs.Common.{◌≡◌, ℕ, ℤ, List, Option, Result, Err, map, option_map, Bor, string_bytes, sym, subst, ◌∙◌, to_z, of_z, w64, to_z-of_z, FitsSigned, rules, refl}
 use Rattle.ft_index.proofs.Common.{Tree, tree_of, Fault, Reply, RustTableInfo, answer_names, answer, Content, bare_content, shown_info, column_of}
-use Rattle.ft_index.proofs.Common.{items_of, filter_of, selection_of, names_in, answer_of, IsUnfit, IsSoundNamed, with_tables, Executes, IsAsked}
+use Rattle.ft_index.proofs.Common.{items_of, filter_of, selection_of, texts_of, answer_of, IsUnfit, IsSoundNamed, with_tables, Executes, IsAsked}
 use Rattle.ft_index.proofs.Common.{value_in}
 use Rattle.ft_values.specs.declared.table.Column.{Column}
-use Rattle.ft_content.specs.Views.{grid_of}
+use Rattle.ft_commands.specs.Views.{grid_of}
 use Rattle.ft_index.proofs.Doing.{executes_read, fault_answers, no_look, over_sound, has_at}
 use Rattle.ft_index.proofs.SelectAnswers.{names_bare, reads_passed, passed_tree, select_unplanned, select_fails, select_done, select_counts}
 use Rattle.ft_index.proofs.select.select_from.Goals as goal
@@ -61,7 +61,7 @@ returns-clause-executes g c =
     select_done g.S.Store c.args.store.now c.selected_rows.new.store tables (string_bytes select.table) items (filter_of select.filter) select.limit select.offset c.in_ok-rows.ensures.looks.only
     (shown_info info) named c.is_in_order.ensures.order (option_map tree_of c.in_ok-query.query) (grid_of (record { names = c.in_ok-names.names; rows = c.in_ok-rows.rows })) c.in_ok-query.ensures.fine c.in_ok-query.ensures.query (λ content asked.
     let rows = c.in_ok-rows.ensures.told content (asked_in g (goal.at.returns-clause-executes g c).After-selected_rows content asked) in
-    let names : names_in c.in_ok-names.names ≡ answer_names (string_bytes info.name) content items =
+    let names : texts_of c.in_ok-names.names ≡ answer_names (string_bytes info.name) content items =
     c.in_ok-names.ensures ∙ (λ i. answer_names (c.as_str-2.ensures.value i) (bare_content (c.as_slice-columns.ensures.value i)) items) ∙ names_bare (string_bytes info.name) columns content items asked.columns in
     λ i. record { names = names i; rows = rows i })
 

@@ -3,14 +3,14 @@ use Rattle.std.proofs.Common.{option_map, Bor, rules, ◌≡◌, ◌+◌, ◌-�
 use Rattle.ft_index.proofs.Common.{tree_of, list_any, length-map, IfOk-weaker, Hit, PlainHit, plain_hit, Cell, Content, Match, Listed, cut, is_match}
 use Rattle.ft_index.proofs.Common.{is_offsets, items_in, items_of, filter_of, column_of, item_of, Document, document_at, ReadsFilterAs, chosen_hits}
 use Rattle.ft_index.proofs.Common.{as_wanted, HasRows, reads_document, rows_asked, IsOf, IsIndexed, AreThere}
-use Rattle.ft_content.specs.declared.command.Item.{Item}
-use Rattle.ft_content.specs.declared.command.Items.{Items}
-use Rattle.ft_content.specs.Command.{All}
+use Rattle.ft_commands.specs.declared.command.Item.{Item}
+use Rattle.ft_commands.specs.declared.command.Items.{Items}
+use Rattle.ft_commands.specs.Command.{All}
 use Rattle.ft_content.specs.Answer.{answer_rows}
 use Rattle.ft_index.proofs.Doing.{held_first, held_then, on_ok_from, then_blamed, has_at, rows_in, index_in, hits_there, docids_there, bare_docids}
 use Rattle.ft_index.proofs.SelectAnswers.{hit_rows, hits_answered, as_many, counted_both, asked_items, bare_hit_rows, listed_rows_are, documents_again, document_rows_are, no_offsets, asked_count, asked_all, asked_whole}
 use Rattle.ft_content.proofs.{cut_of_map}
-use Rattle.ft_content.specs.declared.command.Filter.{Filter}
+use Rattle.ft_commands.specs.declared.command.Filter.{Filter}
 use Rattle.ft_index.proofs.select.selected_rows.Goals as goal
 use Rattle.ft_index.proofs.select.selected_rows.Goals.{After-hit_rows}
 

@@ -1,7 +1,7 @@
 -- by the table of the name, and its rows as they are read
 use Rattle.std.proofs.Common.{rules, ◌≡◌, inr, map, Err, Result, sym, subst, ◌∙◌}
 use Rattle.ft_index.proofs.Common.{value_in, Fault, Reply, shown_info, answer_of, Executes, HasState, with_tables, fault_of_read}
-use Rattle.ft_content.specs.Command as plain
+use Rattle.ft_commands.specs.Command as plain
 use Rattle.ft_index.proofs.Doing.{executes_read, no_look, is_refused}
 use Rattle.ft_index.proofs.OpenedTables.{told_here, check_missing, check_right, check_wrong}
 use Rattle.ft_store.specs.declared.fault.StoreFault.TheVariants as causes

@@ -1,7 +1,7 @@
 -- by the tests of the table
 use Rattle.std.proofs.Common.{rules, ◌≡◌, inr, map, Err, Result, sym, subst}
 use Rattle.ft_index.proofs.Common.{Fault, Reply, shown_info, answer_of, Answers}
-use Rattle.ft_content.specs.Command as plain
+use Rattle.ft_commands.specs.Command as plain
 use Rattle.ft_index.proofs.OneTable.{optimize_fine, optimize_unfit, optimize_keeps}
 use Rattle.ft_index.proofs.TablePlans.{refused_answers}
 use Rattle.ft_index.proofs.special.optimize.Goals as goal

@@ -1,7 +1,7 @@
 -- by what is to be made anew
 use Rattle.std.proofs.Common.{rules, ◌≡◌, ◌∷◌, map, None, Some, Ok, Err, Result, Vec, Global, sym, ap, subst, ◌∙◌}
 use Rattle.ft_index.proofs.Common.{value_in, RowChange, shown_change, Fault, shown_info, PlansIn, RebuildsIn}
-use Rattle.ft_content.specs.Command as plain
+use Rattle.ft_commands.specs.Command as plain
 use Rattle.ft_index.proofs.RebuildPlans.{plan_missing}
 use Rattle.ft_index.proofs.special.rebuild_changes.Goals as goal
 use Rattle.ft_index.proofs.special.rebuild_changes.Goals.{After-rebuilt}

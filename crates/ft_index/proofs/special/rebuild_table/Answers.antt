@@ -2,8 +2,8 @@
 use Rattle.std.proofs.Common.{rules, ◌≡◌, inl, refl, List, map, Option, Some, Ok, Err, Result, sym, ap, subst, ◌∙◌, FitsSigned, w64, to_z-of_z}
 use Rattle.ft_index.proofs.Common.{value_in, Fault, TableInfo, shown_info, info_named, with_sound, Does, with_tables, Contents, Written, AreHeld}
 use Rattle.ft_index.proofs.Common.{IsUp, ReachesStep, RebuildsIn}
-use Rattle.ft_content.specs.declared.command.Reply.TheVariants as replies
-use Rattle.ft_content.specs.Command as plain
+use Rattle.ft_commands.specs.declared.command.Reply.TheVariants as replies
+use Rattle.ft_commands.specs.Command as plain
 use Rattle.ft_index.proofs.OpenedTables.{told_here}
 use Rattle.ft_index.proofs.Doing.{does_failed, does_undone, does_made, done_blamed, reached, no_look, err_of}
 use Rattle.ft_index.proofs.RebuildPlans.{plan_missing, told_after, rebuild_reply}

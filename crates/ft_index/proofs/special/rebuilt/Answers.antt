@@ -2,7 +2,7 @@
 use Rattle.std.proofs.Common.{rules, ◌≡◌, List, map, Ok, sym, ap, subst, ◌∙◌, FitsSigned, w64, to_z, of_z, to_z-of_z}
 use Rattle.ft_index.proofs.Common.{Change, value_in, TableInfo, shown_info, shown_rewrite, table_rows, HasRows, PlansFrom, AreHeld, IsUp, HasState}
 use Rattle.ft_index.proofs.Common.{Contents, with_tables}
-use Rattle.ft_content.specs.Command as plain
+use Rattle.ft_commands.specs.Command as plain
 use Rattle.ft_documents.specs.NewDocuments.{new_rewrite}
 use Rattle.ft_index.proofs.Doing.{looks_up, rows_then}
 use Rattle.ft_index.proofs.OpenedTables.{told_here}

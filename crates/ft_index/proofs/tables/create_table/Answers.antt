@@ -5,8 +5,8 @@ use Rattle.ft_index.proofs.Common.{creation_of, with_info, AreHeld, ReachesStep,
 use Rattle.ft_index.proofs.Common.{behind}
 use Rattle.ft_values.specs.declared.table.TableInfo.{TableInfo}
 use Rattle.ft_content.specs.Views.{TableInfo as PlainInfo}
-use Rattle.ft_content.specs.declared.command.Reply.TheVariants as replies
-use Rattle.ft_content.specs.declared.command.Creation.{Creation}
+use Rattle.ft_commands.specs.declared.command.Reply.TheVariants as replies
+use Rattle.ft_commands.specs.declared.command.Creation.{Creation}
 use Rattle.ft_values.specs.declared.fault.Fault.TheVariants as faults
 use Rattle.ft_index.proofs.Doing.{made_can, no_rewrites, does_read, does_failed, does_undone, does_made, done_blamed, reached, no_look}
 use Rattle.ft_index.proofs.TablePlans.{made_is_held, create_kept, create_reply, create_refused, create_makes}

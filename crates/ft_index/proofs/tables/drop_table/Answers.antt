@@ -4,8 +4,8 @@ use Rattle.ft_index.proofs.Common.{shown_change, TakesOut, value_in, shows, RowC
 use Rattle.ft_index.proofs.Common.{shown_info, info_named, without_info, AreHeld, PlansFrom, ReachesStep, table_info, changes_of, Does, with_tables}
 use Rattle.std.proofs.lemmas.Option.{slice_get_read, slice_get_within, same_Some}
 use Rattle.ft_store.proofs.{nothing_put}
-use Rattle.ft_content.specs.declared.command.Reply.TheVariants as replies
-use Rattle.ft_content.specs.Command as plain
+use Rattle.ft_commands.specs.declared.command.Reply.TheVariants as replies
+use Rattle.ft_commands.specs.Command as plain
 use Rattle.ft_content.specs.Step.{after as after_step}
 use Rattle.ft_documents.proofs.{placed, unplaced}
 use Rattle.ft_index.proofs.Doing.{does_failed, does_undone, does_made, reached, no_look, takes_can}

@@ -1,7 +1,7 @@
 -- the names of the tables are those of the contents
 use Rattle.std.proofs.Common.{◌≡◌, inr, List, Option, String, Global, refl, sym, ap, ◌∙◌, map, string_bytes, Some, FitsSigned, w64, to_z-of_z, rules, is_some, position, Bool, None, find, ℕ}
 use Rattle.ft_index.proofs.Common.{table_info, Fault, RustTableInfo, same_name, Contents, create_fault, deserved, made_columns, made_column}
-use Rattle.ft_index.proofs.Common.{TableInfo, shown_info, option_of, names_in, creation_of, info_named}
+use Rattle.ft_index.proofs.Common.{TableInfo, shown_info, option_of, texts_of, creation_of, info_named}
 use Rattle.ft_documents.proofs.{placed, unplaced}
 use Rattle.ft_index.proofs.OneTable.{not_some, same_names, same_ids, create_due, is_named, none_named}
 use Rattle.ft_index.proofs.Doing.{err_of}
@@ -24,8 +24,8 @@ due_in c due is contents told =
     let table = string_bytes t.table in
     let module_name = string_bytes t.module in
     let options = map option_of t.options.items in
-    let made : map string_bytes c.in_ok-names.names.items ≡ made_columns (names_in t.columns) = c.in_ok-names.ensures ∙ ap (λ (v : List (String Global)). made_columns (map string_bytes v)) c.as_slice.ensures.value in
-    create_due contents table module_name options (names_in t.columns) (map string_bytes c.in_ok-names.names.items) t.if_new due made
+    let made : map string_bytes c.in_ok-names.names.items ≡ made_columns (texts_of t.columns) = c.in_ok-names.ensures ∙ ap (λ (v : List (String Global)). made_columns (map string_bytes v)) c.as_slice.ensures.value in
+    create_due contents table module_name options (texts_of t.columns) (map string_bytes c.in_ok-names.names.items) t.if_new due made
     (sym is ∙ c.create_fault.ensures contents (same_names c.args.tables.now contents told)
     ∙ ap (λ (v : List (String Global)). create_fault contents table module_name options (map string_bytes v) t.if_new) c.as_slice-2.ensures.value)
 
@@ -49,7 +49,7 @@ returns-clause-makes c = λ contents told.
     let t = c.args.creation.now in
     let tables = c.args.tables.now in
     let table = string_bytes t.table in
-    let made : map string_bytes c.in_ok-names.names.items ≡ made_columns (names_in t.columns) = c.in_ok-names.ensures ∙ ap (λ (v : List (String Global)). made_columns (map string_bytes v)) c.as_slice.ensures.value in
+    let made : map string_bytes c.in_ok-names.names.items ≡ made_columns (texts_of t.columns) = c.in_ok-names.ensures ∙ ap (λ (v : List (String Global)). made_columns (map string_bytes v)) c.as_slice.ensures.value in
     let placed : c.table_place.result ≡ position (λ (k : RustTableInfo). same_name (string_bytes k.name) table) tables =
     c.table_place.ensures ∙ ap (λ n. position (λ (k : RustTableInfo). same_name (string_bytes k.name) n) tables) c.as_str.ensures.value in (
       due_in (goal.at.returns-clause-makes c).After-create_fault _ c.in_default.is contents told,

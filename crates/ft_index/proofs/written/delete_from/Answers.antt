@@ -2,7 +2,7 @@
 use Rattle.std.proofs.Common.{ℕ, List, rules, ◌≡◌, [], map, string_bytes, Err, Ok, sym, ap, subst, refl}
 use Rattle.ft_index.proofs.Common.{value_in, Fault, filter_of, deletion_of, shown_info, column_of, shown_rewrite, Contents, IsUnfit, AreHeld}
 use Rattle.ft_index.proofs.Common.{ReachesStep}
-use Rattle.ft_content.specs.Command as plain
+use Rattle.ft_commands.specs.Command as plain
 use Rattle.ft_index.proofs.Doing.{told_kept, does_failed, does_undone, does_made, done_blamed, no_look, err_of}
 use Rattle.ft_index.proofs.RebuildPlans.{delete_reaches}
 use Rattle.ft_index.proofs.DeleteWrites.{due, made, gone, leaves, replies, is_write, writes_table}

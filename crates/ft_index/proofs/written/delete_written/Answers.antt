@@ -7,7 +7,7 @@ use Rattle.ft_values.specs.declared.fault.Fault.TheVariants as faults
 use Rattle.ft_index.proofs.DeleteWrites.{due, made, gone, is_write, leads, tested_due, text_due, none_due}
 use Rattle.ft_index.proofs.Writing.{plans_unfit, plans_failed, writes_do}
 use Rattle.ft_index.proofs.SelectAnswers.{reads_passed}
-use Rattle.ft_content.specs.declared.command.Deletion.{Deletion}
+use Rattle.ft_commands.specs.declared.command.Deletion.{Deletion}
 use Rattle.ft_index.proofs.Doing.{rows_in, index_in, over_sound, has_at}
 use Rattle.ft_index.proofs.written.delete_written.Goals as goal
 

@@ -2,12 +2,12 @@
 use Rattle.std.proofs.Common.{rules, ℕ, true, false, zip, ◌≡◌, inl, inr, List, [], Bor, String, Option, None, Some, map, option_map, string_bytes, Err, Ok, Result, Vec, Global, refl, sym, ap, subst, ◌∙◌, arith, to_z-of_z, to_z, of_z, w64, FitsSigned}
 use Rattle.ft_index.proofs.Common.{unwrap_or, HasCleanDisk, Ghosts, fault_of_read, AreInOrder, StoreState, shows, value_in, Fault, Value}
 use Rattle.ft_index.proofs.Common.{RustTableInfo, Content, repeats_name, inserted_rows, listed_columns, TableInfo, bare_content, cells_of, column_of}
-use Rattle.ft_index.proofs.Common.{insertion_of, names_in, shown_info, IsSoundNamed, IsUnfit, Written, HasAll, WritesDocuments}
+use Rattle.ft_index.proofs.Common.{insertion_of, texts_of, shown_info, IsSoundNamed, IsUnfit, Written, HasAll, WritesDocuments}
 use Rattle.ft_index.proofs.Common.{PlansTo, WritesIn, Looks}
 use Rattle.ft_documents.specs.declared.rewrite.Rewrite.{Rewrite}
 use Rattle.ft_values.specs.declared.fault.Fault.TheVariants as faults
-use Rattle.ft_content.specs.Command as plain
-use Rattle.ft_content.specs.declared.command.Insertion.{Insertion}
+use Rattle.ft_commands.specs.Command as plain
+use Rattle.ft_commands.specs.declared.command.Insertion.{Insertion}
 use Rattle.ft_content.specs.Views.{last_docid}
 use Rattle.ft_documents.specs.Inserted.{AreKnown, MakesDocuments}
 use Rattle.ft_documents.proofs.{insert_deserves, known_from, last_read}
@@ -20,7 +20,7 @@ use Rattle.ft_index.proofs.written.insert_written.Goals.{After-made_documents}
 
 -- the columns that are listed
 listed_are : (o : Option (Bor (List (String Global)))) (q : Option (Vec (String Global) Global)) → option_map (λ (r : Bor (List (String Global))). r.now) o ≡ option_map (λ (v : Vec (String Global) Global). v.items) q →
-    option_map (λ (r : Bor (List (String Global))). map string_bytes r.now) o ≡ option_map names_in q
+    option_map (λ (r : Bor (List (String Global))). map string_bytes r.now) o ≡ option_map texts_of q
 listed_are None None same = refl
 listed_are None (Some v) same = absurd (let no = same in cc)
 listed_are (Some r) None same = absurd (let no = same in cc)

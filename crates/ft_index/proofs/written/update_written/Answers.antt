@@ -7,8 +7,8 @@ use Rattle.ft_index.proofs.Common.{modification_of, shown_info, Document, IsSoun
 use Rattle.ft_index.proofs.Common.{WritesDocuments, PlansTo, WritesIn}
 use Rattle.std.specs.declared.alloc.AllocError.{AllocError}
 use Rattle.ft_values.specs.declared.fault.Fault.TheVariants as faults
-use Rattle.ft_content.specs.declared.command.Modification.{Modification}
-use Rattle.ft_content.specs.Command as plain
+use Rattle.ft_commands.specs.declared.command.Modification.{Modification}
+use Rattle.ft_commands.specs.Command as plain
 use Rattle.ft_content.proofs.{update_keeps_content}
 use Rattle.ft_documents.specs.Gathered.{has_given}
 use Rattle.ft_documents.specs.Updated.{changing, MayMove}

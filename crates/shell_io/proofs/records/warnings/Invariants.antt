@@ -2,7 +2,7 @@
 use Rattle.std.proofs.Common.{◌≡◌, take, map, string_bytes}
 use Rattle.std.specs.List.{enumerate_from}
 use Rattle.shell_io.specs.Records as forms
-use Rattle.ft_statements.specs.Views.{texts_of}
+use Rattle.ft_commands.specs.Views.{texts_of}
 use Rattle.shell_io.proofs.records.warnings.Given as goal
 
 abbrev pub invariant-loop-i : goal.invariant-loop-i

@@ -1,7 +1,7 @@
 -- the warnings, and then the fault line
 use Rattle.std.proofs.Common.{sym, subst}
 use Rattle.std.specs.Io.KnownBytes.{Appends}
-use Rattle.ft_statements.specs.Texts.{fault_line, text_as}
+use Rattle.shell_io.specs.Texts.{fault_line, text_as}
 use Rattle.shell_io.specs.OutputViews.{lines_as}
 use Rattle.shell_io.specs.Writing.{AppendsUpTo}
 use Rattle.shell_io.proofs.WriteLemmas.{appends_same, sends_err, sends_then, up_to_more}

@@ -1,7 +1,7 @@
 -- one text after the other
 use Rattle.std.proofs.Common.{◌++◌, ◌∷◌, [], List, ℕ, codes, decimal, subst}
 use Rattle.std.specs.Io.KnownBytes.{Appends}
-use Rattle.ft_statements.specs.Texts.{text_as}
+use Rattle.shell_io.specs.Texts.{text_as}
 use Rattle.shell_io.specs.Writing.{AppendsUpTo, Sends}
 use Rattle.shell_io.proofs.WriteLemmas.{line_split, sends_err, sends_then, up_to_more}
 use Rattle.shell_io.proofs.written.write_fault.Goals as goal

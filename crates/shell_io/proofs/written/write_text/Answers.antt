@@ -1,7 +1,7 @@
 -- the number
 use Rattle.std.proofs.Common.{rules, ◌≡◌, ◌++◌, ◌∷◌, [], ℕ, List, codes, sym, subst}
 use Rattle.std.specs.Fmt.{signed_decimal}
-use Rattle.ft_statements.specs.Texts.{text_as}
+use Rattle.shell_io.specs.Texts.{text_as}
 use Rattle.shell_io.specs.Writing.{Sends}
 use Rattle.shell_io.proofs.written.write_text.Goals as goal
 

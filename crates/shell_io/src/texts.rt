@@ -1,9 +1,9 @@
 //! The texts of fault lines.
 ghost use Rattle.std.specs.Prelude.{◌≡◌, codes};
-ghost use Rattle.ft_statements.specs.Texts as forms;
+ghost use Rattle.shell_io.specs.Texts as forms;
 
-use crate::statement::StatementFault;
-use ft_content::Fault;
+use ft_commands::StatementFault;
+use ft_values::Fault;
 use shell_text::SplitFault;
 
 /// The text of a fault line. It takes no memory, but for one that is made.

@@ -5,10 +5,10 @@ use Rattle.shell_text.specs.declared.units.SplitFault.{SplitFault}
 use Rattle.shell_text.specs.declared.units.SplitFault.TheVariants as split
 use Rattle.ft_values.specs.declared.fault.Fault.{Fault}
 use Rattle.ft_values.specs.declared.fault.Fault.TheVariants as faults
-use Rattle.ft_statements.specs.declared.statement.StatementFault.{StatementFault}
-use Rattle.ft_statements.specs.declared.statement.StatementFault.TheVariants as statements
-use Rattle.ft_statements.specs.declared.texts.FaultText.{FaultText}
-use Rattle.ft_statements.specs.declared.texts.FaultText.TheVariants as texts
+use Rattle.ft_commands.specs.declared.fault.StatementFault.{StatementFault}
+use Rattle.ft_commands.specs.declared.fault.StatementFault.TheVariants as statements
+use Rattle.shell_io.specs.declared.texts.FaultText.{FaultText}
+use Rattle.shell_io.specs.declared.texts.FaultText.TheVariants as texts
 
 -- the fault line of a text, for what begins on the line of this number
 abbrev pub fault_line : ℕ → List ℕ → List ℕ

@@ -1,0 +1,3 @@
+-- Meaning
+pub mod Command
+pub mod Views

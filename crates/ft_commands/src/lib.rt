@@ -1,0 +1,11 @@
+//! Commands on full-text tables and their replies, as data.
+#![tactic(auto)]
+
+mod command;
+mod fault;
+
+pub use command::{
+    Command, Creation, Deletion, Filter, Grid, Insertion, Item, Items, Modification, Reply,
+    Selection,
+};
+pub use fault::StatementFault;
