@@ -4,7 +4,7 @@
 set -eu
 . "$(dirname "$0")/crate.sh"
 begin_crate "${1:-}" time_commands "ft_index ft_statements ft_content ft_store shell_text sqlite anyhow" \
-    ft_values ft_query shell_text ram_disk ft_rows ft_store ft_content ft_documents ft_index ft_statements
+    ft_values ft_match ft_query shell_text ram_disk ft_rows ft_store ft_content ft_documents ft_index ft_statements
 cat > "$crate/src/main.rt" <<'RT'
 //! Executes full-text statements. Standard input has the path of a store, or an empty line for one in memory, and then a statement a
 //! line. The first line of the output tells how many nanoseconds it took to take the store, and each further one those of a command,

@@ -8,17 +8,19 @@ top=$(cd "$(dirname "$0")/.." && pwd)
 room=${1:-$(mktemp -d)}
 crate=$room/crates/walk_lists
 mkdir -p "$crate/src" "$crate/proofs/count"
-cp -r "$top/crates/ft_query" "$room/crates/"
+cp -r "$top/crates/ft_match" "$top/crates/ft_query" "$room/crates/"
 cat > "$room/crates.txt" <<'TXT'
-ft_query: itoa smallvec thiserror
-walk_lists: ft_query anyhow
+ft_match: thiserror
+ft_query: ft_match itoa smallvec thiserror
+walk_lists: ft_match ft_query anyhow
 TXT
 cat > "$crate/proofs/Lib.antt" <<'ANTT'
 ANTT
 cat > "$crate/proofs/count/Invariants.antt" <<'ANTT'
 use Rattle.std.proofs.Common.{◌≡◌, ◌-◌, ◌^◌, map, min}
 use Rattle.std.specs.Prelude.{take}
-use Rattle.ft_query.specs.Documents.{plain_list, place_count}
+use Rattle.ft_match.specs.Documents.{place_count}
+use Rattle.ft_query.specs.Lists.{plain_list}
 use Rattle.walk_lists.proofs.count.Given as goal
 
 abbrev pub invariant-loop-list : goal.invariant-loop-list
@@ -28,8 +30,8 @@ cat > "$crate/src/main.rt" <<'RT'
 //! Walks over made lists: reads a MATCH text, the number of places of each term, and `walk` or `lists`, a line each.
 #![tactic(auto)]
 ghost use Rattle.std.specs.Prelude.{◌≡◌, ◌+◌, ◌-◌, ◌^◌, [], false, map, min, IfOk, OnErr};
-ghost use Rattle.ft_query.specs.Documents.{plain_list, place_count};
-ghost use Rattle.ft_query.specs.Lists.{is_failed};
+ghost use Rattle.ft_match.specs.Documents.{place_count};
+ghost use Rattle.ft_query.specs.Lists.{plain_list, is_failed};
 
 use anyhow::bail;
 use ft_query::{DocList, ListFault, Lists, Matches, Place, parse};

@@ -9,10 +9,10 @@ import re
 ROOT = os.path.dirname(os.path.dirname(os.path.dirname(os.path.abspath(__file__))))
 # The laws, each with its file and what it computes; its clauses have to name it.
 LAWS = [
-    ("tokens_once", "crates/ft_query/src/laws.rt", "tokens_of"),
-    ("parts_by_forms", "crates/ft_query/src/laws.rt", "parts_of"),
-    ("query_of_text", "crates/ft_query/src/laws.rt", "query_of"),
-    ("choices_of_chain", "crates/ft_query/src/laws.rt", "choices"),
+    ("tokens_once", "crates/ft_match/src/laws.rt", "tokens_of"),
+    ("parts_by_forms", "crates/ft_match/src/laws.rt", "parts_of"),
+    ("query_of_text", "crates/ft_match/src/laws.rt", "query_of"),
+    ("choices_of_chain", "crates/ft_match/src/laws.rt", "choices"),
     ("words_by_forms", "crates/shell_text/src/words.rt", "pieces_of"),
     ("dot_words_by_forms", "crates/shell_text/src/dot.rt", "dot_word_chars"),
     ("statements_by_grammar", "crates/ft_statements/src/laws.rt", "spelled_command"),

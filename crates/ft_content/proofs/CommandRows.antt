@@ -1,7 +1,7 @@
 -- Commands with their answers and what they leave, computed from the definitions.
 use Rattle.std.proofs.Common.{◌≡◌, ℕ, true, false, List, [], ◌∷◌, ◌++◌, Option, Some, None, Result, Ok, Err, ℤ, pos, negsuc, codes, refl}
 use Rattle.std.specs.Fmt.{digits}
-use Rattle.ft_query.specs.Reads.{query_of}
+use Rattle.ft_match.specs.Reads.{query_of}
 use Rattle.ft_content.proofs.Common.{Fault, Cell, Null, Int, Text, Content, EntryRow, SizeRow, entry_rows, Filter, All, Docid, Match, Item, AllColumns, Named, OffsetsOf, Counted, Listed, Command, Create, Drop, Insert, Update, Delete, Select, Rebuild, Check, Optimize, Reply, Done, Rows, TableState, Sound, Stale, Loose, Contents}
 use Rattle.ft_content.specs.Index.{entries, spot_lists, sizes, index_rows}
 use Rattle.ft_content.specs.Answer.{reading, chosen, answer}

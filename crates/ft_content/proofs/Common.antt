@@ -19,8 +19,8 @@ pub use Rattle.std.specs.Ordering.{int_cmp, int_eq, is_lt, eq_by_cmp, is_eq, nat
 pub use Rattle.ft_values.specs.declared.fault.Fault.{Fault}
 pub use Rattle.ft_values.specs.declared.rows.Value.{Value}
 pub use Rattle.ft_values.specs.declared.table.Column.{Column}
-pub use Rattle.ft_query.specs.Reads.{query_of}
-pub use Rattle.ft_query.specs.Trees.{Tree, tree_of}
+pub use Rattle.ft_match.specs.Reads.{query_of}
+pub use Rattle.ft_match.specs.Trees.{Tree, tree_of}
 pub use Rattle.ft_values.specs.Cells.{Cell, Null, Int, Text, shown_value}
 pub use Rattle.ft_content.specs.Answer.{cells_with, item_cells, offsets_cell, cut, reading, chosen, answer, is_chosen, column_place}
 pub use Rattle.ft_commands.specs.Command.{Item, AllColumns, Named, OffsetsOf, Filter, All, Docid, Match, Counted, Listed, Command, Create, Drop, Insert, Update, Delete, Select, Rebuild, Check, Optimize, Reply, Done, Rows}

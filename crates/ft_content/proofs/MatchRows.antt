@@ -3,7 +3,7 @@
 -- docs of "Full-text Index Queries"; the others are own examples.
 use Rattle.std.proofs.Common.{◌≡◌, ℕ, false, List, [], ◌∷◌, ◌++◌, Some, None, Result, Ok, Err, ℤ, pos, negsuc, codes, refl}
 use Rattle.std.specs.Fmt.{digits}
-use Rattle.ft_query.specs.Reads.{query_of}
+use Rattle.ft_match.specs.Reads.{query_of}
 use Rattle.ft_content.proofs.Common.{Fault, Cell, Int, Text, All, Match, Named, OffsetsOf, Listed, Command, Create, Insert, Select, Check, Reply, Done}
 use Rattle.ft_content.specs.Answer.{reading, chosen, answer}
 use Rattle.ft_content.specs.Step.{inserted_rows, deserved}

@@ -7,9 +7,9 @@ use Rattle.std.proofs.lemmas.List.Sums.{sum_by-cons}
 use Rattle.std.proofs.lemmas.List.Kept.{AllPairs-cons, AllPairs-filter}
 use Rattle.std.proofs.lemmas.Cmp.{on_total, then_total}
 use Rattle.std.proofs.lemmas.Map.Lookups.{exact_unsigned, exact_signed, exact_bytes}
-use Rattle.ft_query.specs.Tokens.{PlainToken, tokens_of}
-use Rattle.ft_query.specs.Documents.{Posting, Document, IsBefore, AreDocuments, PlaceList, is_filled, postings_of, documents_of, lists_with, place_count}
-use Rattle.ft_query.specs.Occurs.{PlainHit, accepts, offsets_of, hits_of}
+use Rattle.ft_match.specs.Tokens.{PlainToken, tokens_of}
+use Rattle.ft_match.specs.Documents.{Posting, Document, IsBefore, AreDocuments, PlaceList, is_filled, postings_of, documents_of, lists_with, place_count}
+use Rattle.ft_match.specs.Occurs.{PlainHit, accepts, offsets_of, hits_of}
 use Rattle.ft_content.proofs.Common.{option_map_or, list_any, list_all, flat_map, AllByRecursion, Ordering, Less, Equal, Greater, MatchOrdering, nat_cmp, int_cmp, int_eq, eq_by_cmp, is_eq, is_lt, ordering_then, IsTotalOrder, ranks, int_ranks, nat_cmp_total, int_cmp_total, tied_itself, by_order, put, find, below_all, is_sorted, is_sorted-put, find-put, same_entries, and_parts, and_from, list_any-append, Tree, Cell, Documents, Content, indexed_text, document_tokens, document_postings, Spot, Entry, entry_at, document_entries, Key, key_cmp, key_of, SpotLists, spots_at}
 use Rattle.ft_content.specs.Content.{Column}
 use Rattle.ft_content.specs.Index.{entries, spot_lists, index_rows}

@@ -5,10 +5,10 @@ use Rattle.std.specs.List.{flat_map}
 use Rattle.std.specs.Option.{option_map_or}
 use Rattle.std.specs.Result.{result_unwrap_or}
 use Rattle.std.specs.Ordering.{int_eq}
-use Rattle.ft_query.specs.declared.query.QueryFault.{QueryFault}
-pub use Rattle.ft_query.specs.Trees.{Tree}
-use Rattle.ft_query.specs.Reads.{query_of}
-use Rattle.ft_query.specs.Occurs.{accepts, offsets_of, offsets_text}
+use Rattle.ft_match.specs.declared.query.QueryFault.{QueryFault}
+pub use Rattle.ft_match.specs.Trees.{Tree}
+use Rattle.ft_match.specs.Reads.{query_of}
+use Rattle.ft_match.specs.Occurs.{accepts, offsets_of, offsets_text}
 use Rattle.ft_content.specs.Content.{Cell, Null, Int, Text, Documents, Content, same_name, is_docid, names_of}
 use Rattle.ft_content.specs.Index.{document_postings}
 use Rattle.ft_commands.specs.Command.{Filter, All, Docid, Match, Item, AllColumns, Named, OffsetsOf, Items, Counted, Listed, Grid}

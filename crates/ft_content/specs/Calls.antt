@@ -3,8 +3,8 @@ use Rattle.std.specs.Prelude.{◌≡◌, ◌≢◌, ℕ, false, List, option_map
 use Rattle.std.specs.List.{list_any, flat_map}
 use Rattle.std.specs.Ordering.{int_cmp, int_eq}
 use Rattle.std.specs.FinMap.Entries.{is_sorted}
-use Rattle.ft_query.specs.declared.query.Query.{Query}
-use Rattle.ft_query.specs.Trees.{Tree, tree_of}
+use Rattle.ft_match.specs.declared.query.Query.{Query}
+use Rattle.ft_match.specs.Trees.{Tree, tree_of}
 use Rattle.ft_values.specs.declared.fault.Fault.{Fault}
 use Rattle.ft_values.specs.declared.fault.Fault.TheVariants as faults
 use Rattle.ft_values.specs.Cells.{Cell, Text}

@@ -7,8 +7,8 @@ use Rattle.std.specs.Ordering.{nat_cmp, int_cmp, ordering_then}
 use Rattle.std.specs.Cmp.Lexicographic.{slice_cmp}
 use Rattle.std.specs.FinMap.Entries.{put, find}
 pub use Rattle.ft_values.specs.declared.rows.Spot.{Spot}
-use Rattle.ft_query.specs.Tokens.{PlainToken, tokens_of}
-use Rattle.ft_query.specs.Documents.{Posting, postings_of}
+use Rattle.ft_match.specs.Tokens.{PlainToken, tokens_of}
+use Rattle.ft_match.specs.Documents.{Posting, postings_of}
 use Rattle.ft_content.specs.Content.{Cell, Column, Content, cell_text}
 
 -- the text of a cell that is indexed: none in a column that is not indexed ("The notindexed= option")

@@ -5,9 +5,9 @@ use Rattle.std.specs.declared.cmp.Ordering.{Ordering}
 use Rattle.std.specs.Ordering.{nat_cmp, int_cmp, int_eq, ordering_then}
 use Rattle.std.specs.Cmp.Lexicographic.{slice_cmp}
 use Rattle.std.specs.FinMap.Entries.{put}
-use Rattle.ft_query.specs.Trees.{Tree}
-use Rattle.ft_query.specs.Documents.{Posting, Document, AreDocuments, documents_of, PlaceList, lists_with, place_count}
-use Rattle.ft_query.specs.Occurs.{PlainHit, hits_of, offsets_of}
+use Rattle.ft_match.specs.Trees.{Tree}
+use Rattle.ft_match.specs.Documents.{Posting, Document, AreDocuments, documents_of, PlaceList, lists_with, place_count}
+use Rattle.ft_match.specs.Occurs.{PlainHit, hits_of, offsets_of}
 use Rattle.ft_values.specs.Cells.{Cell}
 use Rattle.ft_content.specs.Content.{Content, IsContent}
 use Rattle.ft_content.specs.Index.{document_tokens, document_postings, Spot, Entry, Key, index_rows}

@@ -9,8 +9,8 @@ use Rattle.std.specs.Ordering.{int_cmp, int_eq}
 use Rattle.std.specs.FinMap.Entries.{put, where_key, find as cells_at}
 use Rattle.ft_values.specs.declared.fault.Fault.{Fault}
 use Rattle.ft_values.specs.declared.fault.Fault.TheVariants as faults
-use Rattle.ft_query.specs.declared.query.QueryFault.{QueryFault}
-use Rattle.ft_query.specs.declared.query.QueryFault.TheVariants.{Malformed, TooLarge, Memory}
+use Rattle.ft_match.specs.declared.query.QueryFault.{QueryFault}
+use Rattle.ft_match.specs.declared.query.QueryFault.TheVariants.{Malformed, TooLarge, Memory}
 use Rattle.ft_content.specs.Content.{Cell, Null, Int, Text, Column, Documents, Content, TableRows, same_name, is_docid, is_name, names_of}
 use Rattle.ft_content.specs.Content.{repeats_name, names_clash, is_too_long, has_nul, content_in}
 use Rattle.ft_commands.specs.Command.{Filter, Match, Item, AllColumns, Named, OffsetsOf, Items, Counted, Listed, Reply, Done, Rows}

@@ -24,6 +24,6 @@ pub fn commands_in_pieces()
 pub fn lists_mean_documents()
     ensures { ListsMeanContent }
 {
-    ft_query::postings_of_texts();
-    ft_query::documents_of_texts();
+    ft_match::postings_of_texts();
+    ft_match::documents_of_texts();
 }

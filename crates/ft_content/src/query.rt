@@ -5,7 +5,7 @@ ghost use Rattle.ft_content.specs.Calls.{ReadsQuery};
 ghost use Rattle.ft_content.specs.Views.{bare_content};
 
 use crate::columns::{column_names, column_place};
-use ft_query::{Query, QueryFault, parse};
+use ft_match::{Query, QueryFault, parse};
 use ft_values::{Column, Fault};
 use std::alloc::Global;
 

@@ -5,7 +5,7 @@ use Rattle.std.proofs.lemmas.List.Sums.{sum_by-cons}
 use Rattle.sqlite_trees.specs.Tree.{IsAscending}
 use Rattle.sqlite_keyed.proofs.ListLemmas.{all_map, all_weaker, all-map, map-map, all-flat_map, ascending-append, ascending-map, ascending_weaker, ascending-filter, all-filter}
 use Rattle.sqlite_keyed.proofs.SortLemmas.{sorted_unique}
-use Rattle.ft_query.specs.declared.lists.place.Place.{Place}
+use Rattle.ft_match.specs.Documents.{Place}
 use Rattle.ft_values.specs.declared.rows.ListRow.{ListRow}
 use Rattle.ft_values.specs.declared.rows.Spot.{Spot}
 use Rattle.ft_content.specs.Meaning.{entries_in, entry_cmp, entry_set, posting_of, with_entry, grouped, documents_in, lists_with_terms, all_places}

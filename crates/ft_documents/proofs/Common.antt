@@ -35,10 +35,11 @@ pub use Rattle.ft_content.specs.Index.{Spot, index_rows, entries, sizes, spot_li
 pub use Rattle.ft_content.specs.Laws.{spots_of_key, some_if_any, content_with, document_lists}
 pub use Rattle.ft_content.specs.Views.{last_docid, shown_info, column_of, placed}
 pub use Rattle.ft_commands.specs.Views.{cells_of, set_of}
-pub use Rattle.ft_query.specs.Documents.{PlaceList, place_count, Posting, Document, IsBefore, AreDocuments, is_filled, has_places, places_with, lists_with, posting, postings_of, plain_list}
-pub use Rattle.ft_query.specs.Occurs.{PlainHit, accepts, hits_of, plain_hit}
-pub use Rattle.ft_query.specs.Tokens.{PlainToken, Scan, is_eligible, token_of, ended, tokens_from, tokens_of}
-pub use Rattle.ft_query.specs.Trees.{Tree, tree_of}
+pub use Rattle.ft_match.specs.Documents.{PlaceList, place_count, Posting, Document, IsBefore, AreDocuments, is_filled, has_places, places_with, lists_with, posting, postings_of}
+pub use Rattle.ft_query.specs.Lists.{plain_list}
+pub use Rattle.ft_match.specs.Occurs.{PlainHit, accepts, hits_of, plain_hit}
+pub use Rattle.ft_match.specs.Tokens.{PlainToken, Scan, is_eligible, token_of, ended, tokens_from, tokens_of}
+pub use Rattle.ft_match.specs.Trees.{Tree, tree_of}
 pub use Rattle.ft_rows.specs.Changes.{shown_change, CanApply}
 pub use Rattle.ft_rows.specs.Shown.{shown_list, bare_list, spot_count, shown_cell, last_docid_of}
 pub use Rattle.ft_rows.specs.Store.{StoreValue, AreInOrder, CellKey, ListKey, ColumnKey, column_key_cmp, AddTable, applied, without_rows, with_columns, with_skipped, list_key_cmp, Change, PutCell, cell_key_cmp, without_key, DropTable, DropCells, PutEntries, DropEntries, PutSize, DropSize, ClearIndex, Note, all_applied}

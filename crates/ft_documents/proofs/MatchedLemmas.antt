@@ -2,9 +2,9 @@
 use Rattle.std.specs.Result.{result_unwrap_or}
 use Rattle.std.proofs.Common.{◌≡◌, ℕ, ℤ, false, List, [], ◌∷◌, Option, Some, None, Ok, map, refl, sym, ap, ◌∙◌, filter, ◌≤◌, ◌<◌, Bool, true, ◌++◌, length, take, unwrap_or, ◌^◌, arith, take_all}
 use Rattle.std.proofs.Math.Seq.{take-append_seam}
-use Rattle.ft_query.proofs.{postings_rise, accepts_nothing}
-use Rattle.ft_query.specs.declared.walk.Hit.{Hit}
-use Rattle.ft_query.specs.declared.walk.Offset.{Offset}
+use Rattle.ft_match.proofs.{postings_rise, accepts_nothing}
+use Rattle.ft_match.specs.declared.hit.Hit.{Hit}
+use Rattle.ft_match.specs.declared.hit.Offset.{Offset}
 use Rattle.ft_query.specs.Walk.{Walk, Walked, WalkedTo, hit_list, hit_at}
 use Rattle.ft_content.specs.Answer.{chosen}
 use Rattle.ft_content.specs.Meaning.{content_documents}

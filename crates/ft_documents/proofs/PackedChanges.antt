@@ -2,7 +2,7 @@
 use Rattle.std.proofs.Common.{◌≡◌, ℕ, suc, flat_map, ◌+◌, ◌<◌, ◌≤◌, Bool, true, false, cond, not, List, [], ◌∷◌, map, length, Option, Some, None, ℤ, refl, sym, ap, subst, ◌∙◌, arith, inl, inr, nat_lt, ◌==◌, filter, All, AllPairs, unwrap_or, IfSome, get_or, int_cmp, int_eq}
 use Rattle.std.proofs.lemmas.List.Kept.{AllPairs-filter}
 use Rattle.sqlite_trees.proofs.ListLemmas.{all_of}
-use Rattle.ft_query.proofs.{computed_tokens, postings_rise}
+use Rattle.ft_match.proofs.{computed_tokens, postings_rise}
 use Rattle.ft_values.specs.declared.rows.RowChange.{RowChange}
 use Rattle.ft_rows.specs.Packed.{CanPack}
 use Rattle.ft_content.proofs.{lists_are_entries, key_cmp_total, key_cmp_exact, document_rises}

@@ -4,7 +4,7 @@ use Rattle.std.specs.Cmp.Lexicographic.{slice_cmp, nat_list_cmp_total}
 use Rattle.std.proofs.lemmas.List.Elements.{recursion_from_All, filter_passes}
 use Rattle.sqlite_trees.specs.Tree.{IsAscending}
 use Rattle.sqlite_keyed.proofs.ListLemmas.{all_map, all_weaker, all-filter, map-map, ascending-map, ascending-filter}
-use Rattle.ft_query.proofs.{postings_rise}
+use Rattle.ft_match.proofs.{postings_rise}
 use Rattle.ft_content.specs.Content.{Content, IsContent}
 use Rattle.ft_content.specs.Index.{index_rows}
 use Rattle.ft_content.specs.Meaning.{lists_with_terms}

@@ -2,7 +2,7 @@
 use Rattle.std.specs.Prelude.{◌≡◌, ℤ, List, [], Option, Ok, unwrap_or}
 use Rattle.std.specs.Ordering.{int_cmp}
 use Rattle.std.specs.FinMap.Entries.{find}
-use Rattle.ft_query.specs.Trees.{Tree}
+use Rattle.ft_match.specs.Trees.{Tree}
 use Rattle.ft_values.specs.Cells.{Cell}
 use Rattle.ft_content.specs.Content.{Content}
 use Rattle.ft_commands.specs.Command.{Filter, All, Docid, Match}

@@ -1,8 +1,8 @@
 -- Steps. What calls make of an index that is kept in memory, its lists and its sizes together. All of it is our own choice.
 use Rattle.std.specs.Prelude.{◌≡◌, ◌<◌, ◌^◌, ℕ, ℤ, List, length, All}
 use Rattle.ft_values.specs.Cells.{Cell}
-use Rattle.ft_query.specs.declared.text.Token.{Token}
-use Rattle.ft_query.specs.Tokens.{tokens_of}
+use Rattle.ft_match.specs.declared.text.Token.{Token}
+use Rattle.ft_match.specs.Tokens.{tokens_of}
 use Rattle.ft_rows.specs.Store.{column_key_cmp}
 use Rattle.ft_content.specs.Content.{Column, Documents, cell_text}
 use Rattle.ft_content.specs.Index.{Key, Spot}

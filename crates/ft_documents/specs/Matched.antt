@@ -2,10 +2,10 @@
 use Rattle.std.specs.Prelude.{◌≡◌, ◌<◌, ℤ, Bool, if◌then◌else◌, List, [], ◌++◌, map, Option, None, Result, IfOk, IfSome}
 use Rattle.std.specs.declared.alloc.AllocError.{AllocError}
 use Rattle.std.specs.Option.{option_map_or}
-use Rattle.ft_query.specs.declared.walk.Hit.{Hit}
-use Rattle.ft_query.specs.Documents.{Document}
-use Rattle.ft_query.specs.Trees.{Tree, tree_of}
-use Rattle.ft_query.specs.Occurs.{PlainHit, offsets_of, hits_of}
+use Rattle.ft_match.specs.declared.hit.Hit.{Hit}
+use Rattle.ft_match.specs.Documents.{Document}
+use Rattle.ft_match.specs.Trees.{Tree, tree_of}
+use Rattle.ft_match.specs.Occurs.{PlainHit, offsets_of, hits_of}
 use Rattle.ft_query.specs.Walk.{Walk, StandsBefore, lists_to_come, hit_list}
 use Rattle.ft_values.specs.Cells.{Cell}
 use Rattle.ft_content.specs.Content.{Content}

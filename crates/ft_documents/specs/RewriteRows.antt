@@ -9,8 +9,8 @@ use Rattle.std.specs.Cmp.Lexicographic.{pointwise}
 use Rattle.std.specs.FinMap.Entries.{put, find}
 use Rattle.ft_values.specs.Cells.{Cell, Null, Int, Text}
 use Rattle.ft_rows.specs.Store.{column_key_cmp, Change, PutCell, DropCells, PutEntries, DropEntries, PutSize, DropSize}
-use Rattle.ft_query.specs.Tokens.{PlainToken}
-use Rattle.ft_query.specs.Documents.{posting}
+use Rattle.ft_match.specs.Tokens.{PlainToken}
+use Rattle.ft_match.specs.Documents.{posting}
 use Rattle.ft_content.specs.Content.{Column, Documents}
 use Rattle.ft_content.specs.Index.{Entry, document_entries, document_sizes, entry_at, Key, key_cmp, key_of, Spot}
 use Rattle.ft_content.specs.Index.{SizeRow, index_rows}

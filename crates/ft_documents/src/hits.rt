@@ -1,12 +1,12 @@
 //! The query of a filter, and the hits of its walk.
 ghost use Rattle.std.specs.Prelude.{◌≡◌, ◌≢◌, option_map, None, Some, IfOk, IfErr, OnOk, List, [], map};
-ghost use Rattle.ft_query.specs.Trees.{tree_of};
+ghost use Rattle.ft_match.specs.Trees.{tree_of};
 ghost use Rattle.ft_content.specs.Step.{query_fault};
 ghost use Rattle.ft_content.specs.Views.{bare_content};
 ghost use Rattle.ft_commands.specs.Views.{filter_of};
 ghost use Rattle.ft_documents.specs.Chosen.{ReadsFilterAs};
-ghost use Rattle.ft_query.specs.Documents.{Document};
-ghost use Rattle.ft_query.specs.Occurs.{plain_hit, hits_of};
+ghost use Rattle.ft_match.specs.Documents.{Document};
+ghost use Rattle.ft_match.specs.Occurs.{plain_hit, hits_of};
 ghost use Rattle.ft_query.specs.Walk.{StandsBefore};
 ghost use Rattle.ft_content.specs.Answer.{cut};
 ghost use Rattle.ft_documents.specs.Matched.{as_wanted, TellsNext};

@@ -1,6 +1,6 @@
 //! Index rows, as lists of places by document.
 ghost use Rattle.std.specs.Prelude.{◌≡◌, map, IfOk, OnOk, IsPermutation, IsSorted};
-ghost use Rattle.ft_query.specs.Documents.{plain_list};
+ghost use Rattle.ft_query.specs.Lists.{plain_list};
 ghost use Rattle.ft_rows.specs.Terms.{lists_of_postings};
 ghost use Rattle.ft_documents.specs.Placed.{place_of, read_list, list_of, all_in, posting_cmp, AreListsOf};
 

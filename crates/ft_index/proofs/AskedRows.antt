@@ -3,7 +3,7 @@
 use Rattle.std.proofs.Common.{◌≡◌, ℕ, true, List, [], ◌∷◌, Option, Some, None, pos, codes}
 use Rattle.ft_index.proofs.Common.{Text, Content, Docid, Match, AllColumns, Named, OffsetsOf, Items, Counted, Listed, reading, chosen, rows_asked}
 use Rattle.std.specs.Prelude.{refl}
-use Rattle.ft_query.specs.Reads.{query_of}
+use Rattle.ft_match.specs.Reads.{query_of}
 use Rattle.ft_commands.specs.Command.{All}
 
 abbrev mail : Content

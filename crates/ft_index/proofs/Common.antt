@@ -27,10 +27,11 @@ pub use Rattle.ft_values.specs.declared.rows.RowChange.{RowChange}
 pub use Rattle.ft_values.specs.declared.rows.TabRow.{TabRow}
 pub use Rattle.ft_values.specs.declared.rows.Value.{Value}
 pub use Rattle.ft_values.specs.declared.table.TableInfo.{TableInfo as RustTableInfo}
-pub use Rattle.ft_query.specs.Documents.{plain_list, lists_with}
-pub use Rattle.ft_query.specs.Occurs.{plain_hit, PlainHit, offsets_text}
-pub use Rattle.ft_query.specs.Trees.{tree_of, Tree}
-pub use Rattle.ft_query.specs.declared.walk.Hit.{Hit}
+pub use Rattle.ft_query.specs.Lists.{plain_list}
+pub use Rattle.ft_match.specs.Documents.{lists_with}
+pub use Rattle.ft_match.specs.Occurs.{plain_hit, PlainHit, offsets_text}
+pub use Rattle.ft_match.specs.Trees.{tree_of, Tree}
+pub use Rattle.ft_match.specs.declared.hit.Hit.{Hit}
 pub use Rattle.ft_rows.specs.Changes.{shown_change}
 pub use Rattle.ft_rows.specs.Shown.{shown_table}
 pub use Rattle.ft_rows.specs.Store.{StoreValue, Change, AreInOrder, AddTable, all_applied, applied, list_key_cmp, DropTable, Note, cell_key_cmp}

@@ -29,7 +29,7 @@ use Rattle.ft_values.specs.declared.fault.Fault.TheVariants as faults
 use Rattle.ft_content.specs.Step.{item_unknown, names_unknown, reading_fault, select_fault}
 use Rattle.ft_content.specs.Step.{answer_of_found}
 use Rattle.ft_values.specs.declared.table.Column as source
-use Rattle.ft_query.specs.Reads.{query_of}
+use Rattle.ft_match.specs.Reads.{query_of}
 use Rattle.ft_index.proofs.Doing.{executes_read, rows_in, index_in}
 use Rattle.ft_index.proofs.TablePlans.{plans_nothing}
 use Rattle.ft_index.proofs.OneTable.{IsSoundTable, sound_table, sound_is, unfit_is, sound_rows}

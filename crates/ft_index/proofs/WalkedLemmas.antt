@@ -6,8 +6,8 @@ use Rattle.ft_index.proofs.Common.{content_documents, table_index, table_documen
 use Rattle.std.specs.Cmp.Lexicographic.{nat_list_cmp_total}
 use Rattle.std.proofs.lemmas.Map.Text.{is_eq-slice_cmp}
 use Rattle.std.proofs.lemmas.Slice.Eq.{bytes_eq-Decides}
-use Rattle.ft_query.specs.Documents.{AreDocuments, PlaceList}
-use Rattle.ft_query.proofs.{postings_rise, documents_are}
+use Rattle.ft_match.specs.Documents.{AreDocuments, PlaceList}
+use Rattle.ft_match.proofs.{postings_rise, documents_are}
 use Rattle.ft_values.specs.declared.rows.ListRow.{ListRow}
 use Rattle.ft_rows.specs.Shown.{shown_list, bare_list, lists_under_term}
 use Rattle.ft_store.specs.Calls.{Keeps}

@@ -2,7 +2,7 @@
 use Rattle.std.specs.Prelude.{◌≡◌, ℕ, ◌+◌, ◌*◌, ◌^◌, nat_lt, ℤ, Bool, true, false, not, ◌&&◌, ◌||◌, if◌then◌else◌}
 use Rattle.std.specs.Prelude.{List, length, Option, Some, None, is_some, Result, Ok}
 use Rattle.std.specs.List.{list_any}
-use Rattle.ft_query.specs.Trees.{Tree}
+use Rattle.ft_match.specs.Trees.{Tree}
 use Rattle.ft_query.specs.Work.{entry_count}
 use Rattle.ft_values.specs.declared.fault.Fault.{Fault}
 use Rattle.ft_content.specs.Content.{Content, is_docid}

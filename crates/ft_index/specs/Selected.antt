@@ -2,9 +2,9 @@
 use Rattle.std.specs.Prelude.{◌≡◌, ◌&&◌, not, false, ℤ, List, [], Option}
 use Rattle.std.specs.List.{list_any, flat_map}
 use Rattle.sqlite.specs.Store.{Ghosts}
-use Rattle.ft_query.specs.declared.walk.Hit.{Hit}
-use Rattle.ft_query.specs.Trees.{Tree}
-use Rattle.ft_query.specs.Occurs.{offsets_text}
+use Rattle.ft_match.specs.declared.hit.Hit.{Hit}
+use Rattle.ft_match.specs.Trees.{Tree}
+use Rattle.ft_match.specs.Occurs.{offsets_text}
 use Rattle.ft_values.specs.Cells.{Cell, Text}
 use Rattle.ft_store.specs.Kept.{StoreState}
 use Rattle.ft_content.specs.Content.{Column, Content}

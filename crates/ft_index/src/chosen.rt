@@ -1,6 +1,6 @@
 //! The documents that a filter chooses, read from a store.
 ghost use Rattle.std.specs.Prelude.{◌≡◌, ◌*◌, false, length, map, option_map, IfOk, OnOk};
-ghost use Rattle.ft_query.specs.Trees.{tree_of};
+ghost use Rattle.ft_match.specs.Trees.{tree_of};
 ghost use Rattle.ft_store.specs.Kept.{more_rows};
 ghost use Rattle.ft_content.specs.Content.{Content};
 ghost use Rattle.ft_commands.specs.Command.{Docid};

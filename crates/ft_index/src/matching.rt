@@ -1,7 +1,7 @@
 //! What a MATCH finds in a table's index.
 ghost use Rattle.std.specs.Prelude.{◌≡◌, ℕ, List, map, option_map, Ok, IfOk, OnOk};
-ghost use Rattle.ft_query.specs.Trees.{tree_of};
-ghost use Rattle.ft_query.specs.Occurs.{plain_hit};
+ghost use Rattle.ft_match.specs.Trees.{tree_of};
+ghost use Rattle.ft_match.specs.Occurs.{plain_hit};
 ghost use Rattle.ft_store.specs.Kept.{more_rows};
 ghost use Rattle.ft_content.specs.Content.{Content};
 ghost use Rattle.ft_commands.specs.Command.{Match};

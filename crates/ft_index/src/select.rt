@@ -2,8 +2,8 @@
 ghost use Rattle.std.specs.Prelude.{◌≡◌, ◌⊎◌, ◌+◌, ◌*◌, ◌<◌, ◌^◌, if◌then◌else◌, ℕ, List, [], Option, None, Some, map, option_map, length, pos, true, false, string_bytes, IsTrue, IfOk, IfErr, OnOk};
 ghost use Rattle.std.specs.List.{list_any};
 ghost use Rattle.sqlite.specs.State.{HasCleanDisk};
-ghost use Rattle.ft_query.specs.Trees.{tree_of};
-ghost use Rattle.ft_query.specs.Occurs.{PlainHit, plain_hit};
+ghost use Rattle.ft_match.specs.Trees.{tree_of};
+ghost use Rattle.ft_match.specs.Occurs.{PlainHit, plain_hit};
 ghost use Rattle.ft_store.specs.Kept.{shows, more_rows};
 ghost use Rattle.ft_values.specs.declared.fault.Fault.TheVariants as faults;
 ghost use Rattle.ft_content.specs.Content.{Content};

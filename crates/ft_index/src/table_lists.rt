@@ -1,7 +1,7 @@
 //! The posting lists of one table.
 ghost use Rattle.std.specs.Prelude.{◌≡◌, ◌+◌, ◌-◌, ◌^◌, ◌||◌, false, min, map, Err};
-ghost use Rattle.ft_query.specs.Documents.{plain_list, place_count};
-ghost use Rattle.ft_query.specs.Lists.{is_failed};
+ghost use Rattle.ft_match.specs.Documents.{place_count};
+ghost use Rattle.ft_query.specs.Lists.{plain_list, is_failed};
 
 use ft_documents::{doc_lists, row_lists};
 use ft_query::{DocList, ListFault, Lists};

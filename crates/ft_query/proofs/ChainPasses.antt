@@ -3,8 +3,7 @@ use Rattle.std.proofs.Common.{◌≡◌, ℕ, ◌+◌, ◌<◌, ◌≤◌, ◌||
 use Rattle.std.proofs.Math.Bool.{or-false}
 use Rattle.ft_query.proofs.Common.{list_any, AllByRecursion, nat_tests, Place, are_near, is_behind, skip_behind, begin_near, near_those, Posting, IsBefore, is_filled, PlainPhrase, Tree, phrase, chain, both, either, without, terms_in, accepts, taken, taken_in, occurrences, places_of, listed_places, is_accepted, marks_of, marks_from, starts_of, PlainTerm, PlainLink, IsChoice, choices, heads, taken_links, head_of, linked, link_marks}
 use Rattle.ft_query.proofs.PhrasePasses.{Before, Rising, filter_same, all_weaker, starts_are, occurrences_rising, marks_are, occurrences_take, all_filter, rising_filter, any_same, filter_alike, Alike, Takes}
-use Rattle.ft_query.proofs.OffsetOrder.{contains_cases, contains_head, contains_tail}
-use Rattle.ft_query.proofs.Choices.{contains_nothing, map_from, map_to, filter_from, filter_to, chosen}
+use Rattle.ft_match.proofs.{contains_cases, contains_head, contains_tail, contains_nothing, map_from, map_to, filter_from, filter_to, chosen}
 
 -- ---- which occurrences the pass over two phrases' occurrences keeps
 

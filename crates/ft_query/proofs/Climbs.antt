@@ -3,7 +3,7 @@ use Rattle.std.proofs.Common.{◌≡◌, ℕ, ◌+◌, ◌-◌, ◌≤◌, ◌<�
 use Rattle.ft_query.proofs.Common.{nil_from_length, take-append-le, drop-append-le, Place, Offset, Steps, LentPlaces, By, Joint, Found, Wanted, Docids, Offsets, Tree, phrase, chain, both, either, without, tree_of, terms_in, node_count, width, more_steps, TakesAtMost, joined_sides, joined_answer, joined_marks, whole, is_accepted, marks_of, numbered_offsets, if_wanted, plain_lists, visit_cost, own_lists, lists_after, HaveLists, Evaluates, Joins, nat_tests}
 use Rattle.ft_query.proofs.Passes.{numbered_more, lists_front, lists_back}
 use Rattle.ft_query.proofs.Spines.{joined_terms, part_terms, right_width, whole_last}
-use Rattle.ft_query.specs.declared.walk.joint.By.TheVariants as by
+use Rattle.ft_match.specs.declared.query.By.TheVariants as by
 
 -- ---- a left side and a right one
 

@@ -4,7 +4,7 @@ use Rattle.std.proofs.lemmas.Simd.{map-map}
 use Rattle.ft_query.proofs.Common.{recursion_from_All, All-nil, All-head, Decides-int_eq, sum_by-cons, Query, Place, Offset, Cursor, Wanted, Posting, Document, AreDocuments, IsBefore, PlaceList, place_count, Tree, tree_of, PlainHit, accepts, offsets_of, hits_of, terms_in, lists_of, node_count, width, entry_count, candidate_count, lists_left, places_at, passed, least_of, least_from, listed_for, listed_places, if_wanted, Walk, StandsBefore, steps_to_come, Went, hit_at, walk_at, Finds, Steps, more_steps, TakesSteps, TakesAtMost, nat_tests, common_steps}
 use Rattle.ft_query.proofs.Spines.{some_nodes}
 use Rattle.ft_query.proofs.Costs.{terms_width}
-use Rattle.ft_query.proofs.TokenOnce.{pairs_head}
+use Rattle.ft_match.proofs.{pairs_head}
 use Rattle.ft_query.proofs.Nexts.{Next, Nothing, First, next_of, are_more, all_places, all_passed, all_counted}
 
 no_documents : AreDocuments []

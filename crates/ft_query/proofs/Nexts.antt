@@ -2,7 +2,7 @@
 use Rattle.std.proofs.Common.{◌≡◌, ◌≢◌, ◌+◌, ◌||◌, ℤ, pos, negsuc, ◌<ℤ◌, Bool, true, false, cond, List, [], ◌∷◌, length, map, refl, sym, ap, ◌∙◌, arith, true≢false, Option, Some, None, filter, AllPairs, int_lt, sum_by, int_eq, is_eq}
 use Rattle.std.proofs.lemmas.Cmp.{tied_itself, int_cmp_total}
 use Rattle.ft_query.proofs.Common.{or_parts, sum_by-cons, list_any, AllByRecursion, nat_tests, recursion_from_All, All-tail, Place, Posting, Document, AreDocuments, IsBefore, PlaceList, is_filled, places_with, place_count, PlainTerm, Tree, PlainHit, is_listed, accepts, offsets_of, hits_of, terms_in, lists_of, candidate_count, places_at, passed, least_of, least_from, listed_for, listed_places, common_steps}
-use Rattle.ft_query.proofs.TokenOnce.{pairs_head, pairs_tail}
+use Rattle.ft_match.proofs.{pairs_head, pairs_tail}
 use Rattle.ft_query.proofs.NotListed.{has_term, accepts_none}
 
 -- ---- docids

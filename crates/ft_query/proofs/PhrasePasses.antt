@@ -3,7 +3,7 @@
 use Rattle.std.proofs.Common.{◌≡◌, ℕ, ◌+◌, ◌<◌, ◌==◌, ◌&&◌, ◌||◌, Bool, true, false, cond, List, [], ◌∷◌, ◌⊎◌, refl, sym, ap, ◌∙◌, arith, filter, Ordering, Less, Equal, Greater, not, map, AllPairs, Option, add-zero, rules}
 use Rattle.std.proofs.Math.Bool.{and-true, and-false, or-false}
 use Rattle.ft_query.proofs.Common.{list_any, AllByRecursion, match_ordering, nat_tests, Place, place_order, seek, among, recursion_from_All, Posting, IsBefore, PlainTerm, listed_places, is_listed, fits, takes, take_row, is_within, places_of, occurs, occurrences, PlainPhrase, shifted, taken_in, marks_from, may_begin, followed, starts_from}
-use Rattle.ft_query.proofs.TokenOnce.{pairs_head, pairs_tail}
+use Rattle.ft_match.proofs.{pairs_head, pairs_tail}
 
 -- ---- what the passes over rising places keep
 

@@ -4,9 +4,7 @@ use Rattle.std.specs.List.{IsDistinct}
 use Rattle.std.proofs.lemmas.List.Sorted.{Contains-permutation, IsPermutation-sym}
 use Rattle.std.proofs.lemmas.Map.Keys.{IsDistinct-cons, IsDistinct-head, IsDistinct-tail, IsDistinct-IsPermutation}
 use Rattle.ft_query.proofs.Common.{AllByRecursion, list_any, enumerate_from, cons_option, nat_tests, All-nil, All-cons, All-weaker, All-from_recursion, recursion_from_All, Contains-append_left, Contains-append_right, Contains-append_cases, AllPairs-cons, Place, Offset, Posting, IsBefore, PlainTerm, PlainLink, Tree, phrase, chain, both, either, without, is_at, offsets_at, offsets_of, taken, taken_in, taken_links, places_of, heads, choices, occurrences, offset_at, numbered_offsets, precedes, common_steps}
-use Rattle.ft_query.proofs.TokenOnce.{pairs_head, pairs_tail}
-use Rattle.ft_query.proofs.OffsetOrder.{Rises, contains_cases, contains_head, contains_tail, only_offsets}
-use Rattle.ft_query.proofs.Choices.{contains_nothing, map_from, map_to, filter_from, flat_from, flat_to}
+use Rattle.ft_match.proofs.{pairs_head, pairs_tail, Rises, contains_cases, contains_head, contains_tail, only_offsets, contains_nothing, map_from, map_to, filter_from, flat_from, flat_to}
 use Rattle.ft_query.proofs.PhrasePasses.{Before, Rising, all_weaker, all_filter, places_rising}
 use Rattle.ft_query.proofs.ChainPasses.{any_to, any_from}
 

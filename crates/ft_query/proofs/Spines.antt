@@ -1,7 +1,7 @@
 -- What is joined to the first operand of a query, one joint after the other.
 use Rattle.std.proofs.Common.{◌≡◌, ◌+◌, ◌≤◌, ◌<◌, List, [], ◌∷◌, ◌++◌, length, refl, sym, ap, subst, ◌∙◌, append_assoc, arith, length-append, rules}
 use Rattle.ft_query.proofs.Common.{By, Joint, Tree, phrase, chain, both, either, without, tree_of, terms_in, node_count, width, joined_sides, whole, AddsSpine}
-use Rattle.ft_query.specs.declared.walk.joint.By.TheVariants as by
+use Rattle.ft_match.specs.declared.query.By.TheVariants as by
 
 -- the last joint is joined first
 pub whole_last : (js : List Joint) (j : Joint) (p : Tree) → whole (js ++ j ∷ []) p ≡ whole js (joined_sides p j.by (tree_of j.right.now))

@@ -1,11 +1,11 @@
 -- Steps. What is left of the lists of a walk.
 use Rattle.std.specs.Prelude.{ℕ, ℤ, int_lt, Bool, false, List, [], ◌∷◌, drop, map, sum_by, if◌then◌else◌, Option, Some, None}
 use Rattle.std.specs.Ordering.{int_eq}
-use Rattle.ft_query.specs.declared.lists.place.Place.{Place}
 use Rattle.ft_query.specs.declared.walk.cursor.Cursor.{Cursor}
-use Rattle.ft_query.specs.Documents.{Document, PlaceList, plain_list, lists_with, place_count}
-use Rattle.ft_query.specs.Trees.{PlainTerm}
-use Rattle.ft_query.specs.Occurs.{is_listed}
+use Rattle.ft_match.specs.Documents.{Place, Document, PlaceList, lists_with, place_count}
+use Rattle.ft_query.specs.Lists.{plain_list}
+use Rattle.ft_match.specs.Trees.{PlainTerm}
+use Rattle.ft_match.specs.Occurs.{is_listed}
 
 -- what the search still has to pass
 abbrev pub lists_left : Cursor → List PlaceList

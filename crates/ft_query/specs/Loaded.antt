@@ -4,9 +4,9 @@ use Rattle.std.specs.Borrow.{Bor}
 use Rattle.ft_query.specs.declared.lists.ListFault.{ListFault}
 use Rattle.ft_query.specs.declared.lists.Lists.{Ghosts}
 use Rattle.ft_query.specs.declared.walk.cursor.Cursor.{Cursor}
-use Rattle.ft_query.specs.declared.query.QueryTerm.{QueryTerm}
-use Rattle.ft_query.specs.Documents.{Document}
-use Rattle.ft_query.specs.Trees.{PlainTerm, plain_term}
+use Rattle.ft_match.specs.declared.query.QueryTerm.{QueryTerm}
+use Rattle.ft_match.specs.Documents.{Document}
+use Rattle.ft_match.specs.Trees.{PlainTerm, plain_term}
 use Rattle.ft_query.specs.Lists.{is_failed, Reaches, AllAnswer}
 use Rattle.ft_query.specs.Cursors.{lists_kept, places_left, listed_for}
 

@@ -1,12 +1,12 @@
 -- Steps. What the evaluation of a document adds to what was found in it.
 use Rattle.std.specs.Prelude.{◌≡◌, ℕ, ◌+◌, ◌^◌, ◌<◌, ◌≤◌, ◌++◌, Bool, List, [], length, take, drop, reverse, map, Result, IfOk, OnOk}
 use Rattle.std.specs.declared.alloc.AllocError.{AllocError}
-use Rattle.ft_query.specs.declared.lists.place.Place.{Place}
-use Rattle.ft_query.specs.declared.query.Chain.{Chain}
+use Rattle.ft_match.specs.Documents.{Place}
+use Rattle.ft_match.specs.declared.query.Chain.{Chain}
 use Rattle.ft_query.specs.declared.walk.visit.Found.{Found}
 use Rattle.ft_query.specs.declared.walk.visit.Wanted.{Wanted}
-use Rattle.ft_query.specs.Trees.{PlainTerm, Tree, chain, plain_phrase, plain_link}
-use Rattle.ft_query.specs.declared.walk.joint.By.{By}
+use Rattle.ft_match.specs.Trees.{PlainTerm, Tree, chain, plain_phrase, plain_link}
+use Rattle.ft_match.specs.declared.query.By.{By}
 use Rattle.ft_query.specs.Work.{terms_in}
 use Rattle.ft_query.specs.Spines.{joined_answer, joined_marks}
 use Rattle.ft_query.specs.Visit.{LentPlaces, Occurrences, is_accepted, marks_of, numbered_offsets, if_wanted, plain_lists, plain_starts, head_of}

@@ -1,11 +1,11 @@
 -- Steps. The search for the next hit of a walk.
 use Rattle.std.specs.Prelude.{◌≡◌, ℕ, ◌<◌, List, [], map, Option, None, option_map, IfSome}
-use Rattle.ft_query.specs.declared.query.Query.{Query}
+use Rattle.ft_match.specs.declared.query.Query.{Query}
 use Rattle.ft_query.specs.declared.walk.cursor.Cursor.{Cursor}
-use Rattle.ft_query.specs.declared.walk.Hit.{Hit}
-use Rattle.ft_query.specs.declared.walk.Offset.{Offset}
+use Rattle.ft_match.specs.declared.hit.Hit.{Hit}
+use Rattle.ft_match.specs.declared.hit.Offset.{Offset}
 use Rattle.ft_query.specs.declared.walk.visit.Wanted.{Wanted}
-use Rattle.ft_query.specs.Documents.{Document}
+use Rattle.ft_match.specs.Documents.{Document}
 use Rattle.ft_query.specs.Visit.{if_wanted}
 use Rattle.ft_query.specs.Cursors.{lists_left, lists_kept}
 use Rattle.ft_query.specs.Walk.{Walk, StandsBefore, Went, hit_at, lists_to_come}

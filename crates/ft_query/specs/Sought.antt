@@ -1,7 +1,7 @@
 -- Steps. What calls of a walk make of its cursors.
 use Rattle.std.specs.Prelude.{◌≡◌, List, map}
 use Rattle.ft_query.specs.declared.walk.cursor.Cursor.{Cursor}
-use Rattle.ft_query.specs.Documents.{PlaceList}
+use Rattle.ft_match.specs.Documents.{PlaceList}
 use Rattle.ft_query.specs.Cursors.{lists_left, lists_kept}
 
 -- this is left to the walk, and to a search

@@ -1,21 +1,16 @@
 -- Steps. A query from its first operand on, as a list of what is joined to it.
 use Rattle.std.specs.Prelude.{◌≡◌, ◌++◌, ◌&&◌, ◌||◌, Bool, not, List, [], ◌∷◌, map}
-use Rattle.ft_query.specs.declared.walk.joint.By.{By}
-use Rattle.ft_query.specs.declared.walk.joint.By.TheVariants as by
+use Rattle.ft_match.specs.declared.query.By.{By}
+use Rattle.ft_match.specs.declared.query.By.TheVariants as by
 use Rattle.ft_query.specs.declared.walk.joint.Joint.{Joint}
 use Rattle.ft_query.specs.declared.walk.spine.Leaf.{Leaf}
 use Rattle.ft_query.specs.declared.walk.spine.Leaf.TheVariants as leaf
-use Rattle.ft_query.specs.Trees.{Tree, phrase, chain, both, either, without, plain_phrase, plain_link, tree_of}
+use Rattle.ft_match.specs.Machine.{joined_sides}
+use Rattle.ft_match.specs.Trees.{Tree, phrase, chain, plain_phrase, plain_link, tree_of}
 
 abbrev pub leaf_tree : Leaf → Tree
 leaf_tree (leaf.Phrase p) = phrase (plain_phrase p.now)
 leaf_tree (leaf.Near c) = chain (plain_phrase c.now.first) (map plain_link c.now.links.items)
-
--- a left side and a right one
-abbrev pub joined_sides : Tree → By → Tree → Tree
-joined_sides p by.And q = both p q
-joined_sides p by.Or q = either p q
-joined_sides p by.Not q = without p q
 
 -- a part of a query with all that is joined to it, the last joint first
 abbrev pub whole : List Joint → Tree → Tree

@@ -1,7 +1,7 @@
 -- Steps. How many steps a call of a walk takes.
 use Rattle.std.specs.Prelude.{◌≡◌, ℕ, ℤ, ◌+◌, ◌-◌, ◌^◌, ◌≤◌, min, List, Option, None, if◌then◌else◌, Result, OnOk}
 use Rattle.ft_query.specs.declared.standing.Steps.{Steps}
-use Rattle.ft_query.specs.Documents.{PlaceList, is_filled}
+use Rattle.ft_match.specs.Documents.{PlaceList, is_filled}
 
 -- so many steps more, as a number of 64 bits that stays at its greatest value
 abbrev pub more_steps : ℕ → Steps → ℕ

@@ -5,16 +5,15 @@ use Rattle.std.specs.Borrow.{Bor}
 use Rattle.std.specs.declared.alloc.Global.{Global}
 use Rattle.std.specs.Ordering.{ordering_then, nat_cmp, match_ordering, is_lt}
 use Rattle.std.specs.declared.cmp.Ordering.{Ordering}
-use Rattle.ft_query.specs.declared.lists.place.Place.{Place}
-use Rattle.ft_query.specs.declared.walk.Offset.{Offset}
-use Rattle.ft_query.specs.declared.query.Link.{Link}
-use Rattle.ft_query.specs.declared.query.Phrase.{Phrase}
+use Rattle.ft_match.specs.declared.hit.Offset.{Offset}
+use Rattle.ft_match.specs.declared.query.Link.{Link}
+use Rattle.ft_match.specs.declared.query.Phrase.{Phrase}
 use Rattle.ft_query.specs.declared.walk.cursor.Cursor.{Cursor}
 use Rattle.ft_query.specs.declared.walk.visit.Wanted.{Wanted}
 use Rattle.ft_query.specs.declared.walk.visit.Wanted.TheVariants.{Docids, Offsets}
-use Rattle.ft_query.specs.Documents.{Posting, is_filled}
-use Rattle.ft_query.specs.Trees.{PlainTerm, PlainPhrase, PlainLink, Tree, phrase, chain, both, either, without}
-use Rattle.ft_query.specs.Occurs.{is_listed, is_within, are_near}
+use Rattle.ft_match.specs.Documents.{Place, Posting, is_filled}
+use Rattle.ft_match.specs.Trees.{PlainTerm, PlainPhrase, PlainLink, Tree, phrase, chain, both, either, without}
+use Rattle.ft_match.specs.Occurs.{is_listed, is_within, are_near}
 use Rattle.ft_query.specs.Work.{terms_in}
 use Rattle.ft_query.specs.Cursors.{lists_left, places_at}
 

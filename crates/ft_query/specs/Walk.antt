@@ -1,11 +1,11 @@
 -- Meaning. A walk as its callers see it.
 use Rattle.std.specs.Prelude.{◌≡◌, ℕ, ℤ, ◌+◌, ◌-◌, ◌*◌, ◌^◌, ◌≤◌, min, length, sum_by, List, [], ◌∷◌, ◌++◌, Option, Some, None}
-use Rattle.ft_query.specs.declared.query.Query.{Query}
-use Rattle.ft_query.specs.declared.walk.Hit.{Hit}
-use Rattle.ft_query.specs.declared.walk.Offset.{Offset}
-use Rattle.ft_query.specs.Documents.{Document, AreDocuments, PlaceList}
-use Rattle.ft_query.specs.Trees.{Tree, tree_of}
-use Rattle.ft_query.specs.Occurs.{PlainHit, plain_hit, hits_of}
+use Rattle.ft_match.specs.declared.query.Query.{Query}
+use Rattle.ft_match.specs.declared.hit.Hit.{Hit}
+use Rattle.ft_match.specs.declared.hit.Offset.{Offset}
+use Rattle.ft_match.specs.Documents.{Document, AreDocuments, PlaceList}
+use Rattle.ft_match.specs.Trees.{Tree, tree_of}
+use Rattle.ft_match.specs.Occurs.{PlainHit, plain_hit, hits_of}
 use Rattle.ft_query.specs.Work.{lists_of, width, entry_count, candidate_count}
 
 -- the query, what is left of the list of each of its terms, and the steps so far

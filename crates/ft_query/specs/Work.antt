@@ -1,9 +1,9 @@
 -- Meaning. How much a query asks of the lists, and how many steps a walk may take (own choices).
 use Rattle.std.specs.Prelude.{ℕ, ◌+◌, max, List, ◌++◌, length, map, sum_by, count_by, flat_map}
 use Rattle.std.specs.List.{list_any}
-use Rattle.ft_query.specs.Documents.{Document, PlaceList, lists_with, place_count}
-use Rattle.ft_query.specs.Trees.{PlainTerm, Tree, phrase, chain, both, either, without}
-use Rattle.ft_query.specs.Occurs.{is_listed}
+use Rattle.ft_match.specs.Documents.{Document, PlaceList, lists_with, place_count}
+use Rattle.ft_match.specs.Trees.{PlainTerm, Tree, phrase, chain, both, either, without}
+use Rattle.ft_match.specs.Occurs.{is_listed}
 
 -- all terms of the query in the text's order, those right of a NOT too
 abbrev pub terms_in : Tree → List PlainTerm

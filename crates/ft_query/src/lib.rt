@@ -1,24 +1,15 @@
-//! Tokens, MATCH queries and what they find in documents.
+//! The walk: how the documents that a query accepts are found from the lists of its terms. It offers
+//! the language of queries, too.
 #![tactic(auto)]
 
-mod laws;
-mod lexeme;
-mod lexer;
-mod limits;
 mod lists;
-mod machine;
-mod parser;
-mod query;
 mod standing;
-mod text;
 mod walk;
 
-pub use laws::{
-    choices_of_chain, documents_of_texts, eligible_by_character, parts_by_forms, postings_of_texts,
-    query_of_text, reads_once, tokens_once,
+pub use ft_match::{
+    Chain, Hit, Link, Offset, Phrase, Query, QueryFault, QueryTerm, Token, Tokenizer,
+    choices_of_chain, documents_of_texts, eligible_by_character, is_eligible, parse,
+    parts_by_forms, postings_of_texts, query_of_text, reads_once, tokens, tokens_once,
 };
 pub use lists::{DocList, ListFault, Lists, Place};
-pub use parser::parse;
-pub use query::{Chain, Link, Phrase, Query, QueryFault, QueryTerm};
-pub use text::{Token, Tokenizer, is_eligible, tokens};
-pub use walk::{Hit, Matches, Offset, offsets_text};
+pub use walk::{Matches, offsets_text};

@@ -1,8 +1,8 @@
 //! The lists that a walk asks for.
 ghost use Rattle.std.specs.Prelude.{◌≡◌, ℕ, ◌+◌, ◌-◌, ◌^◌, ◌||◌, Bool, List, map, min, bytes_eq, nat_eq, is_ok, IfOk, OnErr};
 ghost use Rattle.std.specs.List.{starts_with};
-ghost use Rattle.ft_query.specs.Documents.{Document, AreDocuments, lists_with, plain_list, place_count};
-ghost use Rattle.ft_query.specs.Lists.{is_failed};
+ghost use Rattle.ft_match.specs.Documents.{Document, AreDocuments, lists_with, place_count};
+ghost use Rattle.ft_query.specs.Lists.{plain_list, is_failed};
 
 mod doc_list;
 mod place;

@@ -2,7 +2,7 @@
 //! but a search can be done with it here: what looks at a docid or a place is seen in `walk` alone, where no
 //! count can be made.
 ghost use Rattle.std.specs.Prelude.{◌≡◌, ◌≤◌, length, map, vec_len, IfOk, OnErr};
-ghost use Rattle.ft_query.specs.Trees.{tree_of};
+ghost use Rattle.ft_match.specs.Trees.{tree_of};
 ghost use Rattle.ft_query.specs.Work.{terms_in};
 ghost use Rattle.ft_query.specs.Cursors.{lists_kept};
 ghost use Rattle.ft_query.specs.Loaded.{AsksLists, Loads};
@@ -10,8 +10,8 @@ ghost use Rattle.ft_query.specs.Search.{stands_at, FindsNext};
 ghost use Rattle.ft_query.specs.Taken.{TakesSteps};
 
 use crate::lists::{ListFault, Lists};
-use crate::query::Query;
-use crate::walk::{Cursor, Hit, Wanted, load, search};
+use crate::walk::{Cursor, Wanted, load, search};
+use ft_match::{Hit, Query};
 use std::alloc::{AllocError, Global};
 
 /// The steps so far: the docids and positions that were looked at, and the nodes of a query that

@@ -1,7 +1,7 @@
 //! What a walk over the documents that a query accepts gives.
 ghost use Rattle.std.specs.Prelude.{◌≡◌, [], ◌∷◌, ◌++◌, decimal, string_bytes, IfOk, IfSome, OnOk};
 ghost use Rattle.std.specs.List.{join_with_byte};
-ghost use Rattle.ft_query.specs.Occurs.{offsets_text};
+ghost use Rattle.ft_match.specs.Occurs.{offsets_text};
 
 mod cursor;
 mod joint;
@@ -14,30 +14,13 @@ mod visit;
 
 pub(crate) use crate::standing::Steps;
 pub(crate) use cursor::Cursor;
+use ft_match::Offset;
 use itoa::Buffer;
-pub(crate) use joint::By;
 pub(crate) use load::load;
 pub use matches::Matches;
 pub(crate) use search::search;
 use std::alloc::{AllocError, Global};
 pub(crate) use visit::Wanted;
-
-/// One term of a phrase's occurrence: its column, the term's number in the query, and its place and
-/// size in bytes.
-#[derive(Clone, Copy, Debug, PartialEq, Eq)]
-pub struct Offset {
-    pub column: usize,
-    pub term: usize,
-    pub place: usize,
-    pub size: usize,
-}
-
-/// A document that the query accepts.
-#[derive(Debug, Drop)]
-pub struct Hit {
-    pub docid: i64,
-    pub offsets: Vec<Offset>,
-}
 
 fn push_number(text: &mut String, number: usize) -> Result<(), AllocError>
     ensures { OnOk result (string_bytes text.new ≡ string_bytes text.old ++ decimal number) }

@@ -1,7 +1,7 @@
 //! Lists of the words of documents, for walks. They promise nothing to a proof.
 ghost use Rattle.std.specs.Prelude.{◌≡◌, ◌+◌, ◌-◌, ◌^◌, ◌||◌, [], map, min, IfOk, OnErr};
-ghost use Rattle.ft_query.specs.Documents.{plain_list, place_count};
-ghost use Rattle.ft_query.specs.Lists.{is_failed};
+ghost use Rattle.ft_match.specs.Documents.{place_count};
+ghost use Rattle.ft_query.specs.Lists.{plain_list, is_failed};
 
 use ft_query::{DocList, ListFault, Lists, Place, tokens};
 use std::alloc::{AllocError, Global};

@@ -1,7 +1,7 @@
 //! The list of one document, whose docid is seen here alone: each look at one is a step.
 ghost use Rattle.std.specs.Prelude.{◌≡◌, length};
 ghost use Rattle.std.specs.Ordering.{int_eq};
-ghost use Rattle.ft_query.specs.Documents.{plain_list};
+ghost use Rattle.ft_query.specs.Lists.{plain_list};
 ghost use Rattle.ft_query.specs.Taken.{TakesSteps};
 
 use crate::lists::place::Place;

@@ -1,11 +1,13 @@
 //! A place in one document, whose position is seen here alone: each comparison of one is a step.
 ghost use Rattle.std.specs.Prelude.{◌≡◌};
-ghost use Rattle.ft_query.specs.Occurs.{are_near};
+ghost use Rattle.ft_match.specs.Occurs.{are_near};
 ghost use Rattle.ft_query.specs.Visit.{place_order, is_behind, may_begin, offset_at};
 ghost use Rattle.ft_query.specs.Taken.{TakesSteps};
 
-use crate::walk::{Offset, Steps};
+use crate::walk::Steps;
+use ft_match::Offset;
 use std::cmp::Ordering;
+use std::marker::Model;
 
 /// Where a token stands: its column, its number in the cell, and its place and size in bytes.
 /// Nothing but a comparison that is counted tells its number in the cell.
@@ -15,6 +17,19 @@ pub struct Place {
     pos: u32,
     start: u32,
     size: u32,
+}
+
+// Contracts see the place of the definitions, which has the same numbers.
+impl Model for Place {
+    ghost use Rattle.ft_match.specs.Documents.{Place};
+
+    ghost Value = { Place };
+
+    ghost view = { λ p.
+        record { column = p.column; pos = p.pos; start = p.start; size = p.size } };
+
+    ghost inverse = { λ p.
+        record { column = p.column; pos = p.pos; start = p.start; size = p.size } };
 }
 
 /// How near an occurrence of k terms and one of m have to be: with at most so many tokens between.

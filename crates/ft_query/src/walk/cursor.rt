@@ -1,6 +1,6 @@
 //! One term's list of documents, passed from front to back.
 ghost use Rattle.std.specs.Prelude.{◌≡◌, map, IfOk};
-ghost use Rattle.ft_query.specs.Documents.{plain_list};
+ghost use Rattle.ft_query.specs.Lists.{plain_list};
 ghost use Rattle.ft_query.specs.Cursors.{lists_left, lists_kept, docid_ahead, is_next, next_places, after_next};
 ghost use Rattle.ft_query.specs.Sought.{StandsAt, SearchesOn};
 ghost use Rattle.ft_query.specs.Taken.{TakesSteps, LooksForNext};

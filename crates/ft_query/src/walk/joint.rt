@@ -2,16 +2,8 @@
 ghost use Rattle.std.specs.Prelude.{◌≡◌};
 ghost use Rattle.ft_query.specs.Taken.{TakesSteps};
 
-use crate::query::Query;
 use crate::walk::Steps;
-
-/// How a right side is joined to its left one.
-#[derive(Clone, Copy, Debug, PartialEq, Eq)]
-pub(crate) enum By {
-    And,
-    Or,
-    Not,
-}
+use ft_match::{By, Query};
 
 /// A right side, and how it is joined to what is left of it. Nothing but a visit that is counted tells
 /// how.

@@ -1,16 +1,17 @@
 //! The lists of a query's terms: each is asked for as often as its term is written, and held once.
 ghost use Rattle.std.specs.Prelude.{◌≡◌, ◌≤◌, true, ◌+◌, ◌-◌, ◌^◌, ◌++◌, List, IsTrue, length, map, min, flat_map, IfOk, IfSome, OnOk};
-ghost use Rattle.ft_query.specs.Documents.{Document, plain_list, place_count};
-ghost use Rattle.ft_query.specs.Trees.{plain_term, plain_link, tree_of};
+ghost use Rattle.ft_match.specs.Documents.{Document, place_count};
+ghost use Rattle.ft_query.specs.Lists.{plain_list};
+ghost use Rattle.ft_match.specs.Trees.{plain_term, plain_link, tree_of};
 ghost use Rattle.ft_query.specs.Work.{terms_in};
 ghost use Rattle.ft_query.specs.Cursors.{lists_kept, listed_for};
 ghost use Rattle.ft_query.specs.Loaded.{plain_terms, AreCursorsOf, AsksLists, Loads};
 ghost use Rattle.ft_query.specs.Spines.{leaf_tree};
 
 use crate::lists::{DocList, ListFault, Lists};
-use crate::query::{Link, Query, QueryTerm};
 use crate::walk::cursor::Cursor;
 use crate::walk::spine::{Leaf, spine_of};
+use ft_match::{Link, Query, QueryTerm};
 use std::alloc::{AllocError, Global};
 
 // ---- the terms, in the text's order

@@ -1,7 +1,7 @@
 //! The documents that a query accepts, one after the other.
 ghost use Rattle.std.specs.Prelude.{◌≡◌, ◌+◌, ◌-◌, ◌^◌, ◌<◌, ◌≤◌, ◌||◌, List, length, map, min, is_ok, IfOk, IfSome, OnOk, OnErr};
-ghost use Rattle.ft_query.specs.Documents.{Document};
-ghost use Rattle.ft_query.specs.Trees.{tree_of};
+ghost use Rattle.ft_match.specs.Documents.{Document};
+ghost use Rattle.ft_match.specs.Trees.{tree_of};
 ghost use Rattle.ft_query.specs.Lists.{is_failed, Reaches, AllAnswer};
 ghost use Rattle.ft_query.specs.Work.{terms_in, entry_count};
 ghost use Rattle.ft_query.specs.Cursors.{lists_left, lists_kept};
@@ -9,10 +9,9 @@ ghost use Rattle.ft_query.specs.Walk.{lists_to_come, StandsBefore, Walked, Walke
 ghost use Rattle.ft_query.specs.Search.{stands_at, FindsNext};
 
 use crate::lists::{ListFault, Lists};
-use crate::query::Query;
 use crate::standing::Standing;
-use crate::walk::Hit;
 use crate::walk::visit::Wanted;
+use ft_match::{Hit, Query};
 use std::alloc::{AllocError, Global};
 use std::marker::Model;
 
@@ -27,11 +26,11 @@ pub struct Matches<'q> {
 
 impl<'q> Model for Matches<'q> {
     ghost use Rattle.std.specs.Prelude.{◌≡◌, map, length, vec_len};
-    ghost use Rattle.ft_query.specs.Trees.{tree_of};
+    ghost use Rattle.ft_match.specs.Trees.{tree_of};
     ghost use Rattle.ft_query.specs.Work.{terms_in};
     ghost use Rattle.ft_query.specs.Cursors.{lists_kept};
     ghost use Rattle.ft_query.specs.Walk.{Walk};
-    ghost use Rattle.ft_query.specs.contracts.query.Query as q;
+    ghost use Rattle.ft_match.specs.contracts.query.Query as q;
     ghost use Rattle.std.specs.Coded.{codes};
 
     ghost Value = { Walk };

@@ -1,16 +1,16 @@
 //! The search for the next document that a query accepts.
 ghost use Rattle.std.specs.Prelude.{◌≡◌, ◌≤◌, None, map, length, IfOk, OnErr};
-ghost use Rattle.ft_query.specs.Trees.{tree_of};
+ghost use Rattle.ft_match.specs.Trees.{tree_of};
 ghost use Rattle.ft_query.specs.Work.{terms_in};
 ghost use Rattle.ft_query.specs.Cursors.{lists_left, lists_kept, passed, least_of, least_from};
 ghost use Rattle.ft_query.specs.Search.{walk_at, stands_at, FindsNext};
 ghost use Rattle.ft_query.specs.Sought.{SearchesOn, AllSearchOn};
 ghost use Rattle.ft_query.specs.Taken.{TakesSteps, LooksForNext, LooksAtAll};
 
-use crate::query::Query;
+use crate::walk::Steps;
 use crate::walk::cursor::Cursor;
 use crate::walk::visit::{Wanted, visit};
-use crate::walk::{Hit, Steps};
+use ft_match::{Hit, Query};
 use std::alloc::{AllocError, Global};
 
 impl Cursor {

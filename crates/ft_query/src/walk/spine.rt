@@ -1,15 +1,15 @@
 //! A query as its first operand and a list of what is joined to it: a text can join thousands of
 //! phrases from the left, and so no call goes down the left sides.
 ghost use Rattle.std.specs.Prelude.{◌≡◌, ◌<◌, ◌+◌, ◌^◌, length, map, vec_len, flat_map, IfOk};
-ghost use Rattle.ft_query.specs.Trees.{plain_phrase, plain_link, tree_of, chain};
+ghost use Rattle.ft_match.specs.Trees.{plain_phrase, plain_link, tree_of, chain};
 ghost use Rattle.ft_query.specs.Marked.{chain_tree};
 ghost use Rattle.ft_query.specs.Taken.{TakesSteps};
 ghost use Rattle.ft_query.specs.Work.{terms_in, node_count};
 ghost use Rattle.ft_query.specs.Spines.{leaf_tree, whole, AddsSpine};
 
-use crate::query::{Chain, Phrase, Query};
 use crate::walk::Steps;
-use crate::walk::joint::{By, Joint};
+use crate::walk::joint::Joint;
+use ft_match::{By, Chain, Phrase, Query};
 use std::alloc::{AllocError, Global};
 
 /// A query that joins nothing.

@@ -1,12 +1,12 @@
 //! Where phrases occur in one document: each occurrence is the place of its first token.
 ghost use Rattle.std.specs.Prelude.{◌≡◌, ◌∷◌, ◌+◌, ◌*◌, ◌++◌, [], if◌then◌else◌, length, filter, map, IfOk, OnOk, MatchOption};
-ghost use Rattle.ft_query.specs.Documents.{is_filled};
+ghost use Rattle.ft_match.specs.Documents.{is_filled};
 ghost use Rattle.ft_query.specs.Visit.{seek, among, skip_behind, begin_near, near_those, may_begin, offset_at};
 ghost use Rattle.ft_query.specs.Taken.{TakesAtMost, TakesOf, TakesSteps};
 
 use crate::lists::{Gap, Place};
-use crate::query::QueryTerm;
-use crate::walk::{Offset, Steps};
+use crate::walk::Steps;
+use ft_match::{Offset, QueryTerm};
 use std::alloc::{AllocError, Global};
 use std::cmp::Ordering;
 

@@ -2,9 +2,9 @@
 ghost use Rattle.std.specs.Prelude.{◌≡◌, ◌≤◌, ◌<◌, ◌+◌, ◌-◌, ◌*◌, ◌^◌, [], if◌then◌else◌, length, take, drop, map, flat_map, vec_len, option_map, sum_by, List, AllPairs, Some, None, IfOk, OnOk, OnErr};
 ghost use Rattle.std.specs.List.Sorted.{IsPermutation, IsSortedBy};
 ghost use Rattle.ft_query.specs.Cursors.{lists_left, places_at};
-ghost use Rattle.ft_query.specs.Documents.{Posting, IsBefore, is_filled};
-ghost use Rattle.ft_query.specs.Occurs.{accepts, offsets_of};
-ghost use Rattle.ft_query.specs.Trees.{plain_term, plain_phrase, plain_link, tree_of, phrase, chain};
+ghost use Rattle.ft_match.specs.Documents.{Posting, IsBefore, is_filled};
+ghost use Rattle.ft_match.specs.Occurs.{accepts, offsets_of};
+ghost use Rattle.ft_match.specs.Trees.{plain_term, plain_phrase, plain_link, tree_of, phrase, chain};
 ghost use Rattle.ft_query.specs.Marked.{chain_tree, own_lists, lists_after, AreNumbered, HaveLists, IsEmpty, AreLinked, Marks, Evaluates, Joins};
 ghost use Rattle.ft_query.specs.Spines.{leaf_tree};
 ghost use Rattle.ft_query.specs.Taken.{more_steps, TakesSteps, TakesAtMost, TakesOf, LooksForAll};
@@ -12,12 +12,12 @@ ghost use Rattle.ft_query.specs.Work.{terms_in, node_count, width};
 ghost use Rattle.ft_query.specs.Visit.{followed, last_phrase, if_wanted, starts_of, marks_from, linked, link_marks, plain_starts, plain_lists, listed_places, precedes, places_in, total, linked_cost, link_cost, visit_cost};
 
 use crate::lists::{Gap, Place};
-use crate::query::{Chain, Link, Phrase, Query, QueryTerm};
+use crate::walk::Steps;
 use crate::walk::cursor::Cursor;
-use crate::walk::joint::{By, Joint};
+use crate::walk::joint::Joint;
 use crate::walk::spine::{Leaf, add_spine, chain_count, term_count};
 use crate::walk::starts::{are_filled, begin, followed, mark, near_those};
-use crate::walk::{Offset, Steps};
+use ft_match::{By, Chain, Link, Offset, Phrase, Query, QueryTerm};
 use smallvec::SmallVec;
 use std::alloc::{AllocError, Global};
 

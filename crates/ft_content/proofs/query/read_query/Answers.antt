@@ -1,12 +1,12 @@
 -- the columns' names and the column that is searched are those of the definition
 use Rattle.std.proofs.Common.{◌≡◌, ℕ, List, map, Option, option_map, Result, Ok, Err, Some, sym, ap, ◌∙◌, subst, string_bytes, ◌≢◌, IfOk, IfErr, MatchResult}
 use Rattle.std.specs.Result.{IsErrAnd}
-use Rattle.ft_query.specs.declared.query.Query.{Query}
-use Rattle.ft_query.specs.declared.query.QueryFault.{QueryFault}
+use Rattle.ft_match.specs.declared.query.Query.{Query}
+use Rattle.ft_match.specs.declared.query.QueryFault.{QueryFault}
 use Rattle.ft_content.proofs.Common.{Tree, tree_of, query_of, Fault, Content, reading_fault, bare_content}
 use Rattle.ft_content.specs.Answer.{reading}
 use Rattle.ft_content.specs.Calls.{ReadsQuery}
-use Rattle.ft_query.specs.declared.query.QueryFault.TheVariants as query
+use Rattle.ft_match.specs.declared.query.QueryFault.TheVariants as query
 use Rattle.ft_values.specs.declared.fault.Fault.TheVariants as faults
 use Rattle.ft_content.proofs.query.read_query.Goals as goal
 

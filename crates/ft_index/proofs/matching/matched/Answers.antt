@@ -3,7 +3,7 @@ use Rattle.std.proofs.Common.{◌≡◌, ◌∙◌, ◌+◌, ◌-◌, ◌<◌, �
 use Rattle.ft_index.proofs.Common.{HasCleanDisk, IsBlamed, shows, value_in, tree_of, plain_hit, PlainHit, StoreState, Fault, Content, cut, content_documents}
 use Rattle.ft_index.proofs.Common.{HasContent, table_index, as_wanted, entries_asked, IsOutside, table_documents, IsIndexed}
 use Rattle.ft_query.specs.Work.{entry_count}
-use Rattle.ft_query.specs.Occurs.{hits_of}
+use Rattle.ft_match.specs.Occurs.{hits_of}
 use Rattle.ft_query.specs.Walk.{StandsBefore}
 use Rattle.ft_query.specs.Lists.{is_failed}
 use Rattle.ft_query.specs.declared.lists.ListFault.TheVariants as refusals

@@ -2,7 +2,7 @@
 use Rattle.std.proofs.Common.{[], ℤ, rules}
 use Rattle.std.proofs.lemmas.Iterator.{YieldsList-from_slice, YieldsList-from_map_by}
 use Rattle.std.proofs.lemmas.Iterator.Consumers.{YieldsList-at, map_from_collect}
-use Rattle.ft_query.specs.Occurs.{plain_hit, PlainHit}
+use Rattle.ft_match.specs.Occurs.{plain_hit, PlainHit}
 use Rattle.ft_index.proofs.select.bare_hits.Goals as goal
 
 pub returns : goal.returns

@@ -1,6 +1,7 @@
 use Rattle.std.proofs.Common.{◌≡◌, ◌-◌, ◌^◌, map, min}
 use Rattle.std.specs.Prelude.{take}
-use Rattle.ft_query.specs.Documents.{plain_list, place_count}
+use Rattle.ft_query.specs.Lists.{plain_list}
+use Rattle.ft_match.specs.Documents.{place_count}
 use Rattle.query_tests.proofs.words.count.Given as goal
 
 abbrev pub invariant-loop-list : goal.invariant-loop-list

@@ -3,7 +3,7 @@ use Rattle.std.proofs.Common.{◌≡◌, ◌⊎◌, true, refl, subst, ℕ, ℤ,
 use Rattle.ft_index.proofs.Common.{plain_list, lists_with, table_documents, HasCleanDisk, IsBlamed, shows, value_in}
 use Rattle.std.specs.List.{starts_with}
 use Rattle.ft_documents.proofs.{rows_count}
-use Rattle.ft_query.specs.Documents.{place_count}
+use Rattle.ft_match.specs.Documents.{place_count}
 use Rattle.ft_rows.specs.Shown.{shown_list, spot_count}
 use Rattle.ft_index.proofs.Doing.{none_damaged, read_failed}
 use Rattle.ft_index.proofs.WalkedLemmas.{still_after, walk_answer, gives}

@@ -2,7 +2,7 @@
 use Rattle.std.proofs.Common.{◌≡◌, ◌⊎◌, true, refl, subst, ℕ, ℤ, ◌+◌, ◌-◌, ◌^◌, min, w64, SFits, to_z-of_z, ◌&&◌, map, sym, ap, ◌∙◌, rules, bytes_eq, int_eq, is_eq}
 use Rattle.ft_index.proofs.Common.{plain_list, lists_with, name_cmp, table_documents, HasCleanDisk, IsBlamed, shows, value_in}
 use Rattle.ft_documents.proofs.{lists_count}
-use Rattle.ft_query.specs.Documents.{place_count}
+use Rattle.ft_match.specs.Documents.{place_count}
 use Rattle.ft_rows.specs.Shown.{shown_list, spot_count}
 use Rattle.ft_index.proofs.Doing.{none_damaged, read_failed}
 use Rattle.ft_index.proofs.WalkedLemmas.{still_after, term_answer, asks_term, gives}
