@@ -12,9 +12,9 @@ use Rattle.sqlite.specs.Held.{Held, IsNew}
 use Rattle.sqlite.specs.State.{HasCleanDisk}
 use Rattle.ft_store.specs.declared.fault.StoreFault.{StoreFault}
 use Rattle.ft_store.specs.declared.fault.StoreFault.TheVariants as store
-use Rattle.ft_store.specs.Adopted.{IsNotTaken, IsTakenAsStore, LeavesMade}
+use Rattle.ft_opening.specs.Adopted.{IsNotTaken, IsTakenAsStore, LeavesMade}
 use Rattle.ft_store.specs.Kept.{StoreState}
-use Rattle.ft_store.specs.Opened.{IsNewFrom}
+use Rattle.ft_opening.specs.Opened.{IsNewFrom}
 use Rattle.ft_files.specs.declared.databases.OpenFault.{OpenFault}
 use Rattle.ft_files.specs.declared.databases.OpenFault.TheVariants as fault
 use Rattle.ft_files.specs.Hosts.{IsHeld, IsLeft, IsLetGo, Names, OpensBothIn, OpensPlainIn, OpensStoreIn, Stay, StayBut, files_in}

@@ -13,9 +13,9 @@ use Rattle.sqlite.specs.Closing.{IsCopied, files_left}
 use Rattle.sqlite.specs.Files.{FailsToClose, IsCleanLeft, IsClosed, LeavesFiles, image_of, over_files}
 use Rattle.sqlite.specs.Held.{Held}
 use Rattle.ft_store.specs.declared.fault.StoreFault.{StoreFault}
-use Rattle.ft_store.specs.Adopted.{IsNotTaken, LeavesMade}
+use Rattle.ft_opening.specs.Adopted.{IsNotTaken, LeavesMade}
 use Rattle.ft_store.specs.Kept.{StoreState}
-use Rattle.ft_store.specs.Opened.{IsNewFrom}
+use Rattle.ft_opening.specs.Opened.{IsNewFrom}
 use Rattle.ft_files.specs.declared.databases.OpenFault.{OpenFault}
 use Rattle.ft_files.specs.declared.databases.OpenFault.TheVariants as fault
 use Rattle.ft_files.specs.Opening.{IsNoStoreFor, IsStoreFrom}

@@ -15,7 +15,7 @@ use Rattle.ft_store.specs.declared.fault.StoreFault.{StoreFault}
 use Rattle.ft_store.specs.declared.fault.StoreFault.TheVariants as store
 use Rattle.ft_store.specs.Calls.{IsPlainFault}
 use Rattle.ft_store.specs.Kept.{StoreState, shows, value_in}
-use Rattle.ft_store.specs.Opened.{IsNotTakenFrom, IsOpenedFrom}
+use Rattle.ft_opening.specs.Opened.{IsNotTakenFrom, IsOpenedFrom}
 use Rattle.ft_files.specs.declared.databases.OpenFault.{OpenFault}
 use Rattle.ft_files.specs.declared.databases.OpenFault.TheVariants as fault
 

@@ -6,6 +6,7 @@ ghost use Rattle.ft_files.specs.Opening.{Opens, OpensMemory, IsNoPlain, IsNoStor
 ghost use Rattle.ft_files.specs.Opening as forms;
 ghost use Rattle.ft_files.specs.declared.databases.OpenFault.TheVariants as fault;
 
+use ft_opening::OpenMemory;
 use ft_store::{Store, StoreFault};
 use ram_disk::{Ram, open_ram};
 use sqlite::{Connection, FileStore};

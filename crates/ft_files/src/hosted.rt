@@ -2,11 +2,12 @@
 ghost use Rattle.std.specs.Prelude.{◌≡◌, ◌≢◌, IsTrue, IfErr};
 ghost use Rattle.sqlite.specs.Files.{image_of, over_files};
 ghost use Rattle.sqlite.specs.Closing.{files_left};
-ghost use Rattle.ft_store.specs.Opened.{IsNewFrom};
+ghost use Rattle.ft_opening.specs.Opened.{IsNewFrom};
 ghost use Rattle.ft_files.specs.Hosts.{IsLeft, OpensBothIn, OpensPlainIn, OpensStoreIn, StayBut, files_in};
 
 use crate::databases::{OpenFault, store_fault};
 use crate::host::{Databases, Opened};
+use ft_opening::Adopt;
 use ft_store::{Store, StoreFault};
 use sqlite::{Connection, FileStore, Files};
 use sqlite_disk::Disk;

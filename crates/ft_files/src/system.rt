@@ -6,7 +6,7 @@ ghost use Rattle.ft_files.specs.Hosts.{StayBut, empty_image};
 use crate::access::make_beside;
 use crate::host::{Databases, Opened};
 use crate::names::are_free;
-use ft_store::{file_options, open_pair};
+use ft_opening::{file_options, open_pair};
 use sqlite::{File, Files, Unknown};
 use sqlite_disk::Disk;
 

@@ -19,7 +19,7 @@ use Rattle.ft_rows.specs.Store.{StoreValue}
 use Rattle.ft_store.specs.declared.fault.StoreFault.{StoreFault}
 use Rattle.ft_store.specs.declared.fault.StoreFault.TheVariants as fault
 use Rattle.ft_store.specs.Kept.{StoreState, shows, value_in}
-use Rattle.ft_store.specs.Opened.{IsNotTakenFrom}
+use Rattle.ft_opening.specs.Opened.{IsNotTakenFrom}
 use Rattle.ft_store.specs.Rows.{value_of}
 use Rattle.ft_store.specs.Tables.{store_schema}
 use Rattle.ft_content.specs.Step.{Contents}

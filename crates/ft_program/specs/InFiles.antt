@@ -7,7 +7,7 @@ use Rattle.sqlite.specs.Files.{image_of}
 use Rattle.sqlite.specs.Held.{Held}
 use Rattle.shell_text.specs.Print.{Settings}
 use Rattle.ft_store.specs.Kept.{StoreState}
-use Rattle.ft_store.specs.Opened.{IsNewFrom}
+use Rattle.ft_opening.specs.Opened.{IsNewFrom}
 use Rattle.ft_files.specs.declared.databases.OpenFault.{OpenFault}
 use Rattle.ft_files.specs.declared.databases.OpenFault.TheVariants as opening
 use Rattle.ft_files.specs.Hosts.{IsHeld, IsLetGo, Names, Stay, files_in}

@@ -9,7 +9,7 @@ use Rattle.sqlite.specs.State.{HasCleanDisk}
 use Rattle.ft_store.specs.declared.fault.StoreFault.{StoreFault}
 use Rattle.ft_store.specs.declared.fault.StoreFault.TheVariants as fault
 use Rattle.ft_store.specs.Kept.{StoreState, shows, value_in}
-use Rattle.ft_store.specs.Opened.{IsNotTakenFrom}
+use Rattle.ft_opening.specs.Opened.{IsNotTakenFrom}
 use Rattle.ft_content.specs.Step.{Contents}
 use Rattle.ft_calls.specs.Kept.{StoreHolds}
 use Rattle.ft_calls.specs.Kept.{HoldsLeft, Name}

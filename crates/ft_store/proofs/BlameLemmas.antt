@@ -194,10 +194,6 @@ unless_shut {A} old new shut opened = by_open old.is_open refl
     by_open false is = shut (inr (inl is))
     by_open true is = opened is
 
-pub blamed_on : (a b c : State) (C : _) → IsBlamed a b → Survives b c C → IsBlamed a c
-blamed_on a b c C (inl more) s = inl (omega (arith, s.counts, more))
-blamed_on a b c C (inr other) s = inr other
-
 pub blamed_then : (a b c : State) (C D : _) → HasCleanDisk b → Survives a b C → Survives b c D → IsBlamed b c → IsBlamed a c
 blamed_then a b c C D clean one two (inl more) = inl (omega (arith, one.counts, more))
 blamed_then a b c C D clean one two (inr (inr limit)) = inr (inr (subst IsSome one.limit limit))

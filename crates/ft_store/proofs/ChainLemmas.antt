@@ -1,10 +1,9 @@
 -- Reads one after another.
-use Rattle.std.proofs.Common.{◌≡◌, false, Result, Ok, Err, refl, sym, ap, ◌∙◌, subst, arith, IsTrue, inl, IfOk, IfErr, OnOk}
-use Rattle.ft_store.proofs.Common.{State, HasCleanDisk, Survives, survives_then, Ghosts, Held, Database, Trees, IsSound, StoreValue}
-use Rattle.ft_store.specs.declared.fault.StoreFault.{StoreFault}
+use Rattle.std.proofs.Common.{◌≡◌, false, Result, Ok, Err, sym, ap, ◌∙◌, subst, arith, IsTrue, IfOk, OnOk}
+use Rattle.ft_store.proofs.Common.{State, HasCleanDisk, Survives, survives_then, Database, Trees, IsSound, StoreValue}
 use Rattle.ft_store.specs.Tables.{store_schema}
 use Rattle.ft_store.specs.Rows.{value_of}
-use Rattle.ft_store.specs.Calls.{IsStore, IsStored, IsStoreIfOpen, IsMarked, IsPlainFault, HaveOwnRowids, Keeps, ReadsOnly}
+use Rattle.ft_store.specs.Calls.{IsStore, IsStored, IsStoreIfOpen, IsMarked, HaveOwnRowids, Keeps}
 
 pub kept_store : (old new : State) (C : _) → (HasCleanDisk new → Keeps old new) → Survives old new C → IsStoreIfOpen old → IsStoreIfOpen new
 kept_store old new C kept s store clean is_open =
@@ -31,21 +30,6 @@ reading_then a b c one two = record {
   survives = reads_then a b c one.live one.survives two.survives;
 }
 
--- reads from `old` to `now`, perhaps none
-pub record Looking (old now : State) : Type 0 where
-  pub mode : now.in_transaction ≡ false
-  pub kept : HasCleanDisk now → Keeps old now
-  pub live : HasCleanDisk now → IsTrue old.is_open → IsTrue now.is_open
-  pub survives : Survives old now (λ _. IsTrue old.is_open → ⊥)
-
-pub no_look : (s : State) → s.in_transaction ≡ false → Looking s s
-no_look s mode = record {
-  mode = mode;
-  kept = λ clean is_open. (refl, refl, is_open);
-  live = λ clean is_open. is_open;
-  survives = record { clean = omega arith; shield = λ h. h; counts = omega arith; limit = refl; closes = λ clean is_open. inl is_open; crash = λ clean db h. inl h };
-}
-
 -- ---- a read that was answered, and then what is made of its rows
 
 pub ok_too : {A E K : Type 0} (r : Result A E) → K → OnOk r K
@@ -55,9 +39,6 @@ ok_too (Err e) k = tt
 pub both : {X E : Type 0} (r : Result X E) (P Q R : X → Type 0) → ((x : X) → P x → Q x → R x) → IfOk r P → IfOk r Q → IfOk r R
 both (Ok x) P Q R f p q = f x p q
 both (Err e) P Q R f p q = tt
-
-pub reads_on : {S X Y : Type 0} (g : Ghosts S) (old new : Held S) (x : X) (result : Result Y StoreFault) → ReadsOnly g old new (Ok x) IsPlainFault → IfErr result IsPlainFault → ReadsOnly g old new result IsPlainFault
-reads_on g old new x result it fault = record { kept = it.kept; live = λ clean. ok_too result (it.live clean); mode = it.mode; survives = it.survives; fault = fault }
 
 -- ---- what a crash leaves of an open store
 

@@ -1,6 +1,5 @@
 mod AddNameLemmas
 mod AddedLemmas
-mod AdoptLemmas
 mod AnewLemmas
 mod AnswerLemmas
 mod BlameLemmas
@@ -10,7 +9,6 @@ mod ChangeLemmas
 mod ClearLemmas
 mod Common
 mod EntryLemmas
-mod ExamineLemmas
 mod ExpectedLemmas
 mod FoundLemmas
 mod GroupLemmas
@@ -23,7 +21,6 @@ mod NamedLemmas
 mod PutLemmas
 mod RangeLemmas
 mod RefusedLemmas
-mod SameLemmas
 mod StoreTables
 mod TableLemmas
 mod Texts
@@ -33,7 +30,24 @@ pub use Rattle.ft_store.proofs.BlameLemmas.{blamed_then}
 pub use Rattle.ft_store.proofs.ChainLemmas.{kept_then}
 -- changes that no store refuses
 pub use Rattle.ft_store.proofs.CantLemmas.{nothing_put}
--- a store that is opened has its own rowids
-pub use Rattle.ft_store.proofs.FoundLemmas.{found_numbered}
 -- a row that is put under its key
 pub use Rattle.ft_store.proofs.KeyedLemmas.{put-without_key}
+-- for `ft_opening`: texts of statements, and queries of one table
+pub use Rattle.ft_store.proofs.Texts.{make_skip_text, no_limit, no_offset, query_by, rising, table_query}
+-- what a query gives of a table, and why it is refused
+pub use Rattle.ft_store.proofs.AnswerLemmas.{cmp_ints, query_refused}
+pub use Rattle.ft_store.proofs.CantLemmas.{ascending_push}
+pub use Rattle.ft_store.proofs.ChangeLemmas.{all_selected, arranged, no_overlay}
+pub use Rattle.ft_store.proofs.FoundLemmas.{AreNumbers}
+pub use Rattle.ft_store.proofs.KeyedLemmas.{rises-sort_by}
+pub use Rattle.ft_store.proofs.TypedLemmas.{DifferIn, IsInt, int_is, is_integer, not_null, tied_ints}
+-- what a statement writes, and why it is refused
+pub use Rattle.ft_store.proofs.ChangeLemmas.{cast_int, cast_null, deletes, inserts}
+pub use Rattle.ft_store.proofs.RefusedLemmas.{apart, delete_blamed_in, never_leads, refers, write_refused_as}
+pub use Rattle.ft_store.proofs.StoreTables.{same_store, shaped_after}
+-- a table that is made
+pub use Rattle.ft_store.proofs.MakeLemmas.{allows_skip, create_blamed, creates, makes_skip, own, shows_then}
+-- what one call leaves, and why it is refused
+pub use Rattle.ft_store.proofs.BlameLemmas.{fails_blamed, refused_keeps, shown_commit, shown_open, unchanged_keeps, unless_shut}
+pub use Rattle.ft_store.proofs.ChainLemmas.{ok_too}
+pub use Rattle.ft_store.proofs.InsideLemmas.{runs_make, stays_then}

@@ -410,12 +410,6 @@ shaped_after tree old new (t ∷ tables) others shaped here = (go (nat_eq t.tree
     go true e = subst (λ n. HasOwnRowids (new n)) (sym (eqb-true t.tree tree e)) here
     go false e = subst (HasOwnRowids) (sym (others.0 (eqb-false t.tree tree e))) shaped.0
 
--- only `meta` differs
-pub same_rows : (old new : Trees) → AllByRecursion (λ t. t.tree ≢ 0 → new t.tree ≡ old t.tree) (drop 1 store_schema.tables) → value_of new ≡ value_of old
-same_rows old new rest =
-    same_store
-    (ap (λ r. keyed int_cmp (map table_entry r)) (rest.0 (λ e. omega (arith, e)))) (ap (λ r. keyed column_key_cmp (map column_entry r)) (rest.1.0 (λ e. omega (arith, e)))) (ap (λ r. keyed column_key_cmp (map skip_entry r)) (rest.1.1.1.1.1.1.0 (λ e. omega (arith, e)))) (ap (λ r. keyed cell_key_cmp (map cell_entry r)) (rest.1.1.0 (λ e. omega (arith, e)))) (ap (λ r. keyed list_key_cmp (map list_entry r)) (rest.1.1.1.0 (λ e. omega (arith, e)))) (ap (λ r. keyed cell_key_cmp (map size_entry r)) (rest.1.1.1.1.0 (λ e. omega (arith, e)))) (ap (λ r. keyed name_cmp (map note_entry r)) (rest.1.1.1.1.1.0 (λ e. omega (arith, e))))
-
 module _ (old new : State) (store : IsStore old.now) (shown : Shows old new new.now old.committed true) {K X : Type 0} {P : Row → Type 0} (t : StoreTable K X P) where
   sound : IsSound store_schema old.now.trees
   sound = subst (λ s. IsSound s old.now.trees) store.schema store.sound

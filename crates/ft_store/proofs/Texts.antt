@@ -100,15 +100,6 @@ noted_text = codes "SELECT name FROM noted ORDER BY name, name COLLATE BINARY"
 abbrev pub make_skip_text : List ℕ
 make_skip_text = codes "CREATE TABLE skip (tab INTEGER NOT NULL, col INTEGER NOT NULL, PRIMARY KEY (tab, col)) STRICT"
 
-abbrev pub mark_text : List ℕ
-mark_text = codes "INSERT INTO meta (one, version) VALUES (1, 3)"
-
-abbrev pub unmark_text : List ℕ
-unmark_text = codes "DELETE FROM meta"
-
-abbrev pub version_text : List ℕ
-version_text = codes "SELECT version FROM meta"
-
 -- ---- tables that are made anew
 
 abbrev pub blank_text : List ℕ

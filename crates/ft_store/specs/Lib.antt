@@ -1,13 +1,10 @@
 -- Meaning
-pub mod Adopted
 pub mod Blame
 pub mod Calls
 pub mod Docids
 pub mod Kept
-pub mod Older
 pub mod Rows
 pub mod Tables
-pub mod Opened
 pub mod Puts
 pub mod Parts
 -- Steps
@@ -19,7 +16,5 @@ pub mod Groups
 pub mod Inside
 pub mod Made
 pub mod Range
-pub mod Same
-pub mod Scan
 pub mod Settled
 pub mod Streamed

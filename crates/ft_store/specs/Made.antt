@@ -26,7 +26,6 @@ use Rattle.sqlite.specs.Effect.{Database, IsDatabase, IsShown}
 use Rattle.sqlite.specs.Order.{Row}
 use Rattle.sqlite.specs.Query.{Query}
 use Rattle.ft_store.specs.Tables.{store_schema}
-use Rattle.ft_store.specs.Calls.{HaveOwnRowids}
 
 abbrev pub compiled_command : Result Compiled CompileError → Command
 compiled_command (Ok c) = c.command
@@ -86,17 +85,6 @@ pub record MakesNext (made : ℕ) (text : List ℕ) : Type 0 where
   pub makes : MakesTableOf (first_tables made) text table
   pub allowed : IsAllowed (first_tables made) text table
   pub next : created (first_tables made) table ≡ first_tables (made + 1)
-
--- the tables of a store, with their rules kept, whatever `meta` has
-pub record IsTabled (db : Database) : Type 0 where
-  pub schema : db.schema ≡ store_schema
-  pub sound : IsDatabase db
-  pub numbered : HaveOwnRowids store_schema.tables db.trees
-
--- the same, where `meta` has no row
-pub record IsUnmarked (db : Database) : Type 0 where
-  pub tabled : IsTabled db
-  pub unmarked : db.trees 0 ≡ []
 
 -- What an answer of Ok means in a transaction where the disk returned what was written: of a database with the one property the statements
 -- made one with the other, and nothing is committed.

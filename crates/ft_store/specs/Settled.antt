@@ -1,29 +1,21 @@
 -- Steps. What the functions of a connection outside a transaction find and leave, each family with one frame.
-use Rattle.std.specs.Prelude.{◌≡◌, ◌≢◌, ℕ, ℤ, false, Result, Err, List, Vec, length, map, IsTrue, IfOk, IfErr, OnOk, OnErr}
+use Rattle.std.specs.Prelude.{◌≡◌, ℕ, false, Result, Err, List, Vec, map, IsTrue, IfOk, IfErr}
 use Rattle.std.specs.declared.alloc.Global.{Global}
 use Rattle.sqlite.specs.Effect.{Database}
 use Rattle.sqlite.specs.Given.{IsPlain}
 use Rattle.sqlite.specs.Listing.{understood}
 use Rattle.sqlite.specs.Order.{Row}
-use Rattle.sqlite.specs.State.{State, HasCleanDisk, Survives, Shown}
+use Rattle.sqlite.specs.State.{State, HasCleanDisk, Shown}
 use Rattle.sqlite.specs.Store.{Ghosts}
 use Rattle.sqlite.specs.Held.{Held, state}
-use Rattle.sqlite.specs.Tree.{Trees}
 use Rattle.ft_values.specs.declared.rows.Spot.{Spot}
 use Rattle.ft_values.specs.declared.rows.ListRow.{ListRow}
 use Rattle.ft_values.specs.declared.rows.EntryRow.{EntryRow}
-use Rattle.ft_rows.specs.Store.{ListKey, nothing_held}
+use Rattle.ft_rows.specs.Store.{ListKey}
 use Rattle.ft_rows.specs.Shown.{shown_entry, entries_of, AreListRows, SomeDamaged}
-use Rattle.ft_store.specs.declared.examine.Rowids.{Rowids}
-use Rattle.ft_store.specs.declared.examine.Rowids.TheVariants.{Apart, Unknown}
 use Rattle.ft_store.specs.declared.fault.StoreFault.{StoreFault}
 use Rattle.ft_store.specs.declared.fault.StoreFault.TheVariants as fault
-use Rattle.ft_store.specs.declared.same.Layout.{Layout}
-use Rattle.ft_store.specs.Tables.{no_schema}
-use Rattle.ft_store.specs.Rows.{value_of}
-use Rattle.ft_store.specs.Older.{schema_of}
-use Rattle.ft_store.specs.Calls.{HaveOwnRowids, AreTold, IsStore, IsPlainFault, IsReadFault, Keeps, ReadsOnly}
-use Rattle.ft_store.specs.Adopted.{IsOfVersion}
+use Rattle.ft_store.specs.Calls.{AreTold, IsPlainFault, IsReadFault, ReadsOnly}
 
 -- Outside a transaction, with a database that has this property as long as the disk returns what was written and the connection is open.
 pub record IsSettled (Has : Database → Type 0) (s : State) : Type 0 where
@@ -34,49 +26,10 @@ pub record IsSettled (Has : Database → Type 0) (s : State) : Type 0 where
 abbrev pub IsPlainIn : List ℕ → Database → Type 0
 IsPlainIn sql db = IsPlain (understood db.schema sql)
 
--- it has the tables of a store, of version 2 or of version 3
-abbrev pub IsLaidOut : Layout → Database → Type 0
-IsLaidOut layout db = db.schema ≡ schema_of layout
-
--- it has no objects
-abbrev pub IsBare : Database → Type 0
-IsBare db = db.schema ≡ no_schema
-
--- it is a store without rows
-abbrev pub IsEmptyStore : Database → Type 0
-IsEmptyStore db = IsStore db × (value_of db.trees ≡ nothing_held)
-
--- what is known of the rowids of its tables, as long as the disk returns what was written and the connection is open
-abbrev pub AreAsKnown : Rowids → State → Type 0
-AreAsKnown Apart s = HasCleanDisk s → IsTrue s.is_open → HaveOwnRowids s.now.schema.tables s.now.trees
-AreAsKnown Unknown s = Unit {0}
-
 -- What is answered without a database: on Ok such a value, and otherwise a plain fault.
 pub record FindsOrRefuses {X : Type 0} (result : Result X StoreFault) (Is : X → Type 0) : Type 0 where
   pub found : IfOk result Is
   pub fault : IfErr result IsPlainFault
-
--- Nothing is changed and nothing is committed, whatever is answered.
-pub record LeavesAlone (old new : State) : Type 0 where
-  pub kept : HasCleanDisk new → Keeps old new
-  pub mode : new.in_transaction ≡ false
-  pub survives : Survives old new (λ _. ⊥)
-
--- What one transaction makes of a database, and what it leaves whatever it is answered: all of it on Ok, with the connection open, and else
--- nothing; a crash leaves what it could leave before, or all of it. It is refused for such a reason.
-pub record MakesWhole (old new : State) (result : Result (Unit {0}) StoreFault) (IsMade : Database → Type 0)
-    (IsLeft : Trees → Type 0) (IsFault : StoreFault → Type 0) : Type 0 where
-  pub all : HasCleanDisk new → OnOk result (IsMade new.now)
-  pub none : HasCleanDisk new → OnErr result (Keeps old new)
-  pub live : HasCleanDisk new → OnOk result (IsTrue new.is_open)
-  pub mode : new.in_transaction ≡ false
-  pub crash : Survives old new (λ db. IsTrue old.is_open → IsLeft db)
-  pub fault : IfErr result IsFault
-
--- why a database with the tables of a store is none: `meta` hasn't one row, or has a version that is not taken
-pub record IsJudged (db : Trees) (result : Result (Unit {0}) StoreFault) : Type 0 where
-  pub unmarked : result ≡ Err fault.NotAStore → length (db 0) ≢ 1
-  pub version : (n : ℤ) → result ≡ Err (fault.Version n) → IsOfVersion n db
 
 -- What a read answers and leaves: where the disk returned what was written, an answer of Ok is such a value.
 pub record ReadsFor {S X : Type 0} (g : Ghosts S) (old new : Held S) (result : Result X StoreFault) (Is : X → Type 0) : Type 0 where

@@ -87,9 +87,6 @@ skip_table tree = keyed_table tree (codes "skip") (int_column (codes "tab") ∷ 
 abbrev pub key_index : List ℕ → ℕ → ℕ → List ℕ → Order → Index
 key_index name tree table columns order = record { name = name; tree = tree; table = table; columns = columns; order = order; is_unique = true }
 
-abbrev pub no_schema : Schema
-no_schema = record { tables = []; indexes = []; views = [] }
-
 abbrev pub store_schema : Schema
 store_schema = record {
   tables = meta_table 0 ∷ tab_table 1 ∷ col_table 3 ∷ cell_table 5 ∷ posting_table 7 ∷ sizes_table 9 ∷ noted_table 11 ∷ skip_table 13 ∷ [];

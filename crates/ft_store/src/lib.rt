@@ -1,18 +1,13 @@
 //! Rows of full-text tables in an SQL database of their own.
 #![tactic(auto)]
 
-mod adopt;
 mod clear;
-mod examine;
 mod expected;
 mod fault;
-mod files;
 mod lists;
 mod make;
-mod migrate;
 mod parts;
 mod read;
-mod same;
 mod sql;
 mod statements;
 mod store;
@@ -21,8 +16,14 @@ mod tables;
 mod write;
 
 pub use fault::StoreFault;
-pub use files::{file_options, open_database, open_pair};
 pub use ft_rows::{Posting, TermLists, packed_lists};
 pub use ft_values::{CellRow, EntryRow, ListRow, RowChange, SizeRow, Spot, TabRow, Value};
 pub use parts::Parts;
-pub use store::{AdoptFault, Store};
+pub use store::Store;
+
+// For `ft_opening`, which looks at databases and makes stores of them: what statements and reads are
+// made of, and the texts of tables.
+pub use make::create;
+pub use sql::MAKE_SKIP;
+pub use statements::run;
+pub use stream::{Gathered, InRow, gather, select};

@@ -152,5 +152,5 @@ pub(crate) const MAKE_NOTED: &str =
     "CREATE TABLE noted (name TEXT NOT NULL PRIMARY KEY COLLATE NOCASE) STRICT";
 
 /// The table `skip`.
-pub(crate) const MAKE_SKIP: &str =
+pub const MAKE_SKIP: &str =
     "CREATE TABLE skip (tab INTEGER NOT NULL, col INTEGER NOT NULL, PRIMARY KEY (tab, col)) STRICT";

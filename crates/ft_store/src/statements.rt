@@ -29,7 +29,7 @@ use sqlite::types::{ToSql, ValueRef};
 use sqlite::{Alter, Error as SqlError, ErrorCode, Transaction};
 
 /// One statement that changes rows.
-pub(crate) fn run<S: Alter>(
+pub fn run<S: Alter>(
     tx: &mut Transaction<'_, S>,
     sql: &str,
     params: &[ValueRef<'_>],

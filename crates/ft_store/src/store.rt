@@ -1,14 +1,12 @@
 //! The store: what its tables hold is one value, read by key and changed in transactions.
 ghost use Rattle.sqlite.specs.Held.{state};
-ghost use Rattle.ft_rows.specs.Store.{StoreValue};
-ghost use Rattle.std.specs.Prelude.{◌≡◌, ◌≢◌, ◌↔◌, if◌then◌else◌, ℤ, ◌&&◌, false, codes, Err, MatchResult, IfErr, map, vec_len, length, option_to_list, slice_get, is_some, nat_eq, All, IsTrue, IfOk, OnOk, OnErr};
+ghost use Rattle.std.specs.Prelude.{◌≡◌, ◌↔◌, if◌then◌else◌, ◌&&◌, false, Err, IfErr, map, vec_len, length, option_to_list, slice_get, is_some, nat_eq, All, IsTrue, IfOk, OnOk};
 ghost use Rattle.std.specs.Ordering.{int_eq, is_eq};
 ghost use Rattle.std.specs.List.{starts_with};
 ghost use Rattle.std.specs.FinMap.Entries.{where_key};
 ghost use Rattle.sqlite.specs.State.{HasCleanDisk};
-ghost use Rattle.sqlite_wal.specs.Files.{image_at};
 ghost use Rattle.sqlite_trees.specs.Tree.{Trees};
-ghost use Rattle.ft_rows.specs.Store.{cell_key_cmp, list_key_cmp, name_cmp, nothing_held, all_applied, AreInOrder};
+ghost use Rattle.ft_rows.specs.Store.{cell_key_cmp, list_key_cmp, name_cmp, all_applied, AreInOrder};
 ghost use Rattle.ft_rows.specs.Changes.{shown_change, CanApply};
 ghost use Rattle.ft_rows.specs.Shown.{shown_cell, shown_size, shown_note, shown_list, shown_entry, lists_under_term, lists_of_prefix, spot_count, table_listed, tables_listed, shown_table, last_docid_of, entries_of, AreWhole, AreListRows, SomeDamaged, AreNamedApart};
 ghost use Rattle.ft_rows.specs.Terms.{lists_by_terms};
@@ -16,20 +14,12 @@ ghost use Rattle.ft_store.specs.Blame.{Blames, AreTableTexts, AreNotedTexts};
 ghost use Rattle.ft_store.specs.Puts.{BlamesPuts};
 ghost use Rattle.ft_store.specs.Docids.{docids_in, cut_to};
 ghost use Rattle.ft_store.specs.Expected.{posting_count};
-ghost use Rattle.ft_store.specs.Calls.{AreTold, IsPlainFault, IsReadFault, IsChangeFault, IsStored, MakesAllOrNone};
-ghost use Rattle.ft_store.specs.declared.examine.Rowids.TheVariants.{Apart};
-ghost use Rattle.ft_store.specs.Settled.{AreAsKnown, IsSettled, IsBare, IsEmptyStore};
-ghost use Rattle.ft_store.specs.Adopted.{IsTakenAsStore, IsNotTaken, IsNotTakenFor, LeavesMade};
-ghost use Rattle.ft_store.specs.Older.{IsOlder};
+ghost use Rattle.ft_store.specs.Calls.{AreTold, IsPlainFault, IsReadFault, IsChangeFault, IsStored, IsStoreIfOpen, MakesAllOrNone};
 ghost use Rattle.ft_store.specs.Parts.{changes_in, CanMake};
 
-use crate::adopt::take;
-use crate::examine::Rowids;
 use crate::expected::count_places;
 use crate::fault::StoreFault;
-use crate::files::open_database;
 use crate::lists::{count_spots, term_entries};
-use crate::make::make;
 use crate::parts::Parts;
 use crate::read::row_limit;
 use crate::sql::{CELLS, DOCIDS, DOCUMENT, LAST_DOCID, NOTED, ONE_CELL, SIZES};
@@ -37,10 +27,7 @@ use crate::stream::select;
 use crate::{expected, lists, tables, write};
 use ft_rows::TermLists;
 use ft_values::{CellRow, EntryRow, ListRow, RowChange, SizeRow, TabRow};
-use ram_disk::{Ram, open_ram};
-use sqlite::{
-    Alter, Connection, Error as SqlError, File, FileFrom, FileStore, Start, Unknown, params,
-};
+use sqlite::{Alter, Connection, params};
 use std::alloc::Global;
 use std::marker::Model;
 
@@ -70,182 +57,21 @@ impl<S: Alter> Model for Store<S> {
     ghost invariant = { λ s. IsKept S.Store s.conn };
 }
 
-/// Why a database is not taken as a store, with its connection as it was.
-#[derive(Drop)]
-pub struct AdoptFault<S: Alter> {
-    pub connection: Connection<S>,
-    pub cause: StoreFault,
-}
-
-impl Store<FileStore<Ram>> {
-    ghost use Rattle.sqlite.specs.Files.{over_files};
-    ghost use Rattle.ft_store.specs.Kept.{shows, value_in};
-
-    /// An empty store in memory, which is clean at all times. A disk in memory fails only where a
-    /// write finds none, so each error is want of memory.
-    pub fn open_memory(alloc: Global) -> Result<Store<FileStore<Ram>>, StoreFault>
-        ensures empty { IfOk result (λ store. value_in over_files store ≡ nothing_held) }
-        ensures clean { IfOk result (λ store. HasCleanDisk (shows over_files store)) }
-        ensures up { IfOk result (λ store. IsTrue (shows over_files store).is_open) }
-        ensures unread { IfOk result (λ store. store.rows_read ≡ 0) }
-        ensures causes { OnErr result (result ≡ Err StoreFault.Memory) }
-    {
-        Store::begun(alloc, open_ram(alloc))
-    }
-}
-
-impl Store<FileStore<File>> {
-    /// The store in a file, which is made where it isn't there. `:memory:` is refused. Nothing is
-    /// supposed of what a file that isn't empty held: where something is known of it, `open_from`
-    /// says what is found.
-    pub fn open_file(rt: &HostRuntime, path: &str) -> Result<Store<FileStore<File>>, StoreFault>
-        ensures memory { path.now ≡ codes ":memory:" → result ≡ Err StoreFault.Refused }
-        ensures unread { IfOk result (λ store. store.rows_read ≡ 0) }
-    {
-        Store::open_from(rt, path, Unknown)
-    }
-}
-
-impl<B: Start> Store<FileStore<FileFrom<B>>> {
-    ghost use Rattle.sqlite.specs.Files.{over_files};
-    ghost use Rattle.ft_store.specs.Opened.{IsOpenedFrom, IsRefusedFrom};
-
-    /// The same, where `B` stands for what the files held: the database that they hold is taken as
-    /// a store.
-    pub fn open_from(
-        rt: &HostRuntime,
-        path: &str,
-        start: B,
-    ) -> Result<Store<FileStore<FileFrom<B>>>, StoreFault>
-        ensures memory { path.now ≡ codes ":memory:" → result ≡ Err StoreFault.Refused }
-        ensures opened { IfOk result (λ store. IsOpenedFrom (image_at B.Start) store.held) }
-        ensures refused { IsRefusedFrom (image_at B.Start) result }
-        ensures unread { IfOk result (λ store. store.rows_read ≡ 0) }
-    {
-        let conn = open_database(rt, path, start)?;
-        Store::taken(rt.alloc(), conn)
-    }
-}
-
-impl<S: Alter> Store<S> {
-    /// As `adopt`, of a database whose rowids are known to be apart, as those of every database are
-    /// that was opened over files: they aren't looked at.
-    pub fn adopt_opened(alloc: Global, conn: Connection<S>) -> Result<Store<S>, AdoptFault<S>>
-        requires settled { conn.in_transaction ≡ false }
-        requires known { AreAsKnown Apart (state S.Store conn) }
-        ensures taken { IfOk result (λ store. IsTakenAsStore S.Store conn store.held
-            × LeavesMade S.Store conn store.held × (store.rows_read ≡ 0)) }
-        ensures refused { IfErr result (λ fault.
-            IsNotTaken S.Store conn fault.connection fault.cause
-            × LeavesMade S.Store conn fault.connection) }
-    {
-        let mut conn = conn;
-        match take(&mut conn, alloc, Rowids::Apart) {
-            Ok(()) => Ok(Store {
-                conn,
-                alloc,
-                rows_read: UNREAD,
-            }),
-            Err(cause) => Err(AdoptFault {
-                connection: conn,
-                cause,
-            }),
-        }
-    }
-}
-
-impl<S: Alter + Drop> Store<S> {
-    // The database, whose rowids are apart, as a store, or why it is not taken: then what it stands
-    // on is let go here alone.
-    fn taken(alloc: Global, conn: Connection<S>) -> Result<Store<S>, StoreFault>
-        requires settled { conn.in_transaction ≡ false }
-        requires known { AreAsKnown Apart (state S.Store conn) }
-        ensures taken { IfOk result (λ store. IsTakenAsStore S.Store conn store.held
-            × LeavesMade S.Store conn store.held × (store.rows_read ≡ 0)) }
-        ensures refused { IfErr result (IsNotTakenFor S.Store conn) }
-    {
-        let mut conn = conn;
-        take(&mut conn, alloc, Rowids::Apart)?;
-        Ok(Store {
-            conn,
-            alloc,
-            rows_read: UNREAD,
-        })
-    }
-
-    // An empty store in a new database, if it was opened. Each refusal is want of memory.
-    fn begun(alloc: Global, found: Result<Connection<S>, SqlError>) -> Result<Store<S>, StoreFault>
-        requires { IfOk found (λ conn. IsSettled IsBare (state S.Store conn)) }
-        ensures empty { IfOk result (λ store. HasCleanDisk (state S.Store store.held)
-            → IsEmptyStore (state S.Store store.held).now) }
-        ensures up { IfOk result (λ store. HasCleanDisk (state S.Store store.held)
-            → IsTrue (state S.Store store.held).is_open) }
-        ensures unread { IfOk result (λ store. store.rows_read ≡ 0) }
-        ensures causes { OnErr result (result ≡ Err StoreFault.Memory) }
-    {
-        let Ok(mut conn) = found else {
-            return Err(StoreFault::Memory);
-        };
-        let Ok(()) = make(&mut conn) else {
-            return Err(StoreFault::Memory);
-        };
-        Ok(Store {
-            conn,
-            alloc,
-            rows_read: UNREAD,
-        })
-    }
-}
-
 impl<S: Alter> Store<S> {
     ghost use Rattle.ft_store.specs.Kept.{shows, value_in, AreCommitted, Pings, ReadsRows};
 
-    /// Takes a database that holds a store, as it is, or one without objects, which becomes an
-    /// empty store in one transaction. A store of version 2 becomes one of version 3 that holds the
-    /// same, also in one transaction. Any other is handed back as it was, outside a transaction.
-    /// One in a transaction is refused, and handed back in it.
-    pub fn adopt(alloc: Global, conn: Connection<S>) -> Result<Store<S>, AdoptFault<S>>
-        ensures taken { conn.in_transaction ≡ false
-            → IfOk result (λ store. IsTakenAsStore S.Store conn store.held
-            × (store.rows_read ≡ 0)) }
-        ensures refused { conn.in_transaction ≡ false
-            → IfErr result (λ fault. IsNotTaken S.Store conn fault.connection fault.cause) }
-        ensures again { conn.in_transaction ≡ false
-            → IfErr result (λ fault. HasCleanDisk (state S.Store fault.connection)
-            → IsTrue (state S.Store conn).is_open → (v : StoreValue)
-            → IsStored (state S.Store conn).now.trees v → (fault.cause ≢ StoreFault.NotAStore)
-            × ((n : ℤ) → fault.cause ≢ StoreFault.Version n)) }
-        ensures again_older { conn.in_transaction ≡ false
-            → IfErr result (λ fault. HasCleanDisk (state S.Store fault.connection)
-            → IsTrue (state S.Store conn).is_open → IsOlder (state S.Store conn).now.trees
-            → (fault.cause ≢ StoreFault.NotAStore)
-            × ((n : ℤ) → fault.cause ≢ StoreFault.Version n)) }
-        ensures busy { IsTrue conn.in_transaction
-            → MatchResult result (λ _. ⊥) (λ fault. (fault.connection ≡ conn)
-            × (fault.cause ≡ StoreFault.Refused)) }
-        ensures crash { conn.in_transaction ≡ false
-            → MatchResult result (λ store. LeavesMade S.Store conn store.held)
-            (λ fault. LeavesMade S.Store conn fault.connection) }
+    /// The store that a connection stands for, where its database is known to be one: nothing of it
+    /// is looked at.
+    pub fn over(alloc: Global, conn: Connection<S>) -> Store<S>
+        requires settled { conn.in_transaction ≡ false }
+        requires store { IsStoreIfOpen (state S.Store conn) }
+        ensures held { result.held ≡ conn }
+        ensures unread { result.rows_read ≡ 0 }
     {
-        let mut conn = conn;
-        // For the proof: an open database keeps the rules of its schema.
-        let _schema = conn.schema();
-        if !conn.is_autocommit() {
-            return Err(AdoptFault {
-                connection: conn,
-                cause: StoreFault::Refused,
-            });
-        }
-        match take(&mut conn, alloc, Rowids::Unknown) {
-            Ok(()) => Ok(Store {
-                conn,
-                alloc,
-                rows_read: UNREAD,
-            }),
-            Err(cause) => Err(AdoptFault {
-                connection: conn,
-                cause,
-            }),
+        Store {
+            conn,
+            alloc,
+            rows_read: UNREAD,
         }
     }
 

@@ -14,7 +14,7 @@ use sqlite::{Alter, Connection, Row};
 use std::alloc::Global;
 
 /// What is made of rows, one after the other.
-pub(crate) trait Gathered: Sized {
+pub trait Gathered: Sized {
     /// It is made of these rows, which are all whole, or it is known that one of them isn't.
     ghost is_made_of: { Self → Bool → List order.Row → Type 0 };
 
@@ -34,7 +34,7 @@ pub(crate) trait Gathered: Sized {
 }
 
 /// Gathers the rows that a query gives, and says whether all are whole. It changes nothing.
-pub(crate) fn gather<S: Alter, G: Gathered>(
+pub fn gather<S: Alter, G: Gathered>(
     conn: &mut Connection<S>,
     sql: &str,
     params: &[ValueRef<'_>],
@@ -67,7 +67,7 @@ pub(crate) fn gather<S: Alter, G: Gathered>(
 }
 
 /// What stands in a row of a query.
-pub(crate) trait InRow: Drop {
+pub trait InRow: Drop {
     /// The same under its key in the store's value, with the table that is asked for.
     ghost Shown: { Type 0 };
 
@@ -105,7 +105,7 @@ impl<T: InRow> Gathered for InRows<T> {
 }
 
 /// What stands in the rows that a query gives, in their order.
-pub(crate) fn select<S: Alter, T: InRow>(
+pub fn select<S: Alter, T: InRow>(
     conn: &mut Connection<S>,
     alloc: Global,
     sql: &str,

@@ -3,6 +3,7 @@
 
 use crate::commands::are_done;
 use ft_index::FullText;
+use ft_opening::Adopt;
 use ft_store::Store;
 use sqlite::{Alter, Connection};
 use std::alloc::{AllocError, Global};

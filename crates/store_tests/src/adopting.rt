@@ -1,5 +1,6 @@
 //! Databases that are taken as stores, why others are not, and what is left of them.
 
+use ft_opening::Adopt;
 use ft_store::{Store, StoreFault};
 use ram_disk::Honest;
 use sqlite::{Alter, Connection};

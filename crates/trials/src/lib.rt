@@ -2,6 +2,7 @@
 //! it the checker follows each way out into the parts of a disk. So a trial is generic in it.
 #![tactic(auto)]
 
+use ft_opening::{Adopt, OpenMemory};
 use ft_store::{Store, StoreFault};
 use ram_disk::{Honest, is_always_clean, open_ram};
 use sqlite::{Alter, Connection};

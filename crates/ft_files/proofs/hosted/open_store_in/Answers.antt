@@ -1,7 +1,7 @@
 use Rattle.std.proofs.Common.{inl, refl, sym, subst}
 use Rattle.sqlite.specs.Effect.{Database}
 use Rattle.sqlite.specs.Files.{AreFoundIn}
-use Rattle.ft_store.proofs.{found_numbered}
+use Rattle.ft_opening.proofs.{found_numbered}
 use Rattle.ft_files.proofs.HostLemmas.{refuses_store, takes_no_store, takes_store}
 use Rattle.ft_files.proofs.hosted.open_store_in.Goals as goal
 

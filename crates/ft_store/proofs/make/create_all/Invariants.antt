@@ -1,5 +1,0 @@
-use Rattle.ft_store.proofs.MakeLemmas.{Making}
-use Rattle.ft_store.proofs.make.create_all.Given as goal
-
-abbrev pub invariant-loop-at : goal.invariant-loop-at
-invariant-loop-at g l = Making g.S.Store l.fn.tx.conn l.tx.conn l.at
