@@ -3,8 +3,8 @@
 # in a folder of its own (the first argument, or a new one), proves and builds it, and prints a table: see commands.py.
 set -eu
 . "$(dirname "$0")/crate.sh"
-begin_crate "${1:-}" time_commands "ft_index ft_statements ft_content ft_store shell_text sqlite anyhow" \
-    ft_values ft_match ft_query shell_text ram_disk ft_rows ft_store ft_content ft_documents ft_index ft_statements
+begin_crate "${1:-}" time_commands "ft_index ft_statements ft_content ft_opening ft_store shell_text sqlite anyhow" \
+    ft_values ft_commands ft_match ft_query shell_text ram_disk ft_rows ft_store ft_opening ft_content ft_documents ft_calls ft_index ft_statements
 cat > "$crate/src/main.rt" <<'RT'
 //! Executes full-text statements. Standard input has the path of a store, or an empty line for one in memory, and then a statement a
 //! line. The first line of the output tells how many nanoseconds it took to take the store, and each further one those of a command,
@@ -14,6 +14,7 @@ cat > "$crate/src/main.rt" <<'RT'
 use anyhow::bail;
 use ft_content::{Command, Reply};
 use ft_index::FullText;
+use ft_opening::{OpenFile, OpenMemory};
 use ft_statements::{Class, read_statement};
 use ft_store::Store;
 use shell_text::sql_words;

@@ -3,12 +3,13 @@
 # program in a folder of its own (the first argument, or a new one), proves and builds it, and prints a table: see rows.py.
 set -eu
 . "$(dirname "$0")/crate.sh"
-begin_crate "${1:-}" store_rows "ft_store sqlite anyhow" ft_values ram_disk ft_rows ft_store
+begin_crate "${1:-}" store_rows "ft_opening ft_store sqlite anyhow" ft_values ram_disk ft_rows ft_store ft_opening
 cat > "$crate/src/main.rt" <<'RT'
 //! Fills a store with 10^5 posting rows, or reads them. Standard input has its path, and how many changes the rows are spread over,
 //! or 0 to read. A line for each step tells the nanoseconds that it took.
 #![tactic(auto)]
 
+use ft_opening::OpenFile;
 use ft_store::{RowChange, Spot, Store, StoreFault};
 use sqlite::Alter;
 use std::alloc::{AllocError, Global};
