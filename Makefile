@@ -28,7 +28,7 @@ build:
 
 # How many processors a check takes from nothing: one, but two on the way that everything waits for, where four crates fit side by side.
 processors = 1
-prove-ft_store prove-ft_index prove-ft_shell prove-ft_program: private processors = $(if $(filter 1 2 3,$(RT_JOBS)),1,2)
+prove-ft_index prove-ft_program: private processors = $(if $(filter 1 2 3,$(RT_JOBS)),1,2)
 
 # `prove-NAME` proves a library, after those that it stands on.
 $(foreach it,$(CRATES),$(eval prove-$(it): $(addprefix prove-,$(call below,$(it)))))
