@@ -4,9 +4,9 @@ use Rattle.clap.specs.Faults.{fault_of}
 use Rattle.clap.specs.Kinds.{Kinds}
 use Rattle.clap.specs.declared.error.kind.ErrorKind.TheVariants as kind
 use Rattle.clap.proofs.OnLiterals.{clap_on_literals}
-use Rattle.shell_text.specs.Print.{Settings, first_settings}
+use Rattle.shell_text.specs.Print.{first_settings}
 use Rattle.shell_text.specs.declared.settings.Mode.TheVariants as mode
-use Rattle.ft_line.specs.Line.{BadSeparator, Conflict, LineAnswer, Means, dashed_words, ft4sh, line_of}
+use Rattle.ft_line.specs.Line.{BadSeparator, Conflict, Means, dashed_words, ft4sh, line_of}
 
 -- why the command refuses words, one dash read as two
 abbrev faults : List (List ℕ) → Kinds

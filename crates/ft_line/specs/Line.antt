@@ -52,13 +52,26 @@ abbrev pub with_rules : App → List Rule → App
 with_rules app [] = app
 with_rules app (rule ∷ rules) = with_rules (with_rule app rule) rules
 
--- the command as `clap` sees it: it is given its words without the program's name, and has a version; `clap` adds `-h`, `--help`, `-V` and
--- `--version`
+-- the command before its arguments: it is given its words without the program's name, and has a version; `clap` adds `-h`, `--help`, `-V`
+-- and `--version`
+abbrev pub without_arguments : App
+without_arguments = on_top (λ top. record top { no_binary_name = true; has_version = true }) (new_app (codes "ft4sh"))
+
+-- the flags that say how a run goes and whether names are printed
+abbrev pub switches : List Rule
+switches = flag (codes "bail") ∷ flag (codes "echo") ∷ flag (codes "header") ∷ flag (codes "noheader") ∷ []
+
+-- those that set the mode
+abbrev pub modes : List Rule
+modes = flag (codes "list") ∷ flag (codes "csv") ∷ flag (codes "column") ∷ flag (codes "quote") ∷ []
+
+-- the options with a text
+abbrev pub texts : List Rule
+texts = value_option (codes "separator") ∷ value_option (codes "nullvalue") ∷ []
+
+-- the command as `clap` sees it
 abbrev pub ft4sh : App
-ft4sh = on_top (λ top. record top { no_binary_name = true; has_version = true }) (with_rules (new_app (codes "ft4sh"))
-    (flag (codes "bail") ∷ flag (codes "echo") ∷ flag (codes "header") ∷ flag (codes "noheader")
-    ∷ flag (codes "list") ∷ flag (codes "csv") ∷ flag (codes "column") ∷ flag (codes "quote")
-    ∷ value_option (codes "separator") ∷ value_option (codes "nullvalue") ∷ file ∷ sql ∷ []))
+ft4sh = with_rules (with_rules (with_rules (with_rules without_arguments switches) modes) texts) (file ∷ sql ∷ [])
 
 -- ---- what `clap` found in the words
 

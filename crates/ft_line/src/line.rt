@@ -154,41 +154,68 @@ Manual: man ft4sh, or docs/MANUAL.md";
 // The program's version, and the kit that proves and builds it.
 const VERSION: &str = "1.0.0 (rattle-kit-13)";
 
-// The command, which is given its words without the program's name.
-fn command<'a>(alloc: Global) -> Result<Command<'a>, AllocError>
-    ensures { IfOk result (λ command. app_of command ≡ forms.ft4sh) }
+// The command before its arguments.
+fn without_arguments<'a>(alloc: Global) -> Command<'a>
+    ensures { app_of result ≡ forms.without_arguments }
 {
-    let bare = Command::new(alloc, "ft4sh")
+    Command::new(alloc, "ft4sh")
         .about("SQL shell with full-text tables")
         .version(VERSION)
         .after_help(HELP_END)
-        .no_binary_name(true);
-    let bail = with_flag(alloc, bare, "bail", "Stop after the first fault")?;
+        .no_binary_name(true)
+}
+
+fn with_switches<'a>(alloc: Global, command: Command<'a>) -> Result<Command<'a>, AllocError>
+    ensures { IfOk result (λ more. app_of more
+        ≡ forms.with_rules (app_of command.entry) forms.switches) }
+{
+    let bail = with_flag(alloc, command, "bail", "Stop after the first fault")?;
     let echo = with_flag(alloc, bail, "echo", "Print each input before it runs")?;
     let header = with_flag(alloc, echo, "header", "Always print the names of columns")?;
-    let noheader = with_flag(
+    with_flag(
         alloc,
         header,
         "noheader",
         "Never print the names of columns",
-    )?;
+    )
+}
+
+fn with_modes<'a>(alloc: Global, command: Command<'a>) -> Result<Command<'a>, AllocError>
+    ensures { IfOk result (λ more. app_of more
+        ≡ forms.with_rules (app_of command.entry) forms.modes) }
+{
     let list = with_flag(
         alloc,
-        noheader,
+        command,
         "list",
         "Print values with a separator between [default]",
     )?;
     let csv = with_flag(alloc, list, "csv", "Print comma-separated records")?;
     let column = with_flag(alloc, csv, "column", "Print columns of even width")?;
-    let quote = with_flag(alloc, column, "quote", "Print SQL literals")?;
+    with_flag(alloc, column, "quote", "Print SQL literals")
+}
+
+fn with_texts<'a>(alloc: Global, command: Command<'a>) -> Result<Command<'a>, AllocError>
+    ensures { IfOk result (λ more. app_of more
+        ≡ forms.with_rules (app_of command.entry) forms.texts) }
+{
     let separator = with_option(
         alloc,
-        quote,
+        command,
         "separator",
         "Text between the values of a row",
     )?;
-    let nullvalue = with_option(alloc, separator, "nullvalue", "Text that stands for NULL")?;
-    with_places(alloc, nullvalue)
+    with_option(alloc, separator, "nullvalue", "Text that stands for NULL")
+}
+
+// The command, which is given its words without the program's name.
+fn command<'a>(alloc: Global) -> Result<Command<'a>, AllocError>
+    ensures { IfOk result (λ command. app_of command ≡ forms.ft4sh) }
+{
+    let switches = with_switches(alloc, without_arguments(alloc))?;
+    let modes = with_modes(alloc, switches)?;
+    let texts = with_texts(alloc, modes)?;
+    with_places(alloc, texts)
 }
 
 // What the command finds in the words.
