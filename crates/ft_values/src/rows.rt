@@ -60,7 +60,7 @@ pub struct SizeRow {
 }
 
 /// A change of the rows of a store. The first number is the table's.
-#[derive(Debug, Drop)]
+#[derive(Drop)]
 pub enum RowChange {
     /// The table with its name, its columns in order, and the numbers of those that aren't indexed.
     /// No other row of the table stays.

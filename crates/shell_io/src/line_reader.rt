@@ -11,7 +11,7 @@ use std::marker::Model;
 use std::mem;
 
 /// A line that is refused, or the end of the input, with the number of the line.
-#[derive(Debug, Drop)]
+#[derive(Drop)]
 pub struct Refusal {
     pub line: u64,
     pub fault: SplitFault,

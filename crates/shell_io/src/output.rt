@@ -14,7 +14,7 @@ use shell_text::{LexFault, PrintFault, RecordFault, SetFault};
 use std::alloc::{AllocError, AllocFailed};
 
 /// What a turn has to say: bytes for the output or warnings, if anything, or that the session ends.
-#[derive(Debug, Drop)]
+#[derive(Drop)]
 pub enum Output {
     Nothing,
     Bytes(Vec<u8>),
@@ -23,7 +23,7 @@ pub enum Output {
 }
 
 /// Why a turn fails: the text of its fault line, and the warnings that go before.
-#[derive(Debug, Drop)]
+#[derive(Drop)]
 pub struct Complaint {
     pub(crate) warnings: Option<String>,
     pub(crate) text: FaultText,

@@ -7,7 +7,7 @@ use ft_values::Fault;
 use shell_text::SplitFault;
 
 /// The text of a fault line. It takes no memory, but for one that is made.
-#[derive(Debug, Drop)]
+#[derive(Drop)]
 pub enum FaultText {
     Fixed(&'static str),
     /// How a dot-command is used.
