@@ -39,3 +39,10 @@ pub record Grid : Type 0 where
 pub data Reply : Type 0 where
   Done : Reply
   Rows : (grid : Grid) → Reply
+
+-- the arguments of `.import`: whether a comma parts fields, how many records are skipped, and a file's and a table's name
+pub record Import : Type 0 where
+  pub csv : Bool
+  pub skip : Option ℕ
+  pub file : List ℕ
+  pub table : List ℕ

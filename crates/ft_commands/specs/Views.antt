@@ -18,6 +18,7 @@ use Rattle.ft_commands.specs.declared.command.Selection.{Selection}
 use Rattle.ft_commands.specs.declared.command.Command.{Command}
 use Rattle.ft_commands.specs.declared.command.Command.TheVariants as commands
 use Rattle.ft_commands.specs.declared.command.Grid.{Grid}
+use Rattle.ft_commands.specs.declared.command.Import.{Import}
 use Rattle.ft_commands.specs.declared.command.Reply.{Reply}
 use Rattle.ft_commands.specs.declared.command.Reply.TheVariants as replies
 use Rattle.ft_commands.specs.Command as plain
@@ -88,3 +89,6 @@ reply_of (replies.Rows grid) = plain.Rows (grid_of grid)
 abbrev pub answer_of : Result Reply Fault → Result plain.Reply Fault
 answer_of (Ok reply) = Ok (reply_of reply)
 answer_of (Err fault) = Err fault
+
+abbrev pub import_as : Import → plain.Import
+import_as what = record { csv = what.csv; skip = what.skip; file = string_bytes what.file; table = string_bytes what.table }

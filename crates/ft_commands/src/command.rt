@@ -1,8 +1,8 @@
-//! Commands on full-text tables and their replies.
+//! Commands on full-text tables and their replies, and imports.
 use ft_values::Value;
 
 /// Which documents are meant.
-#[derive(Debug, Drop)]
+#[derive(Drop)]
 pub enum Filter {
     /// All of them.
     All,
@@ -13,7 +13,7 @@ pub enum Filter {
 }
 
 /// An item of a Select.
-#[derive(Debug, Drop)]
+#[derive(Drop)]
 pub enum Item {
     /// All columns.
     All,
@@ -24,7 +24,7 @@ pub enum Item {
 }
 
 /// What a Select answers.
-#[derive(Debug, Drop)]
+#[derive(Drop)]
 pub enum Items {
     /// How many documents are chosen.
     Count,
@@ -35,7 +35,7 @@ pub enum Items {
 /// What a Create asks for: a table of these columns, or of one named `content` where there is none.
 /// An option is a name and a value. With `if_new` a table of that name may be there, and then
 /// nothing is made.
-#[derive(Debug, Drop)]
+#[derive(Drop)]
 pub struct Creation {
     pub table: String,
     pub module: String,
@@ -46,7 +46,7 @@ pub struct Creation {
 
 /// The rows that an Insert adds. A row has a value for each of `columns`, or for each column of the
 /// table.
-#[derive(Debug, Drop)]
+#[derive(Drop)]
 pub struct Insertion {
     pub table: String,
     pub columns: Option<Vec<String>>,
@@ -55,7 +55,7 @@ pub struct Insertion {
 
 /// The values that an Update sets, each under the name of its column, and the documents that it
 /// chooses.
-#[derive(Debug, Drop)]
+#[derive(Drop)]
 pub struct Modification {
     pub table: String,
     pub sets: Vec<(String, Value)>,
@@ -63,7 +63,7 @@ pub struct Modification {
 }
 
 /// The documents that a Delete chooses.
-#[derive(Debug, Drop)]
+#[derive(Drop)]
 pub struct Deletion {
     pub table: String,
     pub filter: Filter,
@@ -71,7 +71,7 @@ pub struct Deletion {
 
 /// What a Select asks for: items of the documents that are chosen, by rising docid, without the
 /// first `offset` and at most `limit`.
-#[derive(Debug, Drop)]
+#[derive(Drop)]
 pub struct Selection {
     pub table: String,
     pub items: Items,
@@ -81,7 +81,7 @@ pub struct Selection {
 }
 
 /// A command on full-text tables. Names are compared without ASCII case.
-#[derive(Debug, Drop)]
+#[derive(Drop)]
 pub enum Command {
     /// Makes a table.
     Create(Creation),
@@ -115,4 +115,15 @@ pub struct Grid {
 pub enum Reply {
     Done,
     Rows(Grid),
+}
+
+/// The arguments of `.import`.
+#[derive(Drop)]
+pub struct Import {
+    /// Whether a comma parts fields, whatever the separator is.
+    pub csv: bool,
+    /// How many records are skipped.
+    pub skip: Option<u64>,
+    pub file: String,
+    pub table: String,
 }

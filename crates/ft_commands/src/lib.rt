@@ -1,11 +1,11 @@
-//! Commands on full-text tables and their replies, as data.
+//! Commands on full-text tables and their replies, and imports, as data.
 #![tactic(auto)]
 
 mod command;
 mod fault;
 
 pub use command::{
-    Command, Creation, Deletion, Filter, Grid, Insertion, Item, Items, Modification, Reply,
+    Command, Creation, Deletion, Filter, Grid, Import, Insertion, Item, Items, Modification, Reply,
     Selection,
 };
 pub use fault::StatementFault;

@@ -12,7 +12,7 @@ use Rattle.shell_io.specs.Records.{warnings, kept, records_in}
 use Rattle.shell_io.specs.Sources.{fetch_words, Files, GivesFile}
 use Rattle.plain_sql.specs.PlainStatements.{QueryTurn}
 use Rattle.ft_statements.specs.Statements.{FullText as FullTextClass}
-use Rattle.ft_shell.proofs.Common.{Ghosts, Held, FullText, OnlyLooks, Call, Looked, Noted, DoesForCause, sql_tokens, asks, made_name, Shell, Effects, and_then, Insert, DotCommand, Import, Nothing, SetMode, SetHeaders, SetSeparator, SetNull, SetEcho, SetBail, Print, Importing, Tables, Quit, Usage, Unknown, dot_command_of, DotTurn, after_stop, MaybeNotes, NoteTurn, BytesTurn, DelimitedTurn, FileTurn, IntoNamed, IntoNew, PlainImport, TextImport, width_in, executed, no_memory, no_header, too_wide, declined, there, new_table, untried, read, no_text, fetched, unfetched, TablesTurn, CommandTurn, PlainTurn, done, refused, Class, Plain, class_of, ClassTurn, Declines, StatementTurn, known_names, Body, Turn, Turns, calls_in}
+use Rattle.ft_shell.proofs.Common.{Ghosts, Held, FullText, OnlyLooks, Call, Looked, Noted, DoesForCause, sql_tokens, asks, seeks, made_name, Shell, Effects, and_then, Insert, DotCommand, Import, Nothing, SetMode, SetHeaders, SetSeparator, SetNull, SetEcho, SetBail, Print, Importing, Tables, Quit, Usage, Unknown, dot_command_of, DotTurn, after_stop, MaybeNotes, NoteTurn, BytesTurn, DelimitedTurn, FileTurn, IntoNamed, IntoNew, PlainImport, TextImport, width_in, executed, no_memory, no_header, too_wide, declined, there, new_table, untried, read, no_text, fetched, unfetched, TablesTurn, CommandTurn, PlainTurn, done, refused, Class, Plain, class_of, ClassTurn, Declines, StatementTurn, known_names, Body, Turn, Turns, calls_in}
 use Rattle.ft_shell.specs.TurnCalls.{bytes_in, class_in, closed_in, command_in, delimited_in, dot_in, file_in, named_in, new_in, note_in, plain_in, statement_in, table_in, tables_in, text_in}
 use Rattle.ft_shell.proofs.Spelled.{MayNote, MayRead, NoCall, CallsOf, CallsOfClass, CallsOfDot, CallsOfImport, HasRecords, OneCommand}
 use Rattle.ft_shell.specs.ImportTurns as imports
@@ -54,7 +54,7 @@ command_calls g h settings text made old new before after told (refused e is sam
 plain_calls : {P S : Type 0} (g : Ghosts P) (h : Ghosts S) (settings : Settings) (text : List ℕ) (old new : Held P) (before after : FullText S) (told : Answer) → (it : PlainTurn g h settings text old new before after told) → Called h (MayNote (made_name (sql_tokens text))) (plain_in g h settings text old new before after told (asks (sql_tokens text)) it) before after
 plain_calls g h settings text old new before after told it = go (asks (sql_tokens text)) it
   where
-    go : (is_query : Bool) (it : MatchBool is_query (QueryTurn g settings text old new told × (after ≡ before)) (CommandTurn g h text (made_name (sql_tokens text)) old new before after told)) → Called h (MayNote (made_name (sql_tokens text))) (plain_in g h settings text old new before after told is_query it) before after
+    go : (is_query : Bool) (it : MatchBool is_query (QueryTurn g settings text (seeks (sql_tokens text)) old new told × (after ≡ before)) (CommandTurn g h text (made_name (sql_tokens text)) old new before after told)) → Called h (MayNote (made_name (sql_tokens text))) (plain_in g h settings text old new before after told is_query it) before after
     go true it = notes_none h (made_name (sql_tokens text)) before after it.1
     go false it = command_calls g h settings text (made_name (sql_tokens text)) old new before after told it
 

@@ -4,18 +4,18 @@ pub use Rattle.std.specs.Io.KnownBytes.{Consumes, IsAtEnd, Appends, Keeps}
 pub use Rattle.std.specs.List.{enumerate_from, list_any}
 pub use Rattle.sqlite.specs.Held.{Held, state}
 pub use Rattle.sqlite.specs.Store.{Ghosts}
-pub use Rattle.ft_commands.specs.Command.{Insert, Command, Filter, Items, Reply, Select}
+pub use Rattle.ft_commands.specs.Command.{Insert, Import, Command, Filter, Items, Reply, Select}
 pub use Rattle.ft_content.specs.Views.{TableInfo, shown_info, info_names, column_of}
-pub use Rattle.ft_commands.specs.Views.{command_of, reply_of, rows_of, cells_of}
+pub use Rattle.ft_commands.specs.Views.{command_of, import_as, reply_of, rows_of, cells_of}
 pub use Rattle.ft_calls.specs.Causes.{DoesForCause}
 pub use Rattle.ft_calls.specs.Kept.{Call, Looked, Noted, CallsKept, Executed, KeptByCalls, NoneGetsUnsound, accepted, left_by, AreAnswered}
 pub use Rattle.ft_calls.specs.Kept.{FullText, OnlyLooks, is_outside}
-pub use Rattle.ft_statements.specs.Dots.{DotCommand, Import, Nothing, SetMode, SetHeaders, SetSeparator, SetNull, SetEcho, SetBail, Print, Importing, Tables, Quit, Usage, Unknown, dot_command_of}
-pub use Rattle.ft_statements.specs.Plain.{asks, made_name}
+pub use Rattle.ft_statements.specs.Dots.{DotCommand, Nothing, SetMode, SetHeaders, SetSeparator, SetNull, SetEcho, SetBail, Print, Importing, Tables, Quit, Usage, Unknown, dot_command_of}
+pub use Rattle.ft_statements.specs.Plain.{asks, made_name, seeks}
 pub use Rattle.ft_statements.specs.Replies.{reply_text, AreSorted, listed}
 pub use Rattle.ft_statements.specs.Statements.{Class, Plain, class_of}
 pub use Rattle.shell_io.specs.Texts.{statement_text, fault_text, split_text}
-pub use Rattle.ft_statements.specs.Views.{command_as, import_as}
+pub use Rattle.ft_statements.specs.Views.{command_as}
 pub use Rattle.ft_commands.specs.Views.{texts_of}
 pub use Rattle.ft_statements.specs.Words.{sql_tokens, Token}
 pub use Rattle.ft_shell.specs.Broken.{Broken, not_begun, not_echoed, not_told}

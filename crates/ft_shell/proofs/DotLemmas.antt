@@ -2,7 +2,7 @@
 use Rattle.std.proofs.Common.{◌≡◌, ◌⊎◌, ℕ, List, refl, ap, inl, inr, Vec, String, Global, Bor}
 use Rattle.shell_text.specs.Print.{Settings}
 use Rattle.ft_statements.specs.declared.dots.DotCommand.{DotCommand}
-use Rattle.ft_statements.specs.declared.dots.Import.{Import}
+use Rattle.ft_commands.specs.declared.command.Import.{Import}
 use Rattle.shell_io.specs.Sources.{Files}
 use Rattle.shell_io.specs.Outcomes.{Answer, lacks_memory}
 use Rattle.ft_shell.proofs.Common.{Ghosts, Held, FullText, command_as, Sets, OnlySets, shell_of, DotOrLacks}

@@ -14,7 +14,7 @@ use Rattle.ft_documents.specs.Found.{info_named}
 use Rattle.ft_calls.specs.Kept.{FullText}
 use Rattle.ft_calls.specs.Kept.{Executed}
 use Rattle.ft_calls.specs.Causes.{DoesForCause}
-use Rattle.ft_statements.specs.Dots.{Import}
+use Rattle.ft_commands.specs.Command.{Import}
 use Rattle.ft_shell.specs.FullTextTurns.{NoteTurn}
 use Rattle.plain_sql.specs.Imports.{delimiter_of, row_cells}
 use Rattle.plain_sql.specs.IntoTables.{IsLeft, IntoTable}

@@ -25,7 +25,7 @@ module _ {P S : Type 0} (g : Ghosts P) (h : Ghosts S) where
   -- a plain statement: a query, or a command
   abbrev pub PlainTurn : Settings → List ℕ → Held P → Held P → FullText S → FullText S → Answer → Type 0
   PlainTurn settings text old new before after told = MatchBool (asks (sql_tokens text))
-      (QueryTurn g settings text old new told × (after ≡ before))
+      (QueryTurn g settings text (seeks (sql_tokens text)) old new told × (after ≡ before))
       (CommandTurn text (made_name (sql_tokens text)) old new before after told)
 
 -- a unit's turn, or, for want of memory, nothing

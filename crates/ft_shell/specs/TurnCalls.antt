@@ -6,13 +6,13 @@ use Rattle.sqlite.specs.Store.{Ghosts}
 use Rattle.sqlite.specs.Held.{Held}
 use Rattle.shell_text.specs.Print.{Settings}
 use Rattle.shell_text.specs.Words.{is_unclosed}
-use Rattle.ft_commands.specs.Command.{Insert}
+use Rattle.ft_commands.specs.Command.{Insert, Import}
 use Rattle.ft_calls.specs.Kept.{FullText}
 use Rattle.ft_calls.specs.Kept.{Call, Executed, Looked, Noted}
 use Rattle.ft_statements.specs.Words.{sql_tokens}
-use Rattle.ft_statements.specs.Plain.{asks, made_name}
+use Rattle.ft_statements.specs.Plain.{asks, made_name, seeks}
 use Rattle.ft_statements.specs.Statements.{Class, Plain, FullText as FullTextClass, class_of}
-use Rattle.ft_statements.specs.Dots.{DotCommand, Import, Nothing, SetMode, SetHeaders, SetSeparator, SetNull, SetEcho, SetBail, Print}
+use Rattle.ft_statements.specs.Dots.{DotCommand, Nothing, SetMode, SetHeaders, SetSeparator, SetNull, SetEcho, SetBail, Print}
 use Rattle.ft_statements.specs.Dots.{Importing, Tables, Quit, Usage, Unknown}
 use Rattle.ft_shell.specs.Shell.{Shell}
 use Rattle.shell_io.specs.Sources.{Files}
@@ -49,7 +49,7 @@ module _ {P S : Type 0} (g : Ghosts P) (h : Ghosts S) (settings : Settings) wher
     command_in name (done count is notes) = note_in h name before after told notes
     command_in name (refused e is same tells) = []
 
-    abbrev pub plain_in : (is_query : Bool) → MatchBool is_query (QueryTurn g settings text old new told × (after ≡ before))
+    abbrev pub plain_in : (is_query : Bool) → MatchBool is_query (QueryTurn g settings text (seeks (sql_tokens text)) old new told × (after ≡ before))
         (CommandTurn g h text (made_name (sql_tokens text)) old new before after told) → List Call
     plain_in true it = []
     plain_in false it = command_in (made_name (sql_tokens text)) it

@@ -4,9 +4,10 @@ pub use Rattle.std.specs.List.{flat_map, join_with_byte, Any, list_any}
 pub use Rattle.std.specs.Str.{chars, IsUtf8}
 pub use Rattle.std.specs.Str.Iter.{chars_rest, chars_steps_back}
 pub use Rattle.ft_values.specs.Names.{info_names}
+pub use Rattle.ft_commands.specs.Command.{Import}
 pub use Rattle.ft_commands.specs.Views.{option_of, texts_of, cells_of}
 pub use Rattle.ft_statements.specs.Create.{Argument, Setting, Column, joined, settings_in, columns_in, tokenizer_of}
-pub use Rattle.ft_statements.specs.Dots.{DotCommand, Row, dot_row, rows, Usage, SaysRow, SaysIn, Says, said_in, dot_command_of, is_exact, any_word, all_words, files, file_named, options, Import, import, SetMode, SetHeaders, Print, Importing, Unknown, Nothing, may_csv, may_skip}
+pub use Rattle.ft_statements.specs.Dots.{DotCommand, Row, dot_row, rows, Usage, SaysRow, SaysIn, Says, said_in, dot_command_of, is_exact, any_word, all_words, files, file_named, options, import, SetMode, SetHeaders, Print, Importing, Unknown, Nothing, may_csv, may_skip}
 pub use Rattle.ft_statements.specs.Forms.{Form, means, one, ends, ◌&◌, ◌·◌, Has, Mark, Opens, Closes, Parts, Other, such, when, first, list, balanced, begins, Separated, last_part, then_comma, IsBalanced, no_word, any_part, group, ends_part, Stops}
 pub use Rattle.ft_statements.specs.Grammar.{words, done, statement, IsStatement, spelled, mark_of}
 pub use Rattle.ft_statements.specs.Plain.{query_words, writing_words, Asks, queries, returns, asks, made_table, Makes, made_name, temporary}

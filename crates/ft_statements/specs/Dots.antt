@@ -8,16 +8,10 @@ use Rattle.std.specs.Char.{is_ascii_digit}
 use Rattle.std.specs.Str.{str_eq_ignore_ascii_case}
 use Rattle.shell_text.specs.declared.settings.Mode.{Mode}
 use Rattle.shell_text.specs.declared.settings.Mode.TheVariants as modes
+use Rattle.ft_commands.specs.Command.{Import}
 use Rattle.ft_statements.specs.Forms.{Other, Form, means, one, ends, ◌&◌, ◌·◌, when, balanced, Has}
 use Rattle.ft_statements.specs.Values.{digits_value}
 use Rattle.ft_statements.specs.Reading.{found, read}
-
--- the arguments of `.import`: whether a comma parts fields, how many records are skipped, and a file's and a table's name
-pub record Import : Type 0 where
-  pub csv : Bool
-  pub skip : Option ℕ
-  pub file : List ℕ
-  pub table : List ℕ
 
 pub data DotCommand : Type 0 where
   Nothing : DotCommand

@@ -2,7 +2,7 @@
 use Rattle.std.specs.Prelude.{ℕ, ◌≡◌, Bool, true, false, List, map, Option, Some, None, Result, option_map, string_bytes, String, Vec, IfOk, OnErr, IsErrOf}
 use Rattle.std.specs.declared.alloc.Global.{Global}
 use Rattle.std.specs.Borrow.{Bor}
-use Rattle.ft_commands.specs.Views.{command_of}
+use Rattle.ft_commands.specs.Views.{command_of, import_as}
 use Rattle.ft_statements.specs.declared.words.Token.{Token as RustToken}
 use Rattle.ft_statements.specs.declared.reading.Reader.{Reader}
 use Rattle.ft_statements.specs.declared.create.Argument.{Argument}
@@ -12,7 +12,6 @@ use Rattle.ft_commands.specs.declared.fault.StatementFault.TheVariants.{Syntax}
 use Rattle.ft_statements.specs.declared.statement.Class.{Class}
 use Rattle.ft_statements.specs.declared.statement.Class.TheVariants as classes
 use Rattle.ft_statements.specs.declared.plain.PlainStatement.{PlainStatement}
-use Rattle.ft_statements.specs.declared.dots.Import.{Import}
 use Rattle.ft_statements.specs.declared.dots.DotCommand.{DotCommand}
 use Rattle.ft_statements.specs.declared.dots.DotCommand.TheVariants as commands
 use Rattle.ft_statements.specs.Words.{Token, token}
@@ -40,9 +39,6 @@ argument_as (arguments.Column name) = makes.Column (string_bytes name)
 abbrev pub class_as : Class → statements.Class
 class_as classes.Plain = statements.Plain
 class_as (classes.FullText command) = statements.FullText (command_of command)
-
-abbrev pub import_as : Import → dots.Import
-import_as what = record { csv = what.csv; skip = what.skip; file = string_bytes what.file; table = string_bytes what.table }
 
 abbrev pub command_as : DotCommand → dots.DotCommand
 command_as commands.Nothing = dots.Nothing

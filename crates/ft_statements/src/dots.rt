@@ -5,25 +5,16 @@ ghost use Rattle.std.specs.List.{list_all};
 ghost use Rattle.ft_statements.specs.Forms.{means, one, ends, ◌·◌};
 ghost use Rattle.ft_statements.specs.Reading.{found, read};
 ghost use Rattle.ft_statements.specs.Dots as forms;
-ghost use Rattle.ft_statements.specs.Views.{command_as, import_as, with_left, IsSaid};
+ghost use Rattle.ft_commands.specs.Views.{import_as};
+ghost use Rattle.ft_statements.specs.Views.{command_as, with_left, IsSaid};
 
 use crate::values::digits_value;
+use ft_commands::Import;
 use shell_text::Mode;
 use std::alloc::{AllocError, Global};
 
-/// The arguments of `.import`.
-#[derive(Debug, Drop)]
-pub struct Import {
-    /// Whether a comma parts fields, whatever the separator is.
-    pub csv: bool,
-    /// How many records are skipped.
-    pub skip: Option<u64>,
-    pub file: String,
-    pub table: String,
-}
-
 /// What a dot line says.
-#[derive(Debug, Drop)]
+#[derive(Drop)]
 pub enum DotCommand {
     Nothing,
     Mode(Mode),

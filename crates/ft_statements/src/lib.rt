@@ -16,7 +16,7 @@ mod tables;
 mod values;
 mod words;
 
-pub use crate::dots::{DotCommand, Import, dot_command};
+pub use crate::dots::{DotCommand, dot_command};
 pub use crate::laws::{
     dot_lines_by_grammar, literals_by_marks, one_class_each, plain_by_grammar,
     statements_by_grammar,
@@ -26,4 +26,4 @@ pub use crate::replies::write_reply;
 pub use crate::setting::{apply, print_text};
 pub use crate::statement::{Class, read_statement};
 pub use crate::tables::listed_tables;
-pub use ft_commands::StatementFault;
+pub use ft_commands::{Import, StatementFault};

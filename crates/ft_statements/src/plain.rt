@@ -14,7 +14,7 @@ use shell_text::SqlWord;
 use std::alloc::{AllocError, Global};
 
 /// How a plain statement is run.
-#[derive(Debug, Drop)]
+#[derive(Drop)]
 pub struct PlainStatement {
     /// Whether it is run as a query, whose rows are printed.
     pub asks: bool,

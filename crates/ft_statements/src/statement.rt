@@ -21,7 +21,7 @@ use shell_text::SqlWord;
 use std::alloc::{AllocError, Global};
 
 /// Who runs a statement: plain SQL, or full-text tables.
-#[derive(Debug, Drop)]
+#[derive(Drop)]
 pub enum Class {
     Plain,
     FullText(Command),

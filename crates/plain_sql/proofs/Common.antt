@@ -6,8 +6,7 @@ pub use Rattle.sqlite.specs.Held.{Held, state}
 pub use Rattle.sqlite.specs.Listing.{understood}
 pub use Rattle.sqlite.specs.State.{State, IsNotRun, IsUnchanged, store_error, HasCleanDisk, Survives, ExecutesInside, IsRolledBack, KeepsCommit, FailsToQuery, Shown}
 pub use Rattle.sqlite.specs.Store.{Ghosts}
-pub use Rattle.ft_statements.specs.Views.{import_as}
-pub use Rattle.ft_commands.specs.Views.{texts_of}
+pub use Rattle.ft_commands.specs.Views.{import_as, texts_of}
 pub use Rattle.plain_sql.specs.declared.plain_import.ImportFault.{ImportFault}
 pub use Rattle.plain_sql.specs.declared.plain_import.ImportFault.TheVariants.{Refused, Memory}
 pub use Rattle.plain_sql.specs.Answers.{printed_value, is_float, row_print}

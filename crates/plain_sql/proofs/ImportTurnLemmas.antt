@@ -1,6 +1,6 @@
 -- Parts of imports.
 use Rattle.std.proofs.Common.{◌≡◌, ◌≤◌, ◌+◌, ◌-◌, ℕ, zero, suc, List, [], ◌∷◌, map, length, get_or, take, drop, Option, None, Result, Err, refl, sym, ap, subst, ◌∙◌, arith, min, String, Vec, Global, unwrap_or}
-use Rattle.ft_statements.specs.Dots.{Import}
+use Rattle.ft_commands.specs.Command.{Import}
 use Rattle.shell_io.specs.Records.{kept, records_in}
 use Rattle.shell_io.specs.Outcomes.{Answer, blames}
 use Rattle.plain_sql.proofs.Common.{drop-map, length-map, take_all, enumerate_from, Ghosts, Held, state, ImportFault, Refused, Memory, IfClean, HasColumns, Stays, CommitsNothing, import_steps, Declines, Uncounted, fault_words, IntoTable, uncounted, declined, no_memory, texts_of}

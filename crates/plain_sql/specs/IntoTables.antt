@@ -3,7 +3,7 @@
 use Rattle.std.specs.Prelude.{ℕ, ◌≡◌, List, codes, None}
 use Rattle.sqlite.specs.Store.{Ghosts}
 use Rattle.sqlite.specs.Held.{Held, state}
-use Rattle.ft_statements.specs.Dots.{Import}
+use Rattle.ft_commands.specs.Command.{Import}
 use Rattle.plain_sql.specs.declared.plain_import.ImportFault.{ImportFault}
 use Rattle.plain_sql.specs.declared.plain_import.ImportFault.TheVariants.{Refused, Memory}
 use Rattle.plain_sql.specs.PlainImports.{HasColumns, Stays, CommitsNothing, import_steps, CommitsAll, Declines, Uncounted}

@@ -6,11 +6,8 @@ use Rattle.sqlite_value.specs.Order.{Row}
 use Rattle.sqlite.specs.Held.{Held, state}
 use Rattle.sqlite.specs.State.{FailsToQuery, Shown}
 use Rattle.sqlite.specs.declared.error.Error.{Error}
-use Rattle.shell_text.specs.Print as print
 use Rattle.plain_sql.specs.Imports.{reading_of}
 use Rattle.plain_sql.specs.PlainStatements.{IfClean, is_memory_error}
-use Rattle.ft_statements.specs.Replies.{AreSorted, listed}
-use Rattle.shell_io.specs.Outcomes.{Answer, says, lacks_memory, Tells}
 
 module _ {P : Type 0} (g : Ghosts P) where
   -- Whether a table can be read: `sqlite` answers a reading of it, or refuses that for another cause than memory. Where it is not known
@@ -35,10 +32,3 @@ module _ {P : Type 0} (g : Ghosts P) where
   StopsTrying [] old new = new ≡ old
   StopsTrying (name ∷ names) old new = (new ≡ old) ⊎ (Tries name None old new
       ⊎ ((mid : Held P) × (can_read : Bool) × Tries name (Some can_read) old mid × StopsTrying names mid new))
-
-  -- The names of full-text tables and, of the noted names, those of tables that can be read, sorted and printed; or memory was wanting.
-  pub data Lists (own noted : List (List ℕ)) (old new : Held P) (answer : Answer) : Type 0 where
-    tables : (found names : List (List ℕ)) → Finds noted old new found → AreSorted (listed own found) names
-        → Tells (says (print.names_in_columns names)) answer → Lists own noted old new answer
-    unsorted : (found : List (List ℕ)) → Finds noted old new found → answer ≡ lacks_memory → Lists own noted old new answer
-    untried : StopsTrying noted old new → answer ≡ lacks_memory → Lists own noted old new answer

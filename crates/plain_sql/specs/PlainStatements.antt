@@ -12,8 +12,6 @@ use Rattle.sqlite.specs.declared.error.Error.{Error}
 use Rattle.sqlite.specs.declared.error.Error.TheVariants.{SqliteFailure}
 use Rattle.sqlite.specs.declared.error.ErrorCode.TheVariants as code
 use Rattle.shell_text.specs.Print.{Settings}
-use Rattle.ft_statements.specs.Plain.{seeks}
-use Rattle.ft_statements.specs.Words.{sql_tokens}
 use Rattle.plain_sql.specs.Answers.{row_print}
 use Rattle.shell_io.specs.Outcomes.{Answer, blames, lacks_memory, Tells}
 
@@ -64,7 +62,7 @@ module _ {P : Type 0} (g : Ghosts P) where
     unprepared : Refuses text old new e → FailsToAnswer text old new e
     refused : (prepared : Held P) (names : List (List ℕ)) → Prepares text old prepared names → Refuses text prepared new e → FailsToAnswer text old new e
 
-  pub data QueryTurn (settings : Settings) (text : List ℕ) (old new : Held P) (answer : Answer) : Type 0 where
+  pub data QueryTurn (settings : Settings) (text : List ℕ) (seeks : Bool) (old new : Held P) (answer : Answer) : Type 0 where
     answered : (names : List (List ℕ)) (rows : List Row) → Answers text old new names rows → Tells (row_print settings names rows) answer
-        → QueryTurn settings text old new answer
-    refused : (e : Error) → FailsToAnswer text old new e → TellsRefusal (seeks (sql_tokens text)) e answer → QueryTurn settings text old new answer
+        → QueryTurn settings text seeks old new answer
+    refused : (e : Error) → FailsToAnswer text old new e → TellsRefusal seeks e answer → QueryTurn settings text seeks old new answer

@@ -9,8 +9,7 @@ ghost use Rattle.plain_sql.specs.declared.plain_import.ImportFault.TheVariants.{
 ghost use Rattle.plain_sql.specs.Imports.{create_text, insert_text};
 ghost use Rattle.plain_sql.specs.PlainImports.{HasColumns, IsOnlyBelow, CommitsNothing, Prepare, Run, runs_of, insertions, import_steps, CommitsAll, CountsColumns, Declines, IsInside, StaysInside, TriesCount, TriesStep, TriesSteps};
 ghost use Rattle.plain_sql.specs.PlainStatements.{IfClean};
-ghost use Rattle.ft_statements.specs.Views.{import_as};
-ghost use Rattle.ft_commands.specs.Views.{texts_of};
+ghost use Rattle.ft_commands.specs.Views.{import_as, texts_of};
 ghost use Rattle.std.specs.List.{enumerate_from};
 ghost use Rattle.plain_sql.specs.IntoTables.{IntoTable, fault_words};
 ghost use Rattle.shell_io.specs.Outcomes.{blames};
@@ -20,7 +19,7 @@ ghost use Rattle.plain_sql.specs.PlainImports as forms;
 
 use crate::imports::{creation_text, insertion_text};
 use crate::queries::is_memory_error;
-use ft_statements::Import;
+use ft_commands::Import;
 use shell_io::{Answer, Complaint, Output, fitted, warnings};
 use sqlite::types::ValueRef;
 use sqlite::{Alter, Connection, Error, Statement, Transaction};

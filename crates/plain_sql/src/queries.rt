@@ -3,8 +3,6 @@ ghost use Rattle.std.specs.Prelude.{◌≡◌, IfOk, IfErr, string_bytes};
 ghost use Rattle.shell_io.specs.OutputViews.{answer_as, complaint_as};
 ghost use Rattle.plain_sql.specs.PlainStatements as turns;
 ghost use Rattle.plain_sql.specs.PlainStatements.{EndsSo, TellsRefusal, Answers, FailsToAnswer, QueryTurn};
-ghost use Rattle.ft_statements.specs.Plain as forms;
-ghost use Rattle.ft_statements.specs.Words.{sql_tokens};
 
 use crate::answers::row_print;
 use shell_io::{Answer, Complaint, FaultText};
@@ -72,8 +70,7 @@ pub fn query_turn<P: Alter>(
     text: &str,
     seeks: bool,
 ) -> Answer
-    requires { seeks ≡ forms.seeks (sql_tokens text.now) }
-    ensures { QueryTurn P.Store settings.now text.now plain.old plain.new (answer_as result) }
+    ensures { QueryTurn P.Store settings.now text.now seeks plain.old plain.new (answer_as result) }
 {
     match asked(plain, text) {
         Ok((statement, rows)) => row_print(

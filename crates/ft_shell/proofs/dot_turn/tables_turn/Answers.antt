@@ -2,7 +2,8 @@
 use Rattle.std.proofs.Common.{rules, ◌≡◌, List, map, string_bytes, refl, ap, ◌∙◌, subst, inl, inr, String, Global}
 use Rattle.shell_io.specs.Outcomes.{blames, lacks_memory, says}
 use Rattle.shell_io.specs.OutputViews.{answer_as}
-use Rattle.plain_sql.specs.Listings.{Finds, StopsTrying, tables, unsorted, untried}
+use Rattle.plain_sql.specs.Listings.{Finds, StopsTrying}
+use Rattle.ft_shell.specs.TablesTurns.{tables, unsorted, untried}
 use Rattle.ft_shell.proofs.Common.{TableInfo, info_names, AreSorted, listed, fault_text, texts_of, known_names, lists}
 use Rattle.ft_shell.specs.TablesTurns.{refused}
 use Rattle.ft_shell.proofs.ClassLemmas.{named_as}

@@ -8,7 +8,8 @@ use Rattle.ft_shell.proofs.turns.plain_turn.Goals as goal
 pub returns-then-statement : goal.returns-then-statement
 returns-then-statement g c =
     let is : asks (sql_tokens c.args.text.now) ≡ true = search rules in
-    inl (asks_turn g.P.Store g.S.Store c.args.settings.now c.args.text.now c.args.plain.now c.query_turn.new.plain (g.T.TextTables.known c.args.full_text.now) (answer_as c.query_turn.result) is c.query_turn.ensures)
+    inl (asks_turn g.P.Store g.S.Store c.args.settings.now c.args.text.now c.args.plain.now c.query_turn.new.plain (g.T.TextTables.known c.args.full_text.now) (answer_as c.query_turn.result)
+    c.in_ok-statement.statement.seeks is c.in_ok-statement.ensures.seeks c.query_turn.ensures)
 
 pub returns : goal.returns
 returns g c =

@@ -1,8 +1,8 @@
 -- it is answered, or refused
-use Rattle.std.proofs.Common.{rules, subst}
+use Rattle.std.proofs.Common.{rules}
 use Rattle.shell_io.specs.Outcomes.{Tells}
-use Rattle.shell_io.specs.OutputViews.{answer_as, complaint_as}
-use Rattle.plain_sql.proofs.Common.{row_print, TellsRefusal, answered, refused}
+use Rattle.shell_io.specs.OutputViews.{answer_as}
+use Rattle.plain_sql.proofs.Common.{row_print, answered, refused}
 use Rattle.plain_sql.proofs.queries.query_turn.Goals as goal
 
 pub returns-in-Ok : goal.returns-in-Ok
@@ -12,5 +12,4 @@ returns-in-Ok g c =
 
 pub returns-in-Err : goal.returns-in-Err
 returns-in-Err g c =
-    refused c.in-Err.error c.in-Err.ensures.refused
-    (subst (λ seeks. TellsRefusal seeks c.in-Err.error (complaint_as c.refusal.result)) c.requires c.refusal.ensures)
+    refused c.in-Err.error c.in-Err.ensures.refused c.refusal.ensures
