@@ -62,6 +62,7 @@ module _ {P : Type 0} (g : Ghosts P) where
     unprepared : Refuses text old new e → FailsToAnswer text old new e
     refused : (prepared : Held P) (names : List (List ℕ)) → Prepares text old prepared names → Refuses text prepared new e → FailsToAnswer text old new e
 
+  -- a query is answered, or refused; `seeks` says whether MATCH stands in its text
   pub data QueryTurn (settings : Settings) (text : List ℕ) (seeks : Bool) (old new : Held P) (answer : Answer) : Type 0 where
     answered : (names : List (List ℕ)) (rows : List Row) → Answers text old new names rows → Tells (row_print settings names rows) answer
         → QueryTurn settings text seeks old new answer
