@@ -1,3 +1,4 @@
 mod InputLemmas
 mod MemoryLemmas
 mod Reopening
+mod StatusLemmas
