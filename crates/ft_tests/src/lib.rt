@@ -1,4 +1,5 @@
-//! The tests of full-text tables, by the names that they offer: what no script can show.
+//! The tests of stores and of full-text tables, by the names that they offer: what no script can
+//! show.
 #![tactic(auto)]
 
 #[cfg(test)]
@@ -13,3 +14,7 @@ mod deeds;
 mod mended;
 #[cfg(test)]
 mod stops;
+#[cfg(test)]
+mod store;
+#[cfg(test)]
+mod trials;

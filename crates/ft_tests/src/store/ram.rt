@@ -1,11 +1,11 @@
 //! A database in memory, and the file that it stands on.
 
+use crate::trials::{Trial, number, tried_in_empty};
 use ram_disk::{Honest, Ram};
 use sqlite::{Connection, params};
 use sqlite_disk::Disk;
 use std::alloc::Global;
 use std::test::Fail;
-use trials::{Trial, number, tried_in_empty};
 
 const MADE: &str = "CREATE TABLE note (id INTEGER PRIMARY KEY, title TEXT NOT NULL) STRICT";
 

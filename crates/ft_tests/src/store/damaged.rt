@@ -1,11 +1,11 @@
 //! Lists whose bytes are not in their one form, and terms that are no text.
 
+use crate::trials::{Trial, adopted_after, tried};
 use ft_store::{EntryRow, Store, StoreFault};
 use ram_disk::Honest;
 use sqlite::{Alter, Connection};
 use std::alloc::Global;
 use std::test::Fail;
-use trials::{Trial, adopted_after, tried};
 
 // A read of the lists of the table 1.
 #[derive(Clone, Copy)]

@@ -1,13 +1,13 @@
 //! Lists that are put by one call, of which eight are written together where their keys are new.
 
-use crate::steps::{Step, change_each};
+use super::steps::{Step, change_each};
+use crate::trials::{Trial, adopted, tried};
 use ft_store::{Store, StoreFault};
 use ram_disk::Honest;
 use sqlite::{Alter, Connection};
 use std::alloc::{AllocError, Global};
 use std::process::Abort;
 use std::test::Fail;
-use trials::{Trial, adopted, tried};
 
 // Two groups and one more, in order.
 const WORDS: [&str; 17] = [

@@ -1,6 +1,5 @@
 //! Trials over databases in memory. What these stand on is named here alone: of a call that names
 //! it the checker follows each way out into the parts of a disk. So a trial is generic in it.
-#![tactic(auto)]
 
 use ft_opening::{Adopt, OpenMemory};
 use ft_store::{Store, StoreFault};

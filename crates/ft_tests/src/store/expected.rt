@@ -1,11 +1,11 @@
 //! Lists that a table is asked for, beside those that it has.
 
+use crate::trials::{Trial, adopted_after, tried};
 use ft_store::{Posting, Spot, TermLists};
 use ram_disk::Honest;
 use sqlite::Connection;
 use std::alloc::{AllocError, Global};
 use std::test::Fail;
-use trials::{Trial, adopted_after, tried};
 
 // The term `pear` in the documents 2 and 5 of the table 1, `red` in 2, and a list of another table.
 const ROWS: &str =

@@ -1,12 +1,12 @@
 //! Changes of rows, and the reads after them.
 
-use crate::steps::{Step, change_each, change_once};
+use super::steps::{Step, change_each, change_once};
+use crate::trials::{Trial, adopted_after, all_read, tried};
 use ft_store::{Store, StoreFault};
 use ram_disk::Honest;
 use sqlite::{Alter, Connection};
 use std::alloc::Global;
 use std::test::Fail;
-use trials::{Trial, adopted_after, all_read, tried};
 
 // The table 1, `d`, of one column `x`, with the documents 1, `green`, and 2, `red pear`.
 const PEARS: &str = "INSERT INTO tab VALUES (1, 'd');

@@ -1,12 +1,12 @@
 //! Databases that are taken as stores, why others are not, and what is left of them.
 
+use crate::trials::{Trial, adopted, all_read, number, tried, tried_in_empty};
 use ft_opening::Adopt;
 use ft_store::{Store, StoreFault};
 use ram_disk::Honest;
 use sqlite::{Alter, Connection};
 use std::alloc::Global;
 use std::test::Fail;
-use trials::{Trial, adopted, all_read, number, tried, tried_in_empty};
 
 // Why a database isn't taken, and the database.
 fn refused<S: Alter + Drop>(
