@@ -7,7 +7,7 @@ ghost use Rattle.ft_files.specs.Hosts.{IsLeft, OpensBothIn, OpensPlainIn, OpensS
 
 use crate::databases::{OpenFault, store_fault};
 use crate::host::{Databases, Opened};
-use ft_opening::Adopt;
+use ft_opening::adopt_opened;
 use ft_store::{Store, StoreFault};
 use sqlite::{Connection, FileStore, Files};
 use sqlite_disk::Disk;
@@ -91,7 +91,7 @@ fn open_store_in<D: Disk + Drop, H: Databases<D>>(
         return Err(store_fault(StoreFault::Refused));
     }
     match open_plain_in(rt, host, name, STORE_PAGES) {
-        Ok(conn) => match Store::adopt_opened(rt.alloc(), conn) {
+        Ok(conn) => match adopt_opened(rt.alloc(), conn) {
             Ok(store) => Ok(store),
             Err(fault) => {
                 let_go_in(host, name, fault.connection);

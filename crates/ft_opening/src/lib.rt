@@ -11,4 +11,5 @@ mod same;
 mod stores;
 
 pub use files::{file_options, open_database, open_pair};
-pub use opens::{Adopt, AdoptFault, OpenFile, OpenFrom, OpenMemory};
+pub use opens::{Adopt, AdoptFault, OpenFile, OpenMemory};
+pub use stores::{adopt_opened, open_from};

@@ -2,7 +2,7 @@
 //! has these by traits, and their contracts stand where it has them.
 
 use ft_store::StoreFault;
-use sqlite::{Alter, Connection, Start};
+use sqlite::{Alter, Connection};
 use std::alloc::Global;
 
 /// Why a database is not taken as a store, with its connection as it was.
@@ -22,18 +22,7 @@ pub trait OpenFile: Sized {
     fn open_file(rt: &HostRuntime, path: &str) -> Result<Self, StoreFault>;
 }
 
-/// What is opened in a file, where `B` stands for what the file held.
-pub trait OpenFrom<B: Start>: Sized {
-    fn open_from(rt: &HostRuntime, path: &str, start: B) -> Result<Self, StoreFault>;
-}
-
 /// What a database is taken as, by a connection `C`. Where it isn't, `F` says why.
 pub trait Adopt<C, F>: Sized {
-    /// What is known of a database whose rowids aren't looked at.
-    ghost is_apart: { C → Type 0 };
-
     fn adopt(alloc: Global, conn: C) -> Result<Self, F>;
-
-    fn adopt_opened(alloc: Global, conn: C) -> Result<Self, F>
-        requires { is_apart conn };
 }

@@ -18,7 +18,7 @@ use crate::adopt::take;
 use crate::examine::Rowids;
 use crate::files::open_database;
 use crate::make::make;
-use crate::opens::{Adopt, AdoptFault, OpenFile, OpenFrom, OpenMemory};
+use crate::opens::{Adopt, AdoptFault, OpenFile, OpenMemory};
 use ft_store::{Store, StoreFault};
 use ram_disk::{Ram, open_ram};
 use sqlite::{Alter, Connection, Error as SqlError, File, FileFrom, FileStore, Start, Unknown};
@@ -46,32 +46,27 @@ impl OpenFile for Store<FileStore<File>> {
         ensures memory { path.now ≡ codes ":memory:" → result ≡ Err StoreFault.Refused }
         ensures unread { IfOk result (λ store. store.rows_read ≡ 0) }
     {
-        Store::open_from(rt, path, Unknown)
+        open_from(rt, path, Unknown)
     }
 }
 
-impl<B: Start> OpenFrom<B> for Store<FileStore<FileFrom<B>>> {
-    /// The same, where `B` stands for what the files held: the database that they hold is taken as
-    /// a store.
-    fn open_from(
-        rt: &HostRuntime,
-        path: &str,
-        start: B,
-    ) -> Result<Store<FileStore<FileFrom<B>>>, StoreFault>
-        ensures memory { path.now ≡ codes ":memory:" → result ≡ Err StoreFault.Refused }
-        ensures opened { IfOk result (λ store. IsOpenedFrom (image_at B.Start) store.held) }
-        ensures refused { IsRefusedFrom (image_at B.Start) result }
-        ensures unread { IfOk result (λ store. store.rows_read ≡ 0) }
-    {
-        let conn = open_database(rt, path, start)?;
-        taken(rt.alloc(), conn)
-    }
+/// The store in a file, as `open_file`, where `B` stands for what the file held: the database that
+/// it holds is taken as a store.
+pub fn open_from<B: Start>(
+    rt: &HostRuntime,
+    path: &str,
+    start: B,
+) -> Result<Store<FileStore<FileFrom<B>>>, StoreFault>
+    ensures memory { path.now ≡ codes ":memory:" → result ≡ Err StoreFault.Refused }
+    ensures opened { IfOk result (λ store. IsOpenedFrom (image_at B.Start) store.held) }
+    ensures refused { IsRefusedFrom (image_at B.Start) result }
+    ensures unread { IfOk result (λ store. store.rows_read ≡ 0) }
+{
+    let conn = open_database(rt, path, start)?;
+    taken(rt.alloc(), conn)
 }
 
 impl<S: Alter> Adopt<Connection<S>, AdoptFault<S>> for Store<S> {
-    ghost is_apart = { λ conn. (conn.in_transaction ≡ false)
-        × AreAsKnown Apart (state S.Store conn) };
-
     /// Takes a database that holds a store, as it is, or one without objects, which becomes an
     /// empty store in one transaction. A store of version 2 becomes one of version 3 that holds the
     /// same, also in one transaction. Any other is handed back as it was, outside a transaction.
@@ -116,26 +111,26 @@ impl<S: Alter> Adopt<Connection<S>, AdoptFault<S>> for Store<S> {
             }),
         }
     }
+}
 
-    /// As `adopt`, of a database whose rowids are known to be apart, as those of every database are
-    /// that was opened over files: they aren't looked at.
-    fn adopt_opened(alloc: Global, conn: Connection<S>) -> Result<Store<S>, AdoptFault<S>>
-        requires settled { conn.in_transaction ≡ false }
-        requires known { AreAsKnown Apart (state S.Store conn) }
-        ensures taken { IfOk result (λ store. IsTakenAsStore S.Store conn store.held
-            × LeavesMade S.Store conn store.held × (store.rows_read ≡ 0)) }
-        ensures refused { IfErr result (λ fault.
-            IsNotTaken S.Store conn fault.connection fault.cause
-            × LeavesMade S.Store conn fault.connection) }
-    {
-        let mut conn = conn;
-        match take(&mut conn, alloc, Rowids::Apart) {
-            Ok(()) => Ok(Store::over(alloc, conn)),
-            Err(cause) => Err(AdoptFault {
-                connection: conn,
-                cause,
-            }),
-        }
+/// As `Store::adopt`, of a database outside a transaction whose rowids are known to be apart, as
+/// those of every database are that was opened over files: they aren't looked at.
+pub fn adopt_opened<S: Alter>(alloc: Global, conn: Connection<S>) -> Result<Store<S>, AdoptFault<S>>
+    requires settled { conn.in_transaction ≡ false }
+    requires known { AreAsKnown Apart (state S.Store conn) }
+    ensures taken { IfOk result (λ store. IsTakenAsStore S.Store conn store.held
+        × LeavesMade S.Store conn store.held × (store.rows_read ≡ 0)) }
+    ensures refused { IfErr result (λ fault.
+        IsNotTaken S.Store conn fault.connection fault.cause
+        × LeavesMade S.Store conn fault.connection) }
+{
+    let mut conn = conn;
+    match take(&mut conn, alloc, Rowids::Apart) {
+        Ok(()) => Ok(Store::over(alloc, conn)),
+        Err(cause) => Err(AdoptFault {
+            connection: conn,
+            cause,
+        }),
     }
 }
 

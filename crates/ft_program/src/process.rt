@@ -1,5 +1,4 @@
 //! The program over the words and the streams of its process.
-#![tactic(auto)]
 
 ghost use Rattle.std.specs.Prelude.{◌≤◌, IfOk};
 

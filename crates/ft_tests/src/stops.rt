@@ -6,7 +6,6 @@ use crate::commands::{are_sound, taken};
 use crate::deeds::{Deed, EACH_KIND, EMPTY, LARGE, NEVER, Turn, done_over};
 use crate::trials::{adopted, number};
 use ft_store::{CellRow, Store, Value};
-use ram_disk::ram_options;
 use sqlite::{Alter, Connection, FileStore, Files, Options};
 use sqlite_disk::{Crash, Disk, Fuse, Memory};
 use std::alloc::{AllocError, Global};
@@ -72,7 +71,7 @@ fn files_of<D: Stops>(
 // Each commit goes from the log into the database file before the next one, so that a command writes
 // to both.
 fn options() -> Options {
-    let mut options = ram_options();
+    let mut options = Options::new(1);
     options.checkpoint_frames = 1;
     options
 }

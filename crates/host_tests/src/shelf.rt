@@ -8,8 +8,8 @@ ghost use Rattle.host_tests.specs.Names.{two_names};
 
 use crate::image::{Image, files_of, no_files, read_of};
 use ft_files::{Databases, Opened};
-use ram_disk::{Ram, ram_options};
-use sqlite::Files;
+use ram_disk::Ram;
+use sqlite::{Files, Options};
 use sqlite_disk::Disk;
 use std::alloc::{AllocError, Global};
 use std::mem;
@@ -139,7 +139,7 @@ fn opened(slot: &mut Slot, alloc: Global) -> Opened<Ram>
 {
     Opened {
         files: slot.take(alloc),
-        options: ram_options(),
+        options: Options::new(1),
     }
 }
 

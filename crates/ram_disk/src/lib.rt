@@ -23,7 +23,7 @@ pub use honest::Honest;
 /// so a small cache serves, and each of its pages costs about 4 microseconds at the open. A
 /// transaction never spills, since one that does writes its pages to the log again and again, which
 /// then only grows.
-pub fn ram_options() -> Options {
+fn ram_options() -> Options {
     let mut options = Options::new(1);
     options.cache_pages = 64;
     options.spill_pages = 0xffff_0000;

@@ -3,7 +3,7 @@ use Rattle.std.proofs.Common.{inr, sym, subst}
 use Rattle.ft_opening.proofs.Common.{IfOk-weaker, IfErr-weaker, Database, AreFoundIn}
 use Rattle.sqlite_wal.specs.Files.{image_at}
 use Rattle.ft_opening.proofs.FoundLemmas.{found_numbered}
-use Rattle.ft_opening.proofs.stores.StoreFileStoreFileFromOpenFrom.open_from.Goals as goal
+use Rattle.ft_opening.proofs.stores.open_from.Goals as goal
 
 pub taken-requires-clause-known : goal.taken-requires-clause-known
 taken-requires-clause-known g c clean is_open =
