@@ -26,12 +26,12 @@ build:
 	mkdir -p bin
 	cp crates/ft_main/out/ft_main bin/ft4sh
 
-# How many processors a check takes from nothing: one, but more on the way that all else waits for, if four crates fit side by side: beside
-# ft_index little else is left, and beside ft_program nothing.
+# How many processors a check takes from nothing: one, but more where four crates fit side by side and little else is left to prove: beside
+# ft_index and ft_files hardly anything is, and beside ft_program nothing.
 processors = 1
 several = $(if $(filter 1 2 3,$(RT_JOBS)),1,$(1))
-prove-ft_store: private processors = $(call several,2)
-prove-ft_index: private processors = $(call several,3)
+prove-ft_index: private processors = $(call several,2)
+prove-ft_files: private processors = $(call several,2)
 prove-ft_program: private processors = $(call several,4)
 
 # `prove-NAME` proves a library, after those that it stands on.
