@@ -68,10 +68,12 @@ fn files_of<D: Stops>(
     })
 }
 
-// Each commit goes from the log into the database file before the next one, so that a command writes
-// to both.
+// Few pages are kept in memory, and nothing is written before a transaction's end. Each commit goes
+// from the log into the database file before the next one, so that a command writes to both.
 fn options() -> Options {
     let mut options = Options::new(1);
+    options.cache_pages = 64;
+    options.spill_pages = 0xffff_0000;
     options.checkpoint_frames = 1;
     options
 }
