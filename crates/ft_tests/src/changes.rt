@@ -1,13 +1,13 @@
 //! What a plan names, commands that no statement spells, and how many rows are read.
 
 use crate::commands::{answer, begun, taken};
-use crate::trials::{Trial, all_read, tried};
 use ft_index::{Command, Deletion, Fault, Filter, FullText, Insertion, Reply};
 use ft_store::{RowChange, Store};
 use ram_disk::Honest;
 use sqlite::{Alter, Connection};
 use std::alloc::{AllocError, Global};
 use std::test::Fail;
+use store_tests::trials::{Trial, all_read, tried};
 
 // A command on the table `d`.
 #[derive(Clone, Copy)]

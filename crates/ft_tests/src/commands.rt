@@ -1,6 +1,5 @@
 //! Full-text tables over a store, and statements as commands on them.
 
-use crate::trials::adopted;
 use ft_index::{Command, Fault, FullText, Reply, TableInfo};
 use ft_statements::{Class, read_statement};
 use ft_store::Store;
@@ -8,6 +7,7 @@ use shell_text::sql_words;
 use sqlite::{Alter, Connection};
 use std::alloc::Global;
 use std::test::Fail;
+use store_tests::trials::adopted;
 
 /// The tables of a store.
 pub(crate) fn taken<S: Alter + Drop>(alloc: Global, store: Store<S>) -> Result<FullText<S>, Fail> {

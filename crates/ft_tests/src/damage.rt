@@ -1,12 +1,12 @@
 //! Which tables of a store are sound. What a damaged one answers is shown by scripts.
 
 use crate::commands::{are_sound, taken};
-use crate::trials::{Trial, adopted_after, tried};
 use ft_index::TableInfo;
 use ram_disk::Honest;
 use sqlite::Connection;
 use std::alloc::Global;
 use std::test::Fail;
+use store_tests::trials::{Trial, adopted_after, tried};
 
 // How many tables there are, and how many have the mark of a sound one.
 fn marked(known: &[TableInfo]) -> (usize, usize) {

@@ -1,5 +1,4 @@
-//! The tests of stores and of full-text tables, by the names that they offer: what no script can
-//! show.
+//! The tests of full-text tables, by the names that they offer: what no script can show.
 #![tactic(auto)]
 
 #[cfg(test)]
@@ -14,7 +13,3 @@ mod deeds;
 mod mended;
 #[cfg(test)]
 mod stops;
-#[cfg(test)]
-mod store;
-#[cfg(test)]
-mod trials;

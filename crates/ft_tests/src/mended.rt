@@ -1,12 +1,12 @@
 //! What is answered where the rows of a table are damaged. Other damages are shown by scripts.
 
 use crate::commands::{answered, are_sound, begun, taken};
-use crate::trials::{Trial, adopted_after, tried};
 use ft_index::FullText;
 use ram_disk::Honest;
 use sqlite::{Alter, Connection};
 use std::alloc::Global;
 use std::test::Fail;
+use store_tests::trials::{Trial, adopted_after, tried};
 
 // A table with its mark, and whether all tables are sound, as all their rows say.
 fn write_marks<S: Alter>(told: &mut String, tables: &mut FullText<S>) -> Result<(), Fail> {

@@ -4,12 +4,12 @@
 
 use crate::commands::{are_sound, taken};
 use crate::deeds::{Deed, EACH_KIND, EMPTY, LARGE, NEVER, Turn, done_over};
-use crate::trials::{adopted, number};
 use ft_store::{CellRow, Store, Value};
 use sqlite::{Alter, Connection, FileStore, Files, Options};
 use sqlite_disk::{Crash, Disk, Fuse, Memory};
 use std::alloc::{AllocError, Global};
 use std::test::Fail;
+use store_tests::trials::{adopted, number};
 
 /// A file that holds bytes, and stops after so many calls.
 trait Stops: Crash + Drop {

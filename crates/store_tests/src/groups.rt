@@ -1,6 +1,6 @@
 //! Lists that are put by one call, of which eight are written together where their keys are new.
 
-use super::steps::{Step, change_each};
+use crate::steps::{Step, change_each};
 use crate::trials::{Trial, adopted, tried};
 use ft_store::{Store, StoreFault};
 use ram_disk::Honest;

@@ -1,6 +1,6 @@
 //! Changes of rows, and the reads after them.
 
-use super::steps::{Step, change_each, change_once};
+use crate::steps::{Step, change_each, change_once};
 use crate::trials::{Trial, adopted_after, all_read, tried};
 use ft_store::{Store, StoreFault};
 use ram_disk::Honest;

@@ -1,0 +1,19 @@
+//! The tests of a database in memory and of a store of full-text rows, by the names that they
+//! offer: what no script can show. Trials over databases in memory serve the tests of tables, too.
+#![tactic(auto)]
+
+#[cfg(test)]
+mod adopting;
+#[cfg(test)]
+mod damaged;
+#[cfg(test)]
+mod expected;
+#[cfg(test)]
+mod groups;
+#[cfg(test)]
+mod ram;
+#[cfg(test)]
+mod rows;
+#[cfg(test)]
+mod steps;
+pub mod trials;
