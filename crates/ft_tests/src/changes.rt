@@ -1,13 +1,12 @@
 //! What a plan names, commands that no statement spells, and how many rows are read.
 
-use crate::commands::{answer, begun, taken};
+use crate::commands::{answer, begun};
+use crate::files::{Trial, tried};
 use ft_index::{Command, Deletion, Fault, Filter, FullText, Insertion, Reply};
-use ft_store::{RowChange, Store};
-use ram_disk::Honest;
+use ft_store::{RowChange, Store, StoreFault};
 use sqlite::{Alter, Connection};
 use std::alloc::{AllocError, Global};
 use std::test::Fail;
-use store_tests::trials::{Trial, all_read, tried};
 
 // A command on the table `d`.
 #[derive(Clone, Copy)]
@@ -60,6 +59,15 @@ fn planned<S: Alter>(
     Ok(tables.plan(&command)?)
 }
 
+// What is read of all rows: the tables, and the cells, entries and sizes of the first.
+fn all_read<S: Alter>(store: &mut Store<S>, alloc: Global) -> Result<String, StoreFault> {
+    let tables = store.tables()?;
+    let cells = store.cells(1)?;
+    let entries = store.entries(1)?;
+    let sizes = store.sizes(1)?;
+    Ok(format!(in alloc; "{tables:?} {cells:?} {entries:?} {sizes:?}")?)
+}
+
 fn rows_with<S: Alter + Drop>(
     alloc: Global,
     store: Store<S>,
@@ -77,8 +85,8 @@ struct AfterPlan(&'static str, Order);
 impl Trial for AfterPlan {
     type Found = String;
 
-    fn over<S: Honest + Drop>(self, alloc: Global, conn: Connection<S>) -> Result<String, Fail> {
-        let mut tables = taken(alloc, begun(alloc, conn, self.0)?)?;
+    fn over<S: Alter + Drop>(self, alloc: Global, conn: Connection<S>) -> Result<String, Fail> {
+        let mut tables = begun(alloc, conn, self.0)?;
         let changes = planned(&mut tables, alloc, self.1)?;
         rows_with(alloc, tables.into_store(), changes.as_slice())
     }
@@ -119,12 +127,12 @@ struct AfterOrder(&'static str, Order);
 impl Trial for AfterOrder {
     type Found = (Result<Reply, Fault>, String);
 
-    fn over<S: Honest + Drop>(
+    fn over<S: Alter + Drop>(
         self,
         alloc: Global,
         conn: Connection<S>,
     ) -> Result<(Result<Reply, Fault>, String), Fail> {
-        let mut tables = taken(alloc, begun(alloc, conn, self.0)?)?;
+        let mut tables = begun(alloc, conn, self.0)?;
         let reply = answered(&mut tables, alloc, self.1)?;
         let mut store = tables.into_store();
         Ok((reply, all_read(&mut store, alloc)?))
@@ -156,22 +164,12 @@ fn missing_tables_are_told(rt: HostRuntime) -> Result<(), Fail> {
     Ok(())
 }
 
-fn push_documents(input: &mut String) -> Result<(), AllocError> {
-    for _ in 0..999 {
-        input.push_str(",('a')")?;
-    }
-    Ok(())
-}
-
 // 999 documents `a`, one `rare`, and then this statement.
 fn thousand_and(alloc: Global, last: &str) -> Result<String, AllocError> {
-    let mut input = "CREATE VIRTUAL TABLE d USING fts4(x);\nINSERT INTO d VALUES('rare')".to_string(
-        alloc,
-    )?;
-    push_documents(&mut input)?;
-    input.push_str(";\n")?;
-    input.push_str(last)?;
-    Ok(input)
+    let others = ",('a')".repeat(alloc, 999)?;
+    format!(in alloc;
+        "CREATE VIRTUAL TABLE d USING fts4(x);\nINSERT INTO d VALUES('rare'){others};\n{last}"
+    )
 }
 
 // How many rows the store was read for in all, where an input is executed.
@@ -181,8 +179,8 @@ struct RowsRead<'a>(&'a str);
 impl<'a> Trial for RowsRead<'a> {
     type Found = u64;
 
-    fn over<S: Honest + Drop>(self, alloc: Global, conn: Connection<S>) -> Result<u64, Fail> {
-        Ok(begun(alloc, conn, self.0)?.rows_read())
+    fn over<S: Alter + Drop>(self, alloc: Global, conn: Connection<S>) -> Result<u64, Fail> {
+        Ok(begun(alloc, conn, self.0)?.into_store().rows_read())
     }
 }
 

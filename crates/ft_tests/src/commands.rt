@@ -1,20 +1,41 @@
 //! Full-text tables over a store, and statements as commands on them.
 
 use ft_index::{Command, Fault, FullText, Reply, TableInfo};
+use ft_opening::Adopt;
 use ft_statements::{Class, read_statement};
 use ft_store::Store;
 use shell_text::sql_words;
 use sqlite::{Alter, Connection};
 use std::alloc::Global;
 use std::test::Fail;
-use store_tests::trials::adopted;
 
-/// The tables of a store.
-pub(crate) fn taken<S: Alter + Drop>(alloc: Global, store: Store<S>) -> Result<FullText<S>, Fail> {
+fn tables_of<S: Alter + Drop>(alloc: Global, store: Store<S>) -> Result<FullText<S>, Fail> {
     match FullText::new(alloc, store) {
         Ok(tables) => Ok(tables),
-        Err(_) => Err(Fail::new("not taken")),
+        Err(_) => Err(Fail::new("no tables")),
     }
+}
+
+/// The tables of a database that is taken as a store.
+pub(crate) fn taken<S: Alter + Drop>(
+    alloc: Global,
+    conn: Connection<S>,
+) -> Result<FullText<S>, Fail> {
+    match Store::adopt(alloc, conn) {
+        Ok(store) => tables_of(alloc, store),
+        Err(_) => Err(Fail::new("no store")),
+    }
+}
+
+/// The same after statements, by which any SQL tool may change the rows.
+pub(crate) fn taken_after<S: Alter + Drop>(
+    alloc: Global,
+    conn: Connection<S>,
+    texts: &str,
+) -> Result<FullText<S>, Fail> {
+    let mut conn = conn;
+    conn.execute_batch(texts)?;
+    taken(alloc, conn)
 }
 
 /// Whether all tables are sound.
@@ -62,15 +83,15 @@ pub(crate) fn are_done<S: Alter>(
     Ok(all)
 }
 
-/// The store of a database in which an input was executed, of which nothing is refused.
+/// The tables of a database in which an input was executed, of which nothing is refused.
 pub(crate) fn begun<S: Alter + Drop>(
     alloc: Global,
     conn: Connection<S>,
     input: &str,
-) -> Result<Store<S>, Fail> {
-    let mut tables = taken(alloc, adopted(alloc, conn)?)?;
+) -> Result<FullText<S>, Fail> {
+    let mut tables = taken(alloc, conn)?;
     if !are_done(alloc, &mut tables, input)? {
         return Err(Fail::new("refused"));
     }
-    Ok(tables.into_store())
+    Ok(tables)
 }

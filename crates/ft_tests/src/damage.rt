@@ -1,12 +1,11 @@
 //! Which tables of a store are sound. What a damaged one answers is shown by scripts.
 
-use crate::commands::{are_sound, taken};
+use crate::commands::{are_sound, begun, taken_after};
+use crate::files::{Trial, tried};
 use ft_index::TableInfo;
-use ram_disk::Honest;
-use sqlite::Connection;
+use sqlite::{Alter, Connection};
 use std::alloc::Global;
 use std::test::Fail;
-use store_tests::trials::{Trial, adopted_after, tried};
 
 // How many tables there are, and how many have the mark of a sound one.
 fn marked(known: &[TableInfo]) -> (usize, usize) {
@@ -23,12 +22,13 @@ struct Marks(&'static str);
 impl Trial for Marks {
     type Found = (usize, usize, bool);
 
-    fn over<S: Honest + Drop>(
+    fn over<S: Alter + Drop>(
         self,
         alloc: Global,
         conn: Connection<S>,
     ) -> Result<(usize, usize, bool), Fail> {
-        let mut tables = taken(alloc, adopted_after(alloc, conn, self.0)?)?;
+        let conn = begun(alloc, conn, "")?.into_store().into_connection();
+        let mut tables = taken_after(alloc, conn, self.0)?;
         let all = are_sound(&mut tables)?;
         let (count, sound) = marked(tables.tables());
         Ok((count, sound, all))

@@ -2,6 +2,7 @@
 //! and those that write in groups.
 
 use crate::commands::are_done;
+use crate::files::NEVER;
 use ft_index::FullText;
 use ft_opening::Adopt;
 use ft_store::Store;
@@ -24,9 +25,6 @@ pub(crate) enum Deed {
 
 /// A deed, of which each so-many-th call is stopped, and what is there after it.
 pub(crate) type Turn = (Deed, u64, &'static str);
-
-/// More calls than a run makes.
-pub(crate) const NEVER: u64 = u64::MAX;
 
 // So many bytes of text fill a group of documents that are written together.
 const GROUP: usize = 524_288;

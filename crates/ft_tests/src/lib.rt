@@ -10,6 +10,8 @@ mod damage;
 #[cfg(test)]
 mod deeds;
 #[cfg(test)]
+mod files;
+#[cfg(test)]
 mod mended;
 #[cfg(test)]
 mod stops;

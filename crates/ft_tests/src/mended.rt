@@ -1,12 +1,11 @@
 //! What is answered where the rows of a table are damaged. Other damages are shown by scripts.
 
-use crate::commands::{answered, are_sound, begun, taken};
+use crate::commands::{answered, are_sound, begun, taken_after};
+use crate::files::{Trial, tried};
 use ft_index::FullText;
-use ram_disk::Honest;
 use sqlite::{Alter, Connection};
 use std::alloc::Global;
 use std::test::Fail;
-use store_tests::trials::{Trial, adopted_after, tried};
 
 // A table with its mark, and whether all tables are sound, as all their rows say.
 fn write_marks<S: Alter>(told: &mut String, tables: &mut FullText<S>) -> Result<(), Fail> {
@@ -28,9 +27,11 @@ struct Damaged {
 impl Trial for Damaged {
     type Found = String;
 
-    fn over<S: Honest + Drop>(self, alloc: Global, conn: Connection<S>) -> Result<String, Fail> {
-        let conn = begun(alloc, conn, self.made)?.into_connection();
-        let mut tables = taken(alloc, adopted_after(alloc, conn, self.changed)?)?;
+    fn over<S: Alter + Drop>(self, alloc: Global, conn: Connection<S>) -> Result<String, Fail> {
+        let conn = begun(alloc, conn, self.made)?
+            .into_store()
+            .into_connection();
+        let mut tables = taken_after(alloc, conn, self.changed)?;
         let mut told = String::new(alloc);
         write_marks(&mut told, &mut tables)?;
         for text in self.asked.lines() {

@@ -3,90 +3,13 @@
 //! as after it, and as after it where it was answered.
 
 use crate::commands::{are_sound, taken};
-use crate::deeds::{Deed, EACH_KIND, EMPTY, LARGE, NEVER, Turn, done_over};
+use crate::deeds::{Deed, EACH_KIND, EMPTY, LARGE, Turn, done_over};
+use crate::files::{Image, NEVER, Part, Stops, files_of, image_of, no_files, opened};
 use ft_store::{CellRow, Store, Value};
-use sqlite::{Alter, Connection, FileStore, Files, Options};
-use sqlite_disk::{Crash, Disk, Fuse, Memory};
+use sqlite::{Alter, Connection, Files};
+use sqlite_disk::{Fuse, Memory};
 use std::alloc::{AllocError, Global};
 use std::test::Fail;
-use store_tests::trials::{adopted, number};
-
-/// A file that holds bytes, and stops after so many calls.
-trait Stops: Crash + Drop {
-    fn holding(alloc: Global, bytes: &[u8], calls: u64) -> Result<Self, Fail>;
-
-    fn held(&self) -> &[u8];
-}
-
-impl Stops for Fuse<Memory> {
-    fn holding(alloc: Global, bytes: &[u8], calls: u64) -> Result<Fuse<Memory>, Fail> {
-        let mut file = Memory::new(alloc);
-        file.write_at(0, bytes)?;
-        file.sync()?;
-        Ok(Fuse::new(file, calls))
-    }
-
-    fn held(&self) -> &[u8] {
-        self.inner().bytes()
-    }
-}
-
-// What stands in the files of a database.
-#[derive(Drop, PartialEq)]
-struct Image {
-    log: Vec<u8>,
-    db: Vec<u8>,
-}
-
-fn image_of<D: Stops>(alloc: Global, files: &Files<D>) -> Result<Image, AllocError> {
-    Ok(Image {
-        log: files.log.held().to_vec(alloc)?,
-        db: files.db.held().to_vec(alloc)?,
-    })
-}
-
-// Which file stops.
-#[derive(Clone, Copy)]
-enum Part {
-    Log,
-    Data,
-}
-
-fn files_of<D: Stops>(
-    alloc: Global,
-    image: &Image,
-    part: Part,
-    calls: u64,
-) -> Result<Files<D>, Fail> {
-    let (log, db) = match part {
-        Part::Log => (calls, NEVER),
-        Part::Data => (NEVER, calls),
-    };
-    Ok(Files {
-        log: D::holding(alloc, image.log.as_slice(), log)?,
-        db: D::holding(alloc, image.db.as_slice(), db)?,
-    })
-}
-
-// Few pages are kept in memory, and nothing is written before a transaction's end. Each commit goes
-// from the log into the database file before the next one, so that a command writes to both.
-fn options() -> Options {
-    let mut options = Options::new(1);
-    options.cache_pages = 64;
-    options.spill_pages = 0xffff_0000;
-    options.checkpoint_frames = 1;
-    options
-}
-
-fn opened<D: Stops>(alloc: Global, files: Files<D>) -> Result<Connection<FileStore<D>>, Files<D>> {
-    if !files.may_be_used() {
-        return Err(files);
-    }
-    match Connection::open_files(alloc, files, options()) {
-        Ok(conn) => Ok(conn),
-        Err((_, left)) => Err(left.into_files()),
-    }
-}
 
 // Whether a deed is done on files, and what is left of them.
 fn ran<D: Stops>(alloc: Global, files: Files<D>, deed: Deed) -> Result<(bool, Files<D>), Fail> {
@@ -145,8 +68,8 @@ fn write_tables<S: Alter>(told: &mut String, store: &mut Store<S>) -> Result<(),
 // texts.
 fn told<S: Alter + Drop>(alloc: Global, conn: Connection<S>) -> Result<String, Fail> {
     let mut conn = conn;
-    let version = number(&mut conn, "SELECT version FROM meta")?;
-    let mut tables = taken(alloc, adopted(alloc, conn)?)?;
+    let version: i64 = conn.query_row("SELECT version FROM meta", &[])?.get(0)?;
+    let mut tables = taken(alloc, conn)?;
     let sound = are_sound(&mut tables)?;
     let names = tables.noted()?;
     let mut told = format!(in alloc; "{version} {sound} {names:?}")?;
@@ -257,12 +180,7 @@ fn each_stopped<D: Stops>(
 
 // The files of an empty store.
 fn begun<D: Stops>(alloc: Global) -> Result<Image, Fail> {
-    let none = Image {
-        log: Vec::new(alloc),
-        db: Vec::new(alloc),
-    };
-    let files = files_of::<D>(alloc, &none, Part::Log, NEVER)?;
-    let (_, left) = ran(alloc, files, Deed::Open)?;
+    let (_, left) = ran(alloc, no_files::<D>(alloc)?, Deed::Open)?;
     Ok(image_of(alloc, &left)?)
 }
 

@@ -3,7 +3,6 @@
 use crate::trials::{Trial, adopted, all_read, number, tried, tried_in_empty};
 use ft_opening::Adopt;
 use ft_store::{Store, StoreFault};
-use ram_disk::Honest;
 use sqlite::{Alter, Connection};
 use std::alloc::Global;
 use std::test::Fail;
@@ -29,7 +28,7 @@ struct Other<'a>(&'a str);
 impl<'a> Trial for Other<'a> {
     type Found = (StoreFault, i64);
 
-    fn over<S: Honest + Drop>(
+    fn over<S: Alter + Drop>(
         self,
         alloc: Global,
         conn: Connection<S>,
@@ -110,7 +109,7 @@ struct Twice;
 impl Trial for Twice {
     type Found = String;
 
-    fn over<S: Honest + Drop>(self, alloc: Global, conn: Connection<S>) -> Result<String, Fail> {
+    fn over<S: Alter + Drop>(self, alloc: Global, conn: Connection<S>) -> Result<String, Fail> {
         let first = adopted(alloc, conn)?;
         let mut again = adopted(alloc, first.into_connection())?;
         Ok(all_read(&mut again, alloc)?)

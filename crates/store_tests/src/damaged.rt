@@ -2,7 +2,6 @@
 
 use crate::trials::{Trial, adopted_after, tried};
 use ft_store::{EntryRow, Store, StoreFault};
-use ram_disk::Honest;
 use sqlite::{Alter, Connection};
 use std::alloc::Global;
 use std::test::Fail;
@@ -30,7 +29,7 @@ struct Asked(&'static str, Read);
 impl Trial for Asked {
     type Found = String;
 
-    fn over<S: Honest + Drop>(self, alloc: Global, conn: Connection<S>) -> Result<String, Fail> {
+    fn over<S: Alter + Drop>(self, alloc: Global, conn: Connection<S>) -> Result<String, Fail> {
         let mut store = adopted_after(alloc, conn, self.0)?;
         let found = entries_of(&mut store, self.1);
         Ok(format!(in alloc; "{found:?}")?)

@@ -2,8 +2,7 @@
 
 use crate::trials::{Trial, adopted_after, tried};
 use ft_store::{Posting, Spot, TermLists};
-use ram_disk::Honest;
-use sqlite::Connection;
+use sqlite::{Alter, Connection};
 use std::alloc::{AllocError, Global};
 use std::test::Fail;
 
@@ -110,7 +109,7 @@ struct Asked {
 impl Trial for Asked {
     type Found = (bool, u64);
 
-    fn over<S: Honest + Drop>(
+    fn over<S: Alter + Drop>(
         self,
         alloc: Global,
         conn: Connection<S>,

@@ -3,7 +3,6 @@
 use crate::steps::{Step, change_each};
 use crate::trials::{Trial, adopted, tried};
 use ft_store::{Store, StoreFault};
-use ram_disk::Honest;
 use sqlite::{Alter, Connection};
 use std::alloc::{AllocError, Global};
 use std::process::Abort;
@@ -85,7 +84,7 @@ struct Calls<'a>(&'a [&'a [Step]]);
 impl<'a> Trial for Calls<'a> {
     type Found = (Result<(), StoreFault>, String);
 
-    fn over<S: Honest + Drop>(
+    fn over<S: Alter + Drop>(
         self,
         alloc: Global,
         conn: Connection<S>,

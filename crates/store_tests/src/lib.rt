@@ -1,5 +1,5 @@
 //! The tests of a database in memory and of a store of full-text rows, by the names that they
-//! offer: what no script can show. Trials over databases in memory serve the tests of tables, too.
+//! offer: what no script can show.
 #![tactic(auto)]
 
 #[cfg(test)]
@@ -16,4 +16,5 @@ mod ram;
 mod rows;
 #[cfg(test)]
 mod steps;
-pub mod trials;
+#[cfg(test)]
+mod trials;

@@ -1,8 +1,8 @@
 //! A database in memory, and the file that it stands on.
 
 use crate::trials::{Trial, number, tried_in_empty};
-use ram_disk::{Honest, Ram};
-use sqlite::{Connection, params};
+use ram_disk::Ram;
+use sqlite::{Alter, Connection, params};
 use sqlite_disk::Disk;
 use std::alloc::Global;
 use std::test::Fail;
@@ -20,7 +20,7 @@ struct Rows;
 impl Trial for Rows {
     type Found = (usize, usize, i64);
 
-    fn over<S: Honest + Drop>(
+    fn over<S: Alter + Drop>(
         self,
         _: Global,
         conn: Connection<S>,

@@ -3,7 +3,6 @@
 use crate::steps::{Step, change_each, change_once};
 use crate::trials::{Trial, adopted_after, all_read, tried};
 use ft_store::{Store, StoreFault};
-use ram_disk::Honest;
 use sqlite::{Alter, Connection};
 use std::alloc::Global;
 use std::test::Fail;
@@ -67,7 +66,7 @@ struct After {
 impl Trial for After {
     type Found = String;
 
-    fn over<S: Honest + Drop>(self, alloc: Global, conn: Connection<S>) -> Result<String, Fail> {
+    fn over<S: Alter + Drop>(self, alloc: Global, conn: Connection<S>) -> Result<String, Fail> {
         let mut store = adopted_after(alloc, conn, PEARS)?;
         change_each(&mut store, alloc, self.calls)?;
         Ok(read_then(&mut store, alloc, self.read)?)
@@ -150,7 +149,7 @@ struct Bad;
 impl Trial for Bad {
     type Found = (Result<(), StoreFault>, String);
 
-    fn over<S: Honest + Drop>(
+    fn over<S: Alter + Drop>(
         self,
         alloc: Global,
         conn: Connection<S>,

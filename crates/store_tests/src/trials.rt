@@ -3,43 +3,42 @@
 
 use ft_opening::{Adopt, OpenMemory};
 use ft_store::{Store, StoreFault};
-use ram_disk::{Honest, is_always_clean, open_ram};
+use ram_disk::{is_always_clean, open_ram};
 use sqlite::{Alter, Connection};
 use std::alloc::Global;
 use std::test::Fail;
 
 /// What is tried on a database, whatever it stands on.
-pub trait Trial: Copy {
+pub(crate) trait Trial: Copy {
     /// What is found by it.
     type Found;
 
     /// What is found in this database.
-    fn over<S: Honest + Drop>(
-        self,
-        alloc: Global,
-        conn: Connection<S>,
-    ) -> Result<Self::Found, Fail>;
+    fn over<S: Alter + Drop>(self, alloc: Global, conn: Connection<S>) -> Result<Self::Found, Fail>;
 }
 
 /// What is found in an empty database.
-pub fn tried_in_empty<T: Trial>(alloc: Global, trial: T) -> Result<T::Found, Fail> {
+pub(crate) fn tried_in_empty<T: Trial>(alloc: Global, trial: T) -> Result<T::Found, Fail> {
     let conn = open_ram(alloc)?;
     is_always_clean(&conn);
     trial.over(alloc, conn)
 }
 
 /// What is found in the database of an empty store.
-pub fn tried<T: Trial>(alloc: Global, trial: T) -> Result<T::Found, Fail> {
+pub(crate) fn tried<T: Trial>(alloc: Global, trial: T) -> Result<T::Found, Fail> {
     trial.over(alloc, Store::open_memory(alloc)?.into_connection())
 }
 
 /// The number that a query answers.
-pub fn number<S: Alter>(conn: &mut Connection<S>, query: &str) -> Result<i64, Fail> {
+pub(crate) fn number<S: Alter>(conn: &mut Connection<S>, query: &str) -> Result<i64, Fail> {
     Ok(conn.query_row(query, &[])?.get(0)?)
 }
 
 /// A database that is taken, as the store that it then is.
-pub fn adopted<S: Alter + Drop>(alloc: Global, conn: Connection<S>) -> Result<Store<S>, Fail> {
+pub(crate) fn adopted<S: Alter + Drop>(
+    alloc: Global,
+    conn: Connection<S>,
+) -> Result<Store<S>, Fail> {
     match Store::adopt(alloc, conn) {
         Ok(store) => Ok(store),
         Err(_) => Err(Fail::new("no store")),
@@ -47,7 +46,7 @@ pub fn adopted<S: Alter + Drop>(alloc: Global, conn: Connection<S>) -> Result<St
 }
 
 /// The same after statements, by which any SQL tool may change the rows.
-pub fn adopted_after<S: Alter + Drop>(
+pub(crate) fn adopted_after<S: Alter + Drop>(
     alloc: Global,
     conn: Connection<S>,
     texts: &str,
@@ -58,7 +57,10 @@ pub fn adopted_after<S: Alter + Drop>(
 }
 
 /// What is read of all rows: the tables, and the cells, entries and sizes of the first.
-pub fn all_read<S: Alter>(store: &mut Store<S>, alloc: Global) -> Result<String, StoreFault> {
+pub(crate) fn all_read<S: Alter>(
+    store: &mut Store<S>,
+    alloc: Global,
+) -> Result<String, StoreFault> {
     let tables = store.tables()?;
     let cells = store.cells(1)?;
     let entries = store.entries(1)?;
