@@ -108,6 +108,7 @@ pub(crate) trait Trial: Copy {
     fn over<S: Alter + Drop>(self, alloc: Global, conn: Connection<S>) -> Result<Self::Found, Fail>;
 }
 
+// What is found in an empty database, whatever its files are.
 fn found_in<D: Stops, T: Trial>(alloc: Global, trial: T) -> Result<T::Found, Fail> {
     match opened(alloc, no_files::<D>(alloc)?) {
         Ok(conn) => trial.over(alloc, conn),
@@ -115,7 +116,7 @@ fn found_in<D: Stops, T: Trial>(alloc: Global, trial: T) -> Result<T::Found, Fai
     }
 }
 
-/// What is found in an empty database. All tests here stand on files of one kind, so that the engine
+/// What is found in an empty database. All tests here stand on one kind of files, so that the engine
 /// is compiled once.
 pub(crate) fn tried<T: Trial>(alloc: Global, trial: T) -> Result<T::Found, Fail> {
     found_in::<Fuse<Memory>, T>(alloc, trial)
