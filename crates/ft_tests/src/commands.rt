@@ -9,6 +9,7 @@ use sqlite::{Alter, Connection};
 use std::alloc::Global;
 use std::test::Fail;
 
+// The tables of a store.
 fn tables_of<S: Alter + Drop>(alloc: Global, store: Store<S>) -> Result<FullText<S>, Fail> {
     match FullText::new(alloc, store) {
         Ok(tables) => Ok(tables),

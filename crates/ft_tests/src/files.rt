@@ -1,4 +1,4 @@
-//! The two files of a database, which may stop.
+//! The two files of a database, which may stop, and what is tried on a database over them.
 
 use sqlite::{Alter, Connection, FileStore, Files, Options};
 use sqlite_disk::{Crash, Disk, Fuse, Memory};
