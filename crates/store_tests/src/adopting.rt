@@ -1,7 +1,8 @@
 //! Databases that are taken as stores, why others are not, and what is left of them.
 
-use crate::trials::{Trial, adopted, all_read, number, tried, tried_in_empty};
+use crate::trials::{Trial, adopted, all_read, number, tried};
 use ft_opening::Adopt;
+use ft_store::StoreFault::{NotAStore, Refused, Version};
 use ft_store::{Store, StoreFault};
 use sqlite::{Alter, Connection};
 use std::alloc::Global;
@@ -20,10 +21,13 @@ fn refused<S: Alter + Drop>(
 
 const META: &str = "SELECT count(*) FROM sqlite_schema WHERE name = 'meta'";
 
-// Why a database isn't taken after these statements, and how many tables called `meta` it still
-// has.
+// Why a database isn't taken after statements, and how many tables called `meta` it still has. It is
+// empty before them, or holds a store.
 #[derive(Clone, Copy)]
-struct Other<'a>(&'a str);
+struct Other<'a> {
+    is_store: bool,
+    texts: &'a str,
+}
 
 impl<'a> Trial for Other<'a> {
     type Found = (StoreFault, i64);
@@ -34,7 +38,10 @@ impl<'a> Trial for Other<'a> {
         conn: Connection<S>,
     ) -> Result<(StoreFault, i64), Fail> {
         let mut conn = conn;
-        conn.execute_batch(self.0)?;
+        if self.is_store {
+            conn = adopted(alloc, conn)?.into_connection();
+        }
+        conn.execute_batch(self.texts)?;
         let (cause, left) = refused(alloc, conn)?;
         let mut conn = left;
         Ok((cause, number(&mut conn, META)?))
@@ -43,61 +50,36 @@ impl<'a> Trial for Other<'a> {
 
 const BARE: &str = "CREATE TABLE meta (one INTEGER PRIMARY KEY, version INTEGER NOT NULL)";
 
-// Whether a database holds a store first, statements, why it isn't taken then, and how many tables
-// called `meta` it has.
-const REFUSED: [(bool, &str, StoreFault, i64); 11] = [
-    (false, BARE, StoreFault::NotAStore, 1),
-    (
-        false,
-        "CREATE TABLE meta (x INTEGER)",
-        StoreFault::NotAStore,
-        1,
-    ),
-    (false, "CREATE TABLE p (a INTEGER)", StoreFault::Refused, 0),
-    (
-        true,
-        "UPDATE meta SET version = 9",
-        StoreFault::Version(9),
-        1,
-    ),
-    (
-        true,
-        "UPDATE meta SET version = 7",
-        StoreFault::Version(7),
-        1,
-    ),
-    (
-        true,
-        "UPDATE meta SET version = 4",
-        StoreFault::Version(4),
-        1,
-    ),
-    (
-        true,
-        "UPDATE meta SET version = -1",
-        StoreFault::Version(-1),
-        1,
-    ),
-    (
-        true,
-        "UPDATE meta SET version = 1",
-        StoreFault::Version(1),
-        1,
-    ),
-    (true, "UPDATE meta SET version = 2", StoreFault::Refused, 1),
-    (true, "DROP TABLE skip", StoreFault::Refused, 1),
-    (true, "DELETE FROM meta", StoreFault::NotAStore, 1),
+// Statements on an empty database, why it isn't taken then, and how many tables called `meta` it has.
+const NO_STORES: [(&str, StoreFault, i64); 3] = [
+    (BARE, NotAStore, 1),
+    ("CREATE TABLE meta (x INTEGER)", NotAStore, 1),
+    ("CREATE TABLE p (a INTEGER)", Refused, 0),
 ];
+
+// The same of statements on a store, where that table stays.
+const CHANGED: [(&str, StoreFault); 8] = [
+    ("UPDATE meta SET version = 9", Version(9)),
+    ("UPDATE meta SET version = 7", Version(7)),
+    ("UPDATE meta SET version = 4", Version(4)),
+    ("UPDATE meta SET version = -1", Version(-1)),
+    ("UPDATE meta SET version = 1", Version(1)),
+    ("UPDATE meta SET version = 2", Refused),
+    ("DROP TABLE skip", Refused),
+    ("DELETE FROM meta", NotAStore),
+];
+
+fn told(alloc: Global, is_store: bool, texts: &str) -> Result<(StoreFault, i64), Fail> {
+    tried(alloc, Other { is_store, texts })
+}
 
 #[test]
 fn other_databases_are_handed_back(rt: HostRuntime) -> Result<(), Fail> {
-    for (is_store, texts, cause, count) in REFUSED {
-        let found = if is_store {
-            tried(rt.alloc(), Other(texts))?
-        } else {
-            tried_in_empty(rt.alloc(), Other(texts))?
-        };
-        assert_eq!(&rt; found, (cause, count), "{texts}");
+    for (texts, cause, count) in NO_STORES {
+        assert_eq!(&rt; told(rt.alloc(), false, texts)?, (cause, count), "{texts}");
+    }
+    for (texts, cause) in CHANGED {
+        assert_eq!(&rt; told(rt.alloc(), true, texts)?, (cause, 1), "{texts}");
     }
     Ok(())
 }
@@ -118,7 +100,7 @@ impl Trial for Twice {
 
 #[test]
 fn an_empty_database_is_adopted_and_again(rt: HostRuntime) -> Result<(), Fail> {
-    let found = tried_in_empty(rt.alloc(), Twice)?;
+    let found = tried(rt.alloc(), Twice)?;
     assert_eq!(&rt; found.as_str(), "[] [] [] []");
     Ok(())
 }

@@ -1,6 +1,6 @@
 //! A database in memory, and the file that it stands on.
 
-use crate::trials::{Trial, number, tried_in_empty};
+use crate::trials::{Trial, number, tried};
 use ram_disk::Ram;
 use sqlite::{Alter, Connection, params};
 use sqlite_disk::Disk;
@@ -37,7 +37,7 @@ impl Trial for Rows {
 
 #[test]
 fn holds_rows_and_undoes(rt: HostRuntime) -> Result<(), Fail> {
-    assert_eq!(rt; tried_in_empty(rt.alloc(), Rows)?, (1, 1, 2));
+    assert_eq!(rt; tried(rt.alloc(), Rows)?, (1, 1, 2));
     Ok(())
 }
 

@@ -1,7 +1,7 @@
 //! Trials over databases in memory. What these stand on is named here alone: of a call that names
 //! it the checker follows each way out into the parts of a disk. So a trial is generic in it.
 
-use ft_opening::{Adopt, OpenMemory};
+use ft_opening::Adopt;
 use ft_store::{Store, StoreFault};
 use ram_disk::{is_always_clean, open_ram};
 use sqlite::{Alter, Connection};
@@ -18,15 +18,10 @@ pub(crate) trait Trial: Copy {
 }
 
 /// What is found in an empty database.
-pub(crate) fn tried_in_empty<T: Trial>(alloc: Global, trial: T) -> Result<T::Found, Fail> {
+pub(crate) fn tried<T: Trial>(alloc: Global, trial: T) -> Result<T::Found, Fail> {
     let conn = open_ram(alloc)?;
     is_always_clean(&conn);
     trial.over(alloc, conn)
-}
-
-/// What is found in the database of an empty store.
-pub(crate) fn tried<T: Trial>(alloc: Global, trial: T) -> Result<T::Found, Fail> {
-    trial.over(alloc, Store::open_memory(alloc)?.into_connection())
 }
 
 /// The number that a query answers.
@@ -45,13 +40,13 @@ pub(crate) fn adopted<S: Alter + Drop>(
     }
 }
 
-/// The same after statements, by which any SQL tool may change the rows.
+/// The same, taken again after statements, by which any SQL tool may change the rows.
 pub(crate) fn adopted_after<S: Alter + Drop>(
     alloc: Global,
     conn: Connection<S>,
     texts: &str,
 ) -> Result<Store<S>, Fail> {
-    let mut conn = conn;
+    let mut conn = adopted(alloc, conn)?.into_connection();
     conn.execute_batch(texts)?;
     adopted(alloc, conn)
 }
