@@ -69,6 +69,7 @@ const CHANGED: [(&str, StoreFault); 8] = [
     ("DELETE FROM meta", NotAStore),
 ];
 
+// The same as a call: whether a store is there before the statements, and these.
 fn told(alloc: Global, is_store: bool, texts: &str) -> Result<(StoreFault, i64), Fail> {
     tried(alloc, Other { is_store, texts })
 }
