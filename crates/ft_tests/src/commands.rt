@@ -28,17 +28,6 @@ pub(crate) fn taken<S: Alter + Drop>(
     }
 }
 
-/// The same after statements, by which any SQL tool may change the rows.
-pub(crate) fn taken_after<S: Alter + Drop>(
-    alloc: Global,
-    conn: Connection<S>,
-    texts: &str,
-) -> Result<FullText<S>, Fail> {
-    let mut conn = conn;
-    conn.execute_batch(texts)?;
-    taken(alloc, conn)
-}
-
 /// Whether all tables are sound.
 pub(crate) fn are_sound<S: Alter>(tables: &mut FullText<S>) -> Result<bool, Fault> {
     tables.check_all()
@@ -61,8 +50,8 @@ fn command_of(alloc: Global, text: &str, tables: &[TableInfo]) -> Result<Command
     }
 }
 
-/// What a statement is answered.
-pub(crate) fn answered<S: Alter>(
+// What a statement is answered.
+fn answered<S: Alter>(
     alloc: Global,
     tables: &mut FullText<S>,
     text: &str,

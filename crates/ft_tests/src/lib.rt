@@ -6,12 +6,8 @@ mod changes;
 #[cfg(test)]
 mod commands;
 #[cfg(test)]
-mod damage;
-#[cfg(test)]
 mod deeds;
 #[cfg(test)]
 mod files;
-#[cfg(test)]
-mod mended;
 #[cfg(test)]
 mod stops;
