@@ -31,6 +31,11 @@ abbrev pub due : List (List ℕ) → Option (List ℕ) → List (Option (List �
 due [] standard = standard ∷ []
 due (text ∷ texts) standard = map Some (text ∷ texts)
 
+-- the standard input isn't touched where texts are given
+abbrev pub Spares : {X : Type 0} → List (List ℕ) → X → X → Type 0
+Spares [] before after = Unit {0}
+Spares (text ∷ texts) before after = after ≡ before
+
 -- what the two writers hold where that is known
 pub record Outputs : Type 0 where
   pub out : Option (List ℕ)

@@ -21,7 +21,7 @@ use Rattle.ft_line.specs.declared.line.LineFault.TheVariants as lines
 use Rattle.ft_line.specs.LineGives.{ReadsLine}
 use Rattle.ft_files.specs.declared.databases.OpenFault.{OpenFault}
 use Rattle.ft_files.specs.declared.databases.OpenFault.TheVariants as opening
-use Rattle.ft_program.specs.Inputs.{NotOpened, Outputs, RunsOver, due}
+use Rattle.ft_program.specs.Inputs.{NotOpened, Outputs, RunsOver, Spares, due}
 use Rattle.ft_files.specs.Hosts.{Names, Stay}
 use Rattle.ft_program.specs.Closed.{AreClosed, Closed}
 use Rattle.ft_program.specs.InFiles.{RunsInFiles}
@@ -82,3 +82,8 @@ abbrev pub Starts : {D : Type 0} → disk.Ghosts D → Bool → Names → Names 
 Starts g tells held left words standard old new status =
     ((why : LineFault) × ReadsLine words (Err why) × RefusesLine why old new status × (IsTrue tells → Stay held left))
     ⊎ ((line : Line) × ReadsLine words (Ok line) × RunsLine g tells held left line standard old new status)
+
+-- The standard input is read only where the words mean a line without texts.
+abbrev pub SparesInput : {X : Type 0} → List (List ℕ) → X → X → Type 0
+SparesInput words before after = ((why : LineFault) × ReadsLine words (Err why) × (after ≡ before))
+    ⊎ ((line : Line) × ReadsLine words (Ok line) × Spares (map string_bytes line.inputs.items) before after)

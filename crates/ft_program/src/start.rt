@@ -7,10 +7,10 @@ ghost use Rattle.ft_files.specs.declared.databases.OpenFault.TheVariants as open
 ghost use Rattle.ft_files.specs.Hosts.{empty_image};
 ghost use Rattle.ft_program.specs.Closed.{IsStoreLeft, RunsBoth, RunsOn, TellsClose};
 ghost use Rattle.ft_program.specs.InFiles.{RunsInFiles};
-ghost use Rattle.ft_program.specs.Inputs.{outputs_of, stage_of, due, RunsInTurn, RunsAndKeeps, Closes, opening_line};
+ghost use Rattle.ft_program.specs.Inputs.{outputs_of, stage_of, due, Spares, RunsInTurn, RunsAndKeeps, Closes, opening_line};
 ghost use Rattle.ft_program.specs.Inputs as forms;
 ghost use Rattle.ft_program.specs.Memory as memory;
-ghost use Rattle.ft_program.specs.Memory.{RefusesLine, RefusesWords, RunsInMemory, Starts};
+ghost use Rattle.ft_program.specs.Memory.{RefusesLine, RefusesWords, RunsInMemory, SparesInput, Starts};
 
 use clap::error::ErrorKind;
 use ft_calls::TextTables;
@@ -44,7 +44,8 @@ struct Work<'a> {
 
 /// Runs the program on words without its own name over the files of the system, and gives its
 /// status: 0; 1 where a fault line was written, a database wasn't opened or closed, or the run
-/// ended early; 2 where the words aren't understood.
+/// ended early; 2 where the words aren't understood. The input is read only where the words give
+/// no texts.
 pub fn start<R: Read, O: Write, E: Write>(
     rt: &HostRuntime,
     words: &[&str],
@@ -52,10 +53,11 @@ pub fn start<R: Read, O: Write, E: Write>(
     out: &mut O,
     err: &mut E,
 ) -> u8
-    ensures { Starts ⟦<File as Disk>⟧ false (λ _. empty_image) (λ _. empty_image)
+    ensures runs { Starts ⟦<File as Disk>⟧ false (λ _. empty_image) (λ _. empty_image)
         (map (λ word. word.now) words.now) (R.remaining input.old)
         (record { out = O.contents out.old; err = E.contents err.old })
         (record { out = O.contents out.new; err = E.contents err.new }) result }
+    ensures spares { SparesInput (map (λ word. word.now) words.now) input.old input.new }
 {
     start_in(rt, words, &mut SystemDatabases { rt }, input, out, err)
 }
@@ -69,10 +71,11 @@ pub fn start_in<D: Disk + Drop, H: Databases<D>, R: Read, O: Write, E: Write>(
     out: &mut O,
     err: &mut E,
 ) -> u8
-    ensures { Starts D.Disk H.tells (H.holds host.old) (H.holds host.new)
+    ensures runs { Starts D.Disk H.tells (H.holds host.old) (H.holds host.new)
         (map (λ word. word.now) words.now) (R.remaining input.old)
         (record { out = O.contents out.old; err = E.contents err.old })
         (record { out = O.contents out.new; err = E.contents err.new }) result }
+    ensures spares { SparesInput (map (λ word. word.now) words.now) input.old input.new }
 {
     let outputs = &mut Outputs::new(out, err);
     let Line {
@@ -103,6 +106,7 @@ fn in_memory<R: Read, O: Write, E: Write>(
         (outputs_of O.contents E.contents outputs.old)
         (outputs_of O.contents E.contents outputs.new) result }
     ensures writers { SameWriters outputs.old outputs.new }
+    ensures spares { Spares (map string_bytes work.entry.inputs.now) input.old input.new }
 {
     match open_in_memory(rt) {
         Ok((plain, store)) => {
@@ -129,6 +133,7 @@ fn in_host<D: Disk + Drop, H: Databases<D>, R: Read, O: Write, E: Write>(
         (outputs_of O.contents E.contents outputs.old)
         (outputs_of O.contents E.contents outputs.new) result }
     ensures writers { SameWriters outputs.old outputs.new }
+    ensures spares { Spares (map string_bytes work.entry.inputs.now) input.old input.new }
 {
     let names = match names_of(rt.alloc(), path) {
         Ok(names) => names,
@@ -205,6 +210,7 @@ fn on_databases<D: Disk + Drop, F: Disk + Drop, R: Read, O: Write, E: Write>(
         (outputs_of O.contents E.contents outputs.old)
         (outputs_of O.contents E.contents outputs.new) result.0 }
     ensures writers { SameWriters outputs.old outputs.new }
+    ensures spares { Spares (map string_bytes work.entry.inputs.now) input.old input.new }
 {
     let (status, plain, store) = run_beside(rt, plain, store, work, input, outputs);
     (status, close_one(plain), close_store(store))
@@ -225,6 +231,7 @@ fn run_beside<D: Disk + Drop, S: Alter, R: Read, O: Write, E: Write>(
         (outputs_of O.contents E.contents outputs.old)
         (outputs_of O.contents E.contents outputs.new) result.0 }
     ensures writers { SameWriters outputs.old outputs.new }
+    ensures spares { Spares (map string_bytes work.entry.inputs.now) input.old input.new }
 {
     run_over(rt, plain, store, work, input, outputs)
 }
@@ -244,6 +251,7 @@ fn run_over<P: Alter, S: Alter, R: Read, O: Write, E: Write>(
         (outputs_of O.contents E.contents outputs.old)
         (outputs_of O.contents E.contents outputs.new) result.0 }
     ensures writers { SameWriters outputs.old outputs.new }
+    ensures spares { Spares (map string_bytes work.entry.inputs.now) input.old input.new }
 {
     let full_text = match FullText::new(rt.alloc(), store) {
         Ok(full_text) => full_text,
@@ -353,6 +361,7 @@ fn run_all<P: Alter, S: Alter, T: TextTables<Over = S>, R: Read, O: Write, E: Wr
         (stage_of O.contents E.contents session.old outputs.old)
         (stage_of O.contents E.contents session.new outputs.new) }
     ensures writers { SameWriters outputs.old outputs.new }
+    ensures spares { Spares (map string_bytes inputs.now) input.old input.new }
 {
     Session::<P, T>::kept_by_runs();
     if inputs.is_empty() {
