@@ -1,10 +1,12 @@
 -- Steps of an import into the plain database.
-use Rattle.std.proofs.Common.{◌≡◌, ◌<◌, ◌+◌, ℕ, List, [], ◌∷◌, ◌++◌, map, length, get_or, take, drop, true, false, Bool, Result, Ok, Err, refl, sym, ap, subst, ◌∙◌, inl, inr, IsTrue, String, Vec, Global, ◌⊎◌, if◌then◌else◌}
+use Rattle.std.proofs.Common.{◌≡◌, ◌≢◌, ◌<◌, ◌+◌, ℕ, List, [], ◌∷◌, ◌++◌, map, length, get_or, take, drop, true, false, Bool, Result, Ok, Err, refl, sym, ap, subst, ◌∙◌, inl, inr, IsTrue, String, Vec, Global, ◌⊎◌, if◌then◌else◌}
 use Rattle.sqlite_value.specs.Order.{Row}
 use Rattle.sqlite.specs.Tree.{Trees}
 use Rattle.sqlite.specs.State.{IsNotRun}
 use Rattle.sqlite.specs.Steps.{FailsToCommit}
-use Rattle.plain_sql.proofs.Common.{take_more, drop_more, take-append-drop, map-append, texts_of, Ghosts, Held, state, State, HasCleanDisk, Survives, ExecutesInside, IsRolledBack, IsUnchanged, KeepsCommit, Error, ImportFault, Refused, Memory, IfClean, is_memory_error, Step, Prepare, Run, row_values, runs_of, Stays, CommitsNothing, Does, IsRefused, DoesAll, StopsAtStep, begun, IsInside, KeepsLast}
+use Rattle.sqlite.specs.declared.error.Error.TheVariants.{SqlInputError}
+use Rattle.sqlite_resolve.specs.declared.error.CompileError.{CompileError}
+use Rattle.plain_sql.proofs.Common.{take_more, drop_more, take-append-drop, map-append, texts_of, Ghosts, Held, state, State, HasCleanDisk, Survives, ExecutesInside, IsRolledBack, IsUnchanged, KeepsCommit, Error, ImportFault, Refused, Memory, IfClean, is_memory_error, Step, Prepare, Run, row_values, runs_of, Stays, CommitsNothing, Does, IsRefused, IsUnsaid, DoesAll, StopsAtStep, begun, IsInside, KeepsLast}
 use Rattle.plain_sql.proofs.QueryLemmas.{clean_before}
 
 -- ---- what a call leaves of the last commit
@@ -38,27 +40,35 @@ inside_keeps text values old new (Ok count) h = record { was_open = λ _. h.1.wa
 inside_keeps text values old new (Err e) (inl (ran, either)) = either_keeps old new either
 inside_keeps text values old new (Err e) (inr escapes) = unchanged_keeps old new escapes.2
 
+stays_same : (s : State) → Stays s s
+stays_same s = record { was_open = λ o. o; now = refl; committed = refl; mode = refl; marks = refl }
+
+pub unchanged_stays : (old new : State) → IsUnchanged old new → Stays old new
+unchanged_stays old new same = record { was_open = λ _. same.0.was_open; now = same.0.now_is; committed = same.0.committed_is; mode = same.0.mode; marks = same.2 }
+
+pub stays_then : (a b c : State) → Stays a b → Stays b c → Stays a c
+stays_then a b c one two = record { was_open = λ o. one.was_open (two.was_open o); now = two.now ∙ one.now; committed = two.committed ∙ one.committed; mode = two.mode ∙ one.mode; marks = two.marks ∙ one.marks }
+
+-- no transaction is open where one was undone
+none_open : {X : Type 0} (old new : State) → IsRolledBack old new → IsTrue new.in_transaction → X
+none_open old new back inside = absurd (let wrong : true ≡ false = sym inside ∙ back.autocommit in cc)
+
 -- nothing was done
 pub all_kept : (s : State) → CommitsNothing s s
-all_kept s = record { commit = keeps_same s; now = λ _. inl refl }
+all_kept s = record { commit = keeps_same s; now = λ _. inl refl; none_begun = λ _. stays_same s }
 
 pub unrun_all_kept : (old new : State) (text : List ℕ) (values : Row) (e : Error) → IsNotRun old new text values e → CommitsNothing old new
 unrun_all_kept old new text values e h = go (unrun_either old new text values e h)
   where
     go : IsUnchanged old new ⊎ IsRolledBack old new → CommitsNothing old new
-    go (inl same) = record { commit = unchanged_keeps old new same; now = λ _. inl same.0.now_is }
-    go (inr back) = record { commit = undone_keeps old new back; now = λ o. inr (back.undone o).0 }
-
-pub unchanged_stays : (old new : State) → IsUnchanged old new → Stays old new
-unchanged_stays old new same = record { was_open = λ _. same.0.was_open; now = same.0.now_is; committed = same.0.committed_is; mode = same.0.mode }
-
-pub stays_then : (a b c : State) → Stays a b → Stays b c → Stays a c
-stays_then a b c one two = record { was_open = λ o. one.was_open (two.was_open o); now = two.now ∙ one.now; committed = two.committed ∙ one.committed; mode = two.mode ∙ one.mode }
+    go (inl same) = record { commit = unchanged_keeps old new same; now = λ _. inl same.0.now_is; none_begun = λ _. unchanged_stays old new same }
+    go (inr back) = record { commit = undone_keeps old new back; now = λ o. inr (back.undone o).0; none_begun = none_open old new back }
 
 pub stays_all_kept : (a b c : State) → Stays a b → CommitsNothing b c → CommitsNothing a c
 stays_all_kept a b c stays keeps = record {
   commit = record { was_open = λ o. stays.was_open (keeps.commit.was_open o); committed = λ o. keeps.commit.committed o ∙ stays.committed };
   now = λ o. elim (keeps.now o) [ inl same ↦ inl (same ∙ stays.now) | inr back ↦ inr (back ∙ stays.committed) ];
+  none_begun = λ inside. stays_then a b c stays (keeps.none_begun inside);
 }
 
 -- ---- one step
@@ -106,6 +116,11 @@ module _ {P : Type 0} (g : Ghosts P) where
       → (HasCleanDisk (state g new) → (values : Row) → IsNotRun (state g old) (state g new) text values e) → IsRefused g (Prepare text) old new
   prepare_refused text old new e survives cause fails = record { error = e; cause = cause; refused = λ clean. (clean_before survives clean, fails clean []) }
 
+  pub prepare_unsaid : (text : List ℕ) (old new : Held P) (e : Error) {C : Trees → Type 0} → Survives (state g old) (state g new) C → is_memory_error e ≡ false → ((why : CompileError) → e ≢ SqlInputError why)
+      → (HasCleanDisk (state g new) → (values : Row) → IsNotRun (state g old) (state g new) text values e) → IsUnsaid g text old new
+  unfolding prepare_refused
+  prepare_unsaid text old new e survives cause other fails = record { is = prepare_refused text old new e survives cause fails; other = other }
+
   pub unprepared_kept : (text : List ℕ) (old new : Held P) (e : Error) {C : Trees → Type 0} → Survives (state g old) (state g new) C
       → (HasCleanDisk (state g new) → (values : Row) → IsNotRun (state g old) (state g new) text values e) → KeepsLast g old new
   unprepared_kept text old new e survives fails clean = (clean_before survives clean, unrun_keeps (state g old) (state g new) text [] e (fails clean []))
@@ -143,6 +158,7 @@ module _ {P : Type 0} (g : Ghosts P) where
         record {
           commit = keeps_then (state g old) (state g last) (state g new) (record { was_open = first.1.was_open; committed = first.1.committed }) (undone_keeps (state g last) (state g new) undone.1);
           now = λ o. inr ((undone.1.undone o).0 ∙ first.1.committed (undone.1.was_open o));
+          none_begun = none_open (state g last) (state g new) undone.1;
         },
       )
 

@@ -1,7 +1,7 @@
 -- Meaning. What an import does to the plain database: one transaction, whole or not at all ("Importing files as CSV or other formats" of
 -- "Command Line Shell For SQLite"; that an import is one command is an own choice). All that is said of a step has the premise that the
 -- disk is clean as the step ends; then it was clean as the step began.
-use Rattle.std.specs.Prelude.{ℕ, Bool, ◌≡◌, ◌⊎◌, ◌<◌, ◌≤◌, List, [], ◌∷◌, ◌++◌, map, true, false, Option, Some, None, Result, Ok}
+use Rattle.std.specs.Prelude.{ℕ, Bool, ◌≡◌, ◌≢◌, ◌⊎◌, ◌<◌, ◌≤◌, List, [], ◌∷◌, ◌++◌, map, true, false, Option, Some, None, Result, Ok}
 use Rattle.std.specs.Prelude.{Err, IfOk, OnOk, IsErrOf, is_ok, IsTrue}
 use Rattle.std.specs.Borrow.{MutBor}
 use Rattle.sqlite_value.specs.Order.{Row}
@@ -15,6 +15,8 @@ use Rattle.sqlite.specs.State.{State, HasCleanDisk, ExecutesInside, IsNotRun, Is
 use Rattle.sqlite.specs.State as states
 use Rattle.sqlite.specs.Steps.{FailsToCommit}
 use Rattle.sqlite.specs.declared.error.Error.{Error}
+use Rattle.sqlite.specs.declared.error.Error.TheVariants.{SqlInputError}
+use Rattle.sqlite_resolve.specs.declared.error.CompileError.{CompileError}
 use Rattle.plain_sql.specs.declared.plain_import.ImportFault.{ImportFault}
 use Rattle.plain_sql.specs.declared.plain_import.ImportFault.TheVariants.{Refused}
 use Rattle.plain_sql.specs.Imports.{create_text, insert_text}
@@ -40,17 +42,20 @@ IsOnlyBelow schema name end None = (m : ℕ) → 1 ≤ m → m < end → takes_v
 IsOnlyBelow schema name end (Some n) = (1 ≤ n) × (n < end) × (takes_values schema name n ≡ true)
     × ((m : ℕ) → 1 ≤ m → m < end → takes_values schema name m ≡ true → m ≡ n)
 
--- the database is as before, and so is the transaction
+-- the database is as before, and so is the transaction, with its savepoints
 pub record Stays (old new : State) : Type 0 where
   pub was_open : IsTrue new.is_open → IsTrue old.is_open
   pub now : new.now ≡ old.now
   pub committed : new.committed ≡ old.committed
   pub mode : new.in_transaction ≡ old.in_transaction
+  pub marks : new.marks ≡ old.marks
 
--- Nothing is committed, and what was not is as before or undone.
+-- Nothing is committed, and what was not is as before or undone. No transaction is begun: one that is open is that of before, and all of it
+-- is as before.
 pub record CommitsNothing (old new : State) : Type 0 where
   pub commit : KeepsCommit old new
   pub now : IsTrue new.is_open → (new.now ≡ old.now) ⊎ (new.now ≡ old.committed)
+  pub none_begun : IsTrue new.in_transaction → Stays old new
 
 -- ---- the transaction
 
@@ -102,6 +107,11 @@ module _ {P : Type 0} (g : Ghosts P) where
     pub cause : is_memory_error error ≡ false
     pub refused : Refuses step old new error
 
+  -- `sqlite` refuses to say whether it understands a text: not for want of memory, and not since it doesn't understand it
+  pub record IsUnsaid (text : List ℕ) (old new : Held P) : Type 0 where
+    pub is : IsRefused (Prepare text) old new
+    pub other : (why : CompileError) → is.error ≢ SqlInputError why
+
   -- a front of the steps is done, and the next one is refused
   pub record StopsAtStep (steps : List Step) (old new : Held P) : Type 0 where
     pub front : List Step
@@ -131,17 +141,17 @@ module _ {P : Type 0} (g : Ghosts P) where
     uncommitted : (last : Held P) (e : Error) → old.in_transaction ≡ false → DoesAll steps (begun old) last → is_memory_error e ≡ false
         → IfClean g last new (FailsToCommit (state g last) (state g new) e) → Declines steps old new
 
-  -- Why a table has no number of columns: none is the only one; or `sqlite` refuses to say, not for want of memory.
+  -- Why a table has no number of columns: none is the only one; or `sqlite` refuses to say.
   pub data Uncounted (name : List ℕ) (old new : Held P) : Type 0 where
     not_one : IfClean g old new (Stays (state g old) (state g new) × ((n : ℕ) → HasColumns (state g old).now.schema name n → ⊥)) → Uncounted name old new
-    untold : (n : ℕ) (mid : Held P) → IfClean g old mid (Stays (state g old) (state g mid)) → IsRefused (Prepare (insert_text name n)) mid new
+    untold : (n : ℕ) (mid : Held P) → IfClean g old mid (Stays (state g old) (state g mid)) → IsUnsaid (insert_text name n) mid new
         → Uncounted name old new
 
   -- It is tried whether so many values may be put into a table: that is answered, and the database is as before; or `sqlite` refuses to
   -- say.
   pub record TriesCount (name : List ℕ) (n : ℕ) (old new : Held P) (result : Result Bool ImportFault) : Type 0 where
     pub told : IfOk result (λ takes. IfClean g old new (Stays (state g old) (state g new) × (takes ≡ takes_values (state g old).now.schema name n)))
-    pub refused : IsErrOf result Refused → IsRefused (Prepare (insert_text name n)) old new
+    pub refused : IsErrOf result Refused → IsUnsaid (insert_text name n) old new
 
   -- The columns of a table are counted, and the database is as before; or it has no number of them. Want of memory says nothing of it.
   pub record CountsColumns (name : List ℕ) (old new : Held P) (result : Result ℕ ImportFault) : Type 0 where

@@ -278,8 +278,10 @@ fn takes_values<P: Alter>(
     let text = insertion_text(alloc, table, count)?;
     match plain.prepare(text.as_str()) {
         Ok(_) => Ok(true),
-        Err(Error::SqlInputError(_)) => Ok(false),
-        Err(error) => Err(ImportFault::from(error)),
+        Err(error) => match error {
+            Error::SqlInputError(_) => Ok(false),
+            _ => Err(ImportFault::from(error)),
+        },
     }
 }
 
