@@ -14,4 +14,4 @@ pub use Rattle.plain_sql.specs.Imports.{with_commas, text_column, doubled, creat
 pub use Rattle.plain_sql.specs.IntoTables.{fault_words, IntoTable, uncounted, declined, no_memory, into}
 pub use Rattle.plain_sql.specs.Listings.{Finds, StopsTrying, Tries}
 pub use Rattle.plain_sql.specs.PlainImports.{HasColumns, IsOnlyBelow, takes_values, Stays, CommitsNothing, import_steps, Declines, Uncounted, Step, Prepare, Run, row_values, runs_of, Does, IsRefused, IsUnsaid, DoesAll, StopsAtStep, begun, IsInside, KeepsLast, not_one, untold, TriesSteps, insertions, CommitsAll, stopped, uncommitted}
-pub use Rattle.plain_sql.specs.PlainStatements.{IfClean, is_memory_error, EndsSo, match_hint, TellsRefusal, Prepares, Answers, FailsToAnswer, unprepared, refused, answered}
+pub use Rattle.plain_sql.specs.PlainStatements.{WasClean, IfClean, is_memory_error, EndsSo, match_hint, TellsRefusal, Prepares, Answers, FailsToAnswer, unprepared, refused, answered}

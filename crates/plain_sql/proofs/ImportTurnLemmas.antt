@@ -5,6 +5,7 @@ use Rattle.shell_io.specs.Records.{kept, records_in}
 use Rattle.shell_io.specs.Outcomes.{Answer, blames}
 use Rattle.plain_sql.proofs.Common.{drop-map, length-map, take_all, enumerate_from, Ghosts, Held, state, ImportFault, Refused, Memory, IfClean, HasColumns, Stays, CommitsNothing, import_steps, Declines, Uncounted, fault_words, IntoTable, uncounted, declined, no_memory, texts_of}
 use Rattle.plain_sql.proofs.PlainImportLemmas.{all_kept, stays_all_kept}
+use Rattle.plain_sql.proofs.QueryLemmas.{was_same, was_then}
 
 -- ---- records and their numbers
 
@@ -43,11 +44,11 @@ module _ {P : Type 0} (g : Ghosts P) where
   pub counted_kept : (a b c : Held P) {X : Type 0} → IfClean g a b (Stays (state g a) (state g b) × X) → IfClean g b c (CommitsNothing (state g b) (state g c)) → IfClean g a c (CommitsNothing (state g a) (state g c))
   counted_kept a b c first second clean =
       let later = second clean in
-      let before = first later.0 in
-      (before.0, stays_all_kept (state g a) (state g b) (state g c) before.1.0 later.1)
+      let before = first later.0.clean in
+      (was_then before.0 later.0, stays_all_kept (state g a) (state g b) (state g c) before.1.0 later.1)
 
   pub nothing_done : (a : Held P) → IfClean g a a (CommitsNothing (state g a) (state g a))
-  nothing_done a clean = (clean, all_kept (state g a))
+  nothing_done a clean = (was_same (state g a) clean, all_kept (state g a))
 
   module _ (what : Import) (rows : List (ℕ × List (List ℕ))) where
     pub count_refused : {T : Type 0} (fault : ImportFault) (old new : Held P) (answer : Answer) → IfClean g old new (CommitsNothing (state g old) (state g new))

@@ -7,7 +7,7 @@ use Rattle.sqlite.specs.Steps.{FailsToCommit}
 use Rattle.sqlite.specs.declared.error.Error.TheVariants.{SqlInputError}
 use Rattle.sqlite_resolve.specs.declared.error.CompileError.{CompileError}
 use Rattle.plain_sql.proofs.Common.{take_more, drop_more, take-append-drop, map-append, texts_of, Ghosts, Held, state, State, HasCleanDisk, Survives, ExecutesInside, IsRolledBack, IsUnchanged, KeepsCommit, Error, ImportFault, Refused, Memory, IfClean, is_memory_error, Step, Prepare, Run, row_values, runs_of, Stays, CommitsNothing, Does, IsRefused, IsUnsaid, DoesAll, StopsAtStep, begun, IsInside, KeepsLast}
-use Rattle.plain_sql.proofs.QueryLemmas.{clean_before}
+use Rattle.plain_sql.proofs.QueryLemmas.{was_clean, was_same, was_then}
 
 -- ---- what a call leaves of the last commit
 
@@ -110,11 +110,11 @@ module _ {P : Type 0} (g : Ghosts P) where
   pub run_refused : (text : List ℕ) (values : Row) (old new : Held P) (e : Error) {C : Trees → Type 0} → Survives (state g old) (state g new) C → IsInside g old → is_memory_error e ≡ false
       → (HasCleanDisk (state g new) → IsTrue (state g old).in_transaction → ExecutesInside 0 text values (state g old) (state g new) (Err e)) → IsRefused g (Run text values) old new
   run_refused text values old new e survives inside cause runs =
-      record { error = e; cause = cause; refused = λ clean. let before = clean_before survives clean in (before, runs clean (inside before)) }
+      record { error = e; cause = cause; refused = λ clean. let before = was_clean survives clean in (before, runs clean (inside before.clean)) }
 
   pub prepare_refused : (text : List ℕ) (old new : Held P) (e : Error) {C : Trees → Type 0} → Survives (state g old) (state g new) C → is_memory_error e ≡ false
       → (HasCleanDisk (state g new) → (values : Row) → IsNotRun (state g old) (state g new) text values e) → IsRefused g (Prepare text) old new
-  prepare_refused text old new e survives cause fails = record { error = e; cause = cause; refused = λ clean. (clean_before survives clean, fails clean []) }
+  prepare_refused text old new e survives cause fails = record { error = e; cause = cause; refused = λ clean. (was_clean survives clean, fails clean []) }
 
   pub prepare_unsaid : (text : List ℕ) (old new : Held P) (e : Error) {C : Trees → Type 0} → Survives (state g old) (state g new) C → is_memory_error e ≡ false → ((why : CompileError) → e ≢ SqlInputError why)
       → (HasCleanDisk (state g new) → (values : Row) → IsNotRun (state g old) (state g new) text values e) → IsUnsaid g text old new
@@ -123,13 +123,13 @@ module _ {P : Type 0} (g : Ghosts P) where
 
   pub unprepared_kept : (text : List ℕ) (old new : Held P) (e : Error) {C : Trees → Type 0} → Survives (state g old) (state g new) C
       → (HasCleanDisk (state g new) → (values : Row) → IsNotRun (state g old) (state g new) text values e) → KeepsLast g old new
-  unprepared_kept text old new e survives fails clean = (clean_before survives clean, unrun_keeps (state g old) (state g new) text [] e (fails clean []))
+  unprepared_kept text old new e survives fails clean = (was_clean survives clean, unrun_keeps (state g old) (state g new) text [] e (fails clean []))
 
   pub last_same : (h : Held P) → KeepsLast g h h
-  last_same h clean = (clean, keeps_same (state g h))
+  last_same h clean = (was_same (state g h) clean, keeps_same (state g h))
 
   pub last_then : (a b c : Held P) → KeepsLast g a b → KeepsLast g b c → KeepsLast g a c
-  last_then a b c one two clean = let second = two clean in let first = one second.0 in (first.0, keeps_then (state g a) (state g b) (state g c) first.1 second.1)
+  last_then a b c one two clean = let second = two clean in let first = one second.0.clean in (was_then first.0 second.0, keeps_then (state g a) (state g b) (state g c) first.1 second.1)
 
   -- ---- steps
 
@@ -153,8 +153,8 @@ module _ {P : Type 0} (g : Ghosts P) where
   pub undone_all_kept : (old last new : Held P) → KeepsLast g (begun g old) last → IfClean g last new (IsRolledBack (state g last) (state g new)) → IfClean g old new (CommitsNothing (state g old) (state g new))
   undone_all_kept old last new kept back clean =
       let undone = back clean in
-      let first = kept undone.0 in (
-        first.0,
+      let first = kept undone.0.clean in (
+        record { clean = first.0.clean; limit = undone.0.limit ∙ first.0.limit },
         record {
           commit = keeps_then (state g old) (state g last) (state g new) (record { was_open = first.1.was_open; committed = first.1.committed }) (undone_keeps (state g last) (state g new) undone.1);
           now = λ o. inr ((undone.1.undone o).0 ∙ first.1.committed (undone.1.was_open o));
@@ -169,4 +169,4 @@ module _ {P : Type 0} (g : Ghosts P) where
 
   pub uncommitted_all_kept : (old last new : Held P) (e : Error) → KeepsLast g (begun g old) last → IsInside g last → IfClean g last new (FailsToCommit (state g last) (state g new) e) → IfClean g old new (CommitsNothing (state g old) (state g new))
   uncommitted_all_kept old last new e kept inside fails =
-      undone_all_kept old last new kept (λ clean. let failed = fails clean in (failed.0, commit_undone (state g last) (state g new) e failed.1 (inside failed.0)))
+      undone_all_kept old last new kept (λ clean. let failed = fails clean in (failed.0, commit_undone (state g last) (state g new) e failed.1 (inside failed.0.clean)))

@@ -1,5 +1,5 @@
 -- What `sqlite` says of a query that is prepared and then run, where the disk is clean as it ends.
-use Rattle.std.proofs.Common.{◌≡◌, ℕ, List, [], refl, subst, sym, arith, inl, Bool, MatchBool, false}
+use Rattle.std.proofs.Common.{◌≡◌, ℕ, List, [], refl, subst, sym, ◌∙◌, arith, inl, Bool, MatchBool, false}
 use Rattle.shell_io.specs.Outcomes.{Answer, Tells, blames, lacks_memory}
 use Rattle.sqlite_trees.specs.View.{doubt}
 use Rattle.sqlite.specs.Tree.{Trees}
@@ -7,13 +7,22 @@ use Rattle.sqlite_value.specs.Order.{Row}
 use Rattle.sqlite.specs.State.{FailsToQuery}
 use Rattle.sqlite.specs.Outline.{Outline}
 use Rattle.sqlite.specs.Steps.{Outlines}
-use Rattle.plain_sql.proofs.Common.{Ghosts, Held, state, State, HasCleanDisk, Survives, IsNotRun, IsUnchanged, Shown, understood, Error, EndsSo, is_memory_error, match_hint, TellsRefusal, IfClean, Prepares, Answers, FailsToAnswer, unprepared, refused}
+use Rattle.plain_sql.proofs.Common.{Ghosts, Held, state, State, HasCleanDisk, Survives, IsNotRun, IsUnchanged, Shown, understood, Error, EndsSo, is_memory_error, match_hint, TellsRefusal, WasClean, IfClean, Prepares, Answers, FailsToAnswer, unprepared, refused}
 
 pub clean_before : {old new : State} {Commits : Trees → Type 0} → Survives old new Commits → HasCleanDisk new → HasCleanDisk old
 clean_before {old} {new} survives clean = let c : doubt new.is_clean ≡ 0 = clean in let s = survives.clean in omega (arith, c, s)
 
+pub was_clean : {old new : State} {Commits : Trees → Type 0} → Survives old new Commits → HasCleanDisk new → WasClean old new
+was_clean survives clean = record { clean = clean_before survives clean; limit = survives.limit }
+
+pub was_same : (s : State) → HasCleanDisk s → WasClean s s
+was_same s clean = record { clean = clean; limit = refl }
+
+pub was_then : {a b c : State} → WasClean a b → WasClean b c → WasClean a c
+was_then one two = record { clean = one.clean; limit = two.limit ∙ one.limit }
+
 pub if_clean : {P : Type 0} (g : Ghosts P) (old new : Held P) {Commits : Trees → Type 0} {Step : Type 0} → Survives (state g old) (state g new) Commits → (HasCleanDisk (state g new) → Step) → IfClean g old new Step
-if_clean g old new survives step clean = (clean_before survives clean, step clean)
+if_clean g old new survives step clean = (was_clean survives clean, step clean)
 
 fails_unrun : (old new : State) (text : List ℕ) (e : Error) → IsNotRun old new text [] e → FailsToQuery text [] old new e
 unfolding FailsToQuery

@@ -4,7 +4,7 @@ use Rattle.std.specs.Prelude.{ℕ, ◌≡◌, ◌++◌, List, [], Bool, true, fa
 use Rattle.sqlite.specs.Store.{Ghosts}
 use Rattle.sqlite_value.specs.Order.{Row}
 use Rattle.sqlite.specs.Held.{Held, state}
-use Rattle.sqlite.specs.State.{HasCleanDisk, FailsToQuery, IsUnchanged, Shown}
+use Rattle.sqlite.specs.State.{State, HasCleanDisk, FailsToQuery, IsUnchanged, Shown}
 use Rattle.sqlite.specs.Listing.{understood}
 use Rattle.sqlite.specs.Outline.{Outline}
 use Rattle.sqlite.specs.Steps.{Outlines}
@@ -32,11 +32,16 @@ abbrev pub TellsRefusal : Bool → Error → Answer → Type 0
 TellsRefusal seeks e answer = MatchBool (is_memory_error e) (answer ≡ lacks_memory)
     ((text : List ℕ) × EndsSo (match_hint seeks) text × Tells (blames text) answer)
 
+-- the disk was clean, and the limit on the steps of a query is as before
+pub record WasClean (old new : State) : Type 0 where
+  pub clean : HasCleanDisk old
+  pub limit : new.step_limit ≡ old.step_limit
+
 module _ {P : Type 0} (g : Ghosts P) where
   -- A step of the plain database. All that `sqlite` says has the premise that the disk is clean as the step ends; then it was clean as the
-  -- step began, so that no step is an unclean one of which nothing is said.
+  -- step began, so that no step is an unclean one of which nothing is said. No step sets the limit on steps.
   abbrev pub IfClean : Held P → Held P → Type 0 → Type 0
-  IfClean old new Step = HasCleanDisk (state g new) → HasCleanDisk (state g old) × Step
+  IfClean old new Step = HasCleanDisk (state g new) → WasClean (state g old) (state g new) × Step
 
   -- the statement was prepared, which gives its columns' names
   pub record Prepares (text : List ℕ) (old new : Held P) (names : List (List ℕ)) : Type 0 where

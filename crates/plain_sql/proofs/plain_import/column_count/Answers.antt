@@ -2,6 +2,7 @@
 use Rattle.std.proofs.Common.{rules, ◌≡◌, ◌≤◌, Err, ap, subst, ◌∙◌, arith}
 use Rattle.sqlite.specs.Effect.{Database}
 use Rattle.plain_sql.proofs.Common.{state, IsOnlyBelow, takes_values, not_one, untold}
+use Rattle.plain_sql.proofs.QueryLemmas.{was_then}
 use Rattle.plain_sql.proofs.CountLemmas.{no_number, only_number}
 use Rattle.plain_sql.proofs.PlainImportLemmas.{passed_on, stays_then}
 use Rattle.plain_sql.proofs.plain_import.column_count.Goals as goal
@@ -25,10 +26,10 @@ returns-in_err-found-clause-counts g c =
       uncounted = λ refused.
           not_one (λ clean.
           let told = c.in_ok-takes.ensures.tries.told clean in
-          let so_far = c.loop-count.invariant told.0 in
+          let so_far = c.loop-count.invariant told.0.clean in
           let schema = c.args.plain.now.schema in
           let takes : c.in_ok-takes.takes ≡ takes_values schema c.args.table.now c.loop-count.count = told.1.1 ∙ ap (λ s. takes_values s c.args.table.now c.loop-count.count) (ap (λ (d : Database). d.schema) so_far.1.0.now) in (
-            so_far.0,
+            was_then so_far.0 told.0,
             (
               stays_then (state g.P.Store c.args.plain.now) (state g.P.Store c.loop-count.plain) (state g.P.Store c.takes_values.new.plain) so_far.1.0 told.1.0,
               c.in_err-found.ensures schema c.args.table.now takes so_far.1.1 high,
@@ -39,10 +40,10 @@ returns-in_err-found-clause-counts g c =
 pub loop-count-preserved : goal.loop-count-preserved
 loop-count-preserved g c = λ clean.
     let told = c.in_ok-takes.ensures.tries.told clean in
-    let so_far = c.loop-count.invariant told.0 in
+    let so_far = c.loop-count.invariant told.0.clean in
     let schema = c.args.plain.now.schema in
     let takes : c.in_ok-takes.takes ≡ takes_values schema c.args.table.now c.loop-count.count = told.1.1 ∙ ap (λ s. takes_values s c.args.table.now c.loop-count.count) (ap (λ (d : Database). d.schema) so_far.1.0.now) in (
-      so_far.0,
+      was_then so_far.0 told.0,
       (
         stays_then (state g.P.Store c.args.plain.now) (state g.P.Store c.loop-count.plain) (state g.P.Store c.takes_values.new.plain) so_far.1.0 told.1.0,
         c.in_ok-found.ensures schema c.args.table.now takes so_far.1.1,

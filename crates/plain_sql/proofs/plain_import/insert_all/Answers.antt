@@ -15,7 +15,7 @@ returns-in_err-insert_record-clause-steps g c =
           (runs_split text c.args.columns c.args.records.now c.loop-fields.fields-index c.fields-item.result (map string_bytes c.as_slice.result.now) c.loop-fields-test.true row)
           (stops_at g.P.Store (runs_of text c.args.columns (map texts_of (take c.loop-fields.fields-index c.args.records.now))) (Run text (row_values c.args.columns (map string_bytes c.as_slice.result.now)))
           (runs_of text c.args.columns (map texts_of (drop (c.loop-fields.fields-index + 1) c.args.records.now))) c.args.tx.now.conn.now c.loop-fields.tx.conn.now c.insert_record.new.tx.conn.now
-          (c.loop-fields.invariant.done text same) ((c.in_err-insert_record.ensures.step text (λ clean. same (c.loop-fields.invariant.kept clean).0)).refused (sym is ∙ refused)));
+          (c.loop-fields.invariant.done text same) ((c.in_err-insert_record.ensures.step text (λ clean. same (c.loop-fields.invariant.kept clean).0.clean)).refused (sym is ∙ refused)));
     }
 
 pub loop-fields-preserved : goal.loop-fields-preserved
@@ -30,5 +30,5 @@ loop-fields-preserved g c =
           (runs_more text c.args.columns c.args.records.now c.loop-fields.fields-index c.fields-item.result (map string_bytes c.as_slice.result.now) c.loop-fields-test.true row)
           (does_more g.P.Store (runs_of text c.args.columns (map texts_of (take c.loop-fields.fields-index c.args.records.now))) (Run text (row_values c.args.columns (map string_bytes c.as_slice.result.now)))
           c.args.tx.now.conn.now c.loop-fields.tx.conn.now c.insert_record.new.tx.conn.now (c.loop-fields.invariant.done text same)
-          (c.in_ok-insert_record.ensures.step text (λ clean. same (c.loop-fields.invariant.kept clean).0)).done);
+          (c.in_ok-insert_record.ensures.step text (λ clean. same (c.loop-fields.invariant.kept clean).0.clean)).done);
     }

@@ -1,7 +1,7 @@
 -- by what `sqlite` says of the text
 use Rattle.std.proofs.Common.{rules, ◌≡◌, [], false, Bool, Err, sym, ap, subst, is_ok}
 use Rattle.plain_sql.proofs.Common.{state, IsNotRun, understood, insert_text, IsUnsaid}
-use Rattle.plain_sql.proofs.QueryLemmas.{clean_before}
+use Rattle.plain_sql.proofs.QueryLemmas.{was_clean}
 use Rattle.plain_sql.proofs.CountLemmas.{not_understood}
 use Rattle.plain_sql.proofs.PlainImportLemmas.{other_cause, prepare_unsaid, unrun_all_kept, unchanged_stays}
 use Rattle.plain_sql.proofs.plain_import.takes_values.Goals as goal
@@ -14,7 +14,7 @@ returns-in-SqlInputError-clause-tries g c =
     record {
       told = λ clean.
           let none = not_understood old new c.as_str.result.now c.in-SqlInputError.field-0 (subst (IsNotRun old new c.as_str.result.now []) c.in-SqlInputError.is (c.in-Err.ensures.err clean [])) in
-          (clean_before c.prepare.ensures.survives clean, (unchanged_stays old new none.1, sym (subst (λ t. is_ok (understood old.now.schema t) ≡ false) text none.0)));
+          (was_clean c.prepare.ensures.survives clean, (unchanged_stays old new none.1, sym (subst (λ t. is_ok (understood old.now.schema t) ≡ false) text none.0)));
       refused = λ refused. absurd (let wrong = refused in cc);
     }
 
@@ -22,7 +22,7 @@ pub returns-in-SqlInputError-clause-kept : goal.returns-in-SqlInputError-clause-
 returns-in-SqlInputError-clause-kept g c = λ clean.
     let old = state g.P.Store c.args.plain.now in
     let new = state g.P.Store c.prepare.new.self in
-    (clean_before c.prepare.ensures.survives clean, unrun_all_kept old new c.as_str.result.now [] c.in-Err.error (c.in-Err.ensures.err clean []))
+    (was_clean c.prepare.ensures.survives clean, unrun_all_kept old new c.as_str.result.now [] c.in-Err.error (c.in-Err.ensures.err clean []))
 
 pub returns : goal.returns
 returns g c =
@@ -37,5 +37,5 @@ returns g c =
             (prepare_unsaid g.P.Store c.as_str.result.now c.args.plain.now c.prepare.new.self e c.prepare.ensures.survives
             (other_cause {T = Bool} e (Err c.from.result) (ap Err c.from.ensures) refused) c.in_default.not-SqlInputError c.in-Err.ensures.err);
       };
-      kept = λ clean. (clean_before c.prepare.ensures.survives clean, unrun_all_kept old new c.as_str.result.now [] e (c.in-Err.ensures.err clean []));
+      kept = λ clean. (was_clean c.prepare.ensures.survives clean, unrun_all_kept old new c.as_str.result.now [] e (c.in-Err.ensures.err clean []));
     }
