@@ -1,5 +1,5 @@
 -- Meaning. The two databases of a command line (own choice).
-use Rattle.std.specs.Prelude.{◌≡◌, ◌⊎◌, ℕ, List, ◌++◌, Bool, true, false, bit_and, length, nat_eq, nat_lt, if◌then◌else◌, codes, Result, IfOk, IfErr}
+use Rattle.std.specs.Prelude.{◌≡◌, ◌⊎◌, ℕ, List, ◌++◌, Bool, true, false, bit_and, length, nat_eq, nat_lt, if◌then◌else◌, codes, None, Result, IfOk, IfErr}
 use Rattle.std.specs.List.{starts_with}
 use Rattle.std.specs.Option.{option_map_or}
 use Rattle.std.specs.Path.{path_file_name}
@@ -54,11 +54,12 @@ pub record IsNoPlain {P : Type 0} (g : Ghosts P) (conn : Held P) : Type 0 where
   pub clean : HasCleanDisk (state g conn)
   pub fresh : IsNew conn
 
--- an empty store, of which no row was read
+-- an empty store, of which no row was read, without a limit on steps
 pub record IsNoStore {S : Type 0} (h : Ghosts S) (store : StoreState S) : Type 0 where
   pub empty : value_in h store ≡ nothing_held
   pub clean : HasCleanDisk (shows h store)
   pub unread : store.rows_read ≡ 0
+  pub unlimited : store.held.step_limit ≡ None
 
 -- the store that is found in files which held this image, of which no row was read
 pub record IsStoreFrom {D : Type 0} {g : disk.Ghosts D} (image : Image) (store : StoreState (FileStore D g)) : Type 0 where
@@ -69,9 +70,11 @@ pub record IsStoreFrom {D : Type 0} {g : disk.Ghosts D} (image : Image) (store :
 abbrev pub IsNoStoreFor : {D : Type 0} → disk.Ghosts D → Image → OpenFault → Type 0
 IsNoStoreFor g image f = (cause : StoreFault) × (f ≡ open_fault_of cause) × (IsPlainFault cause ⊎ IsNotTakenFrom g image cause)
 
--- both databases, empty and in memory
+-- both databases, empty and in memory: the plain tables are a new connection, and the store has no limit on steps
 pub record OpensMemory {P S : Type 0} (g : Ghosts P) (h : Ghosts S) (result : Result (Held P × StoreState S) OpenFault) : Type 0 where
   pub plain : IfOk result (λ both. IsEmpty (state g both.0))
   pub store : IfOk result (λ both. value_in h both.1 ≡ nothing_held)
   pub clean : IfOk result (λ both. HasCleanDisk (state g both.0) × HasCleanDisk (shows h both.1))
+  pub fresh : IfOk result (λ both. IsNew both.0)
+  pub unlimited : IfOk result (λ both. both.1.held.step_limit ≡ None)
   pub refused : IfErr result (λ f. (f ≡ fault.Database) ⊎ (f ≡ fault.Store))

@@ -1,7 +1,7 @@
 //! Stores that are opened, and databases that are taken as stores.
-ghost use Rattle.std.specs.Prelude.{◌≡◌, ◌≢◌, ℤ, false, codes, Err, MatchResult, IfErr, IsTrue, IfOk, OnErr};
+ghost use Rattle.std.specs.Prelude.{◌≡◌, ◌≢◌, ℤ, false, codes, None, Err, MatchResult, IfErr, IsTrue, IfOk, OnErr};
 ghost use Rattle.sqlite.specs.Files.{over_files};
-ghost use Rattle.sqlite.specs.Held.{state};
+ghost use Rattle.sqlite.specs.Held.{IsNew, state};
 ghost use Rattle.sqlite.specs.State.{HasCleanDisk};
 ghost use Rattle.sqlite_wal.specs.Files.{image_at};
 ghost use Rattle.ft_rows.specs.Store.{StoreValue, nothing_held};
@@ -25,13 +25,14 @@ use sqlite::{Alter, Connection, Error as SqlError, File, FileFrom, FileStore, St
 use std::alloc::Global;
 
 impl OpenMemory for Store<FileStore<Ram>> {
-    /// An empty store in memory, which is clean at all times. A disk in memory fails only where a
-    /// write finds none, so each error is want of memory.
+    /// An empty store in memory, which is clean at all times and has no limit on steps. A disk in
+    /// memory fails only where a write finds none, so each error is want of memory.
     fn open_memory(alloc: Global) -> Result<Store<FileStore<Ram>>, StoreFault>
         ensures empty { IfOk result (λ store. value_in over_files store ≡ nothing_held) }
         ensures clean { IfOk result (λ store. HasCleanDisk (shows over_files store)) }
         ensures up { IfOk result (λ store. IsTrue (shows over_files store).is_open) }
         ensures unread { IfOk result (λ store. store.rows_read ≡ 0) }
+        ensures unlimited { IfOk result (λ store. store.held.step_limit ≡ None) }
         ensures causes { OnErr result (result ≡ Err StoreFault.Memory) }
     {
         begun(alloc, open_ram(alloc))
@@ -153,12 +154,14 @@ fn begun<S: Alter + Drop>(
     alloc: Global,
     found: Result<Connection<S>, SqlError>,
 ) -> Result<Store<S>, StoreFault>
-    requires { IfOk found (λ conn. IsSettled IsBare (state S.Store conn)) }
+    requires bare { IfOk found (λ conn. IsSettled IsBare (state S.Store conn)) }
+    requires fresh { IfOk found IsNew }
     ensures empty { IfOk result (λ store. HasCleanDisk (state S.Store store.held)
         → IsEmptyStore (state S.Store store.held).now) }
     ensures up { IfOk result (λ store. HasCleanDisk (state S.Store store.held)
         → IsTrue (state S.Store store.held).is_open) }
     ensures unread { IfOk result (λ store. store.rows_read ≡ 0) }
+    ensures unlimited { IfOk result (λ store. store.held.step_limit ≡ None) }
     ensures causes { OnErr result (result ≡ Err StoreFault.Memory) }
 {
     let Ok(mut conn) = found else {
