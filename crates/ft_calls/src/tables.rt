@@ -1,10 +1,13 @@
 //! Full-text tables as a session calls them.
-ghost use Rattle.std.specs.Prelude.{◌≡◌, ◌⊎◌, map, string_bytes, is_ok, IfOk, IfErr};
+ghost use Rattle.std.specs.Prelude.{◌≡◌, ◌⊎◌, [], ◌∷◌, map, string_bytes, is_ok, IfOk, IfErr};
+ghost use Rattle.ft_rows.specs.Store.{Note};
+ghost use Rattle.ft_store.specs.Blame.{AreNotedTexts};
+ghost use Rattle.ft_store.specs.Kept.{shows};
 ghost use Rattle.ft_values.specs.declared.fault.Fault.TheVariants as faults;
 ghost use Rattle.ft_content.specs.Views.{shown_info};
 ghost use Rattle.ft_commands.specs.Views.{command_of, answer_of};
 ghost use Rattle.ft_calls.specs.Kept.{FullText, IsUp, SurvivesCrash, store_value};
-ghost use Rattle.ft_calls.specs.Kept.{Executed, Looked, Noted};
+ghost use Rattle.ft_calls.specs.Kept.{BlamesChanges, BlamesStore, Executed, Looked, Noted};
 ghost use Rattle.ft_calls.specs.Causes.{DoesForCause};
 
 use ft_content::{Command, Fault, Reply, TableInfo};
@@ -37,24 +40,31 @@ pub trait TextTables {
     ///
     /// # Errors
     ///
-    /// `Store` or `Memory`, where the store or memory refused it.
+    /// `Store` or `Memory`, where the store or memory refused it. The store does so only for what
+    /// lies outside it, or since the row of the name can't be put.
     fn note(&mut self, name: &str) -> Result<(), Fault>
         ensures does { DoesForCause Self.Over.Store (known self.old) (Noted name.now (is_ok result))
             (known self.new) }
-        ensures fault { IfErr result (λ fault. (fault ≡ faults.Store) ⊎ (fault ≡ faults.Memory)) };
+        ensures fault { IfErr result (λ fault. (fault ≡ faults.Store) ⊎ (fault ≡ faults.Memory)) }
+        ensures refused { BlamesChanges (shows Self.Over.Store (known self.old).store)
+            (shows Self.Over.Store (known self.new).store) result (Note name.now ∷ []) };
 
     /// The noted names, in the order of their small letters.
     ///
     /// # Errors
     ///
-    /// `Store` or `Memory`, where the store or memory refused the read.
+    /// `Store` or `Memory`, where the store or memory refused the read. Where the names are texts,
+    /// the store does so only for what lies outside it.
     fn noted(&mut self) -> Result<Vec<String>, Fault>
         ensures names { IsUp Self.Over.Store (known self.new)
             → IfOk result (λ names. map string_bytes names.items
             ≡ map (λ n. n.1) (store_value Self.Over.Store (known self.old)).noted) }
         ensures does { DoesForCause Self.Over.Store (known self.old) (Looked (is_ok result))
             (known self.new) }
-        ensures fault { IfErr result (λ fault. (fault ≡ faults.Store) ⊎ (fault ≡ faults.Memory)) };
+        ensures fault { IfErr result (λ fault. (fault ≡ faults.Store) ⊎ (fault ≡ faults.Memory)) }
+        ensures refused { AreNotedTexts (store_value Self.Over.Store (known self.old))
+            → BlamesStore (shows Self.Over.Store (known self.old).store)
+            (shows Self.Over.Store (known self.new).store) result };
 
     /// The law that a crash leaves what a store that is up holds, and nothing else.
     fn is_settled(&self)

@@ -88,7 +88,7 @@ looks_call h old new is_done looks leaves = (inr (is_done, refl), (new, (looks, 
 tables_calls : {P S : Type 0} (g : Ghosts P) (h : Ghosts S) (old new : Shell P S) (told : Answer) → (it : TablesTurn g h old.plain new.plain old.full_text new.full_text told) →
     Called h MayRead (tables_in g h old new told it) old.full_text new.full_text
 tables_calls g h old new told (tables.lists noted looks leaves is it) = looks_call h old.full_text new.full_text true looks leaves
-tables_calls g h old new told (tables.refused looks leaves same tells) = looks_call h old.full_text new.full_text false looks leaves
+tables_calls g h old new told (tables.refused fault refuses looks leaves same tells cause) = looks_call h old.full_text new.full_text false looks leaves
 
 note_calls : {S : Type 0} (h : Ghosts S) (lines name : List ℕ) (old new : FullText S) (told : Answer) → (it : NoteTurn h lines name old new told) → Called h (MayNote (Some name)) (Noted name (is_ok it.answer) ∷ []) old new
 note_calls h lines name old new told it = notes_one h old new name (is_ok it.answer) it.does

@@ -1,11 +1,13 @@
 -- Meaning. What a full-text statement does in a session. All of it is our own choice.
-use Rattle.std.specs.Prelude.{ℕ, ◌≡◌, List, [], codes, Option, Some, None, Result, Ok, Err, is_ok}
+use Rattle.std.specs.Prelude.{ℕ, ◌≡◌, ◌⊎◌, List, [], ◌∷◌, codes, Option, Some, None, Result, Ok, Err, is_ok, IfErr}
 use Rattle.sqlite.specs.Store.{Ghosts}
 use Rattle.shell_text.specs.Print.{Settings}
 use Rattle.ft_values.specs.declared.fault.Fault.{Fault}
 use Rattle.ft_values.specs.declared.fault.Fault.TheVariants as faults
+use Rattle.ft_rows.specs.Store.{Note}
+use Rattle.ft_store.specs.Kept.{shows}
 use Rattle.ft_commands.specs.Command.{Command, Reply}
-use Rattle.ft_calls.specs.Kept.{FullText}
+use Rattle.ft_calls.specs.Kept.{FullText, BlamesChanges}
 use Rattle.ft_calls.specs.Kept.{Executed, Noted}
 use Rattle.ft_calls.specs.Causes.{DoesForCause}
 use Rattle.shell_io.specs.Texts.{fault_text}
@@ -29,10 +31,13 @@ answer_of_note lines (Ok _) = warned lines
 answer_of_note lines (Err faults.Memory) = complains lines (codes "out of memory")
 answer_of_note lines (Err _) = complains lines (codes "table not noted")
 
--- A new plain table's name is noted, after warnings, or the note is refused.
+-- A new plain table's name is noted, after warnings, or the note is refused: for want of memory, for what lies outside the full-text store, or
+-- since the row of the name can't be put.
 pub record NoteTurn {S : Type 0} (h : Ghosts S) (lines name : List ℕ) (old new : FullText S) (told : Answer) : Type 0 where
   pub answer : Result (Unit {0}) Fault
   pub does : DoesForCause h old (Noted name (is_ok answer)) new
+  pub fault : IfErr answer (λ fault. (fault ≡ faults.Store) ⊎ (fault ≡ faults.Memory))
+  pub cause : BlamesChanges (shows h old.store) (shows h new.store) answer (Note name ∷ [])
   pub tells : told ≡ answer_of_note lines answer
 
 -- it is noted if there is one

@@ -113,7 +113,7 @@ module _ {P S : Type 0} (g : Ghosts P) (h : Ghosts S) (old new : Shell P S) (tol
   -- `.tables` reads the noted names
   abbrev pub tables_in : TablesTurn g h old.plain new.plain old.full_text new.full_text told → List Call
   tables_in (tables.lists noted looks leaves are lists) = Looked true ∷ []
-  tables_in (tables.refused looks leaves same tells) = Looked false ∷ []
+  tables_in (tables.refused fault refuses looks leaves same tells cause) = Looked false ∷ []
 
   abbrev pub dot_in : (command : DotCommand) → DotTurn g h old new told command → List Call
   dot_in (Importing what) it = delimited_in g h what old.plain new.plain old.full_text new.full_text told old.holds

@@ -89,8 +89,10 @@ pub(crate) fn note_turn<S: Alter, T: TextTables<Over = S>>(
 {
     match full_text.note(name) {
         Ok(()) => Ok(Output::Warnings(warnings)),
-        Err(Fault::Memory) => Err(Complaint::after(warnings, "out of memory")),
-        Err(_) => Err(Complaint::after(warnings, "table not noted")),
+        Err(fault) => match fault {
+            Fault::Memory => Err(Complaint::after(warnings, "out of memory")),
+            _ => Err(Complaint::after(warnings, "table not noted")),
+        },
     }
 }
 

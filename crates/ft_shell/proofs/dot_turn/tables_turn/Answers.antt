@@ -1,5 +1,6 @@
 -- the noted names are listed
-use Rattle.std.proofs.Common.{rules, ◌≡◌, List, map, string_bytes, refl, ap, ◌∙◌, subst, inl, inr, String, Global}
+use Rattle.std.proofs.Common.{rules, ◌≡◌, List, map, string_bytes, refl, ap, ◌∙◌, subst, inl, inr, Err, String, Global}
+use Rattle.ft_values.specs.declared.fault.Fault.TheVariants as faults
 use Rattle.shell_io.specs.Outcomes.{blames, lacks_memory, says}
 use Rattle.shell_io.specs.OutputViews.{answer_as}
 use Rattle.plain_sql.specs.Listings.{Finds, StopsTrying}
@@ -7,7 +8,6 @@ use Rattle.ft_shell.specs.TablesTurns.{tables, unsorted, untried}
 use Rattle.ft_shell.proofs.Common.{TableInfo, info_names, AreSorted, listed, fault_text, texts_of, known_names, lists}
 use Rattle.ft_shell.specs.TablesTurns.{refused}
 use Rattle.ft_shell.proofs.ClassLemmas.{named_as}
-use Rattle.ft_shell.proofs.ImportTurnLemmas.{store_told}
 use Rattle.shell_text.specs.Print as print
 use Rattle.ft_shell.proofs.dot_turn.tables_turn.Goals as goal
 
@@ -15,7 +15,8 @@ pub returns-in_err-noted : goal.returns-in_err-noted
 returns-in_err-noted g c =
     let fault = c.in_err-noted.field-0.0 in
     let is : answer_as c.from_residual.result ≡ blames (fault_text fault) = search rules in
-    refused c.in_err-noted.ensures.does.0 c.in_err-noted.ensures.does.1 refl (store_told fault (answer_as c.from_residual.result) c.in_err-noted.ensures.fault is)
+    refused fault c.in_err-noted.ensures.fault c.in_err-noted.ensures.does.0 c.in_err-noted.ensures.does.1 refl is
+    (λ are clean told. c.in_err-noted.ensures.refused are clean (let same : fault ≡ faults.Store = cc in ap Err same))
 
 pub returns-in_err-found : goal.returns-in_err-found
 returns-in_err-found g c =
