@@ -34,8 +34,10 @@ from_nothing {D} g settings plain store tables texts inputs old new status alway
     go (inr (runs, held)) = inr (record {
       plain = plain;
       no_plain = opens.plain;
+      new_plain = opens.fresh;
       store = store;
       no_store = opens.store;
+      unlimited = opens.unlimited;
       runs = runs;
       kept = runs.kept [] (subst (λ v. StoreHolds v []) (sym opens.store) tt) (always runs.last.parts.full_text.store);
       tables = tables;

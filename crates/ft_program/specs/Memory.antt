@@ -4,7 +4,7 @@ use Rattle.std.specs.declared.alloc.Global.{Global}
 use Rattle.sqlite_disk.specs.declared.Disk as disk
 use Rattle.sqlite_store.specs.declared.store.FileStore.{FileStore}
 use Rattle.sqlite.specs.Files.{file_state, over_files}
-use Rattle.sqlite.specs.Held.{Held}
+use Rattle.sqlite.specs.Held.{Held, IsNew}
 use Rattle.sqlite.specs.Steps.{IsEmpty}
 use Rattle.ram_disk.specs.contracts.disk.RamDisk.TheImpl.{ghosts}
 use Rattle.clap.specs.Values.{kind_of}
@@ -26,12 +26,14 @@ use Rattle.ft_files.specs.Hosts.{Names, Stay}
 use Rattle.ft_program.specs.Closed.{AreClosed, Closed}
 use Rattle.ft_program.specs.InFiles.{RunsInFiles}
 
--- The inputs are run from two empty databases, which are closed in the end.
+-- The inputs are run from two empty databases without a limit on steps, which are closed in the end.
 pub record FromNothing {D : Type 0} (g : disk.Ghosts D) (settings : Settings) (inputs : List (Option (List ℕ))) (old new : Outputs) (status : ℕ) : Type 0 where
   pub plain : Held (FileStore D g)
   pub no_plain : IsEmpty (file_state plain)
+  pub new_plain : IsNew plain
   pub store : StoreState (FileStore D g)
   pub no_store : value_in over_files store ≡ nothing_held
+  pub unlimited : store.held.step_limit ≡ None
   pub runs : RunsOver over_files over_files settings plain store inputs old new status
   -- nothing is supposed of the disk
   pub kept : PromiseKept over_files over_files [] (record { settings = settings; plain = plain; full_text = runs.made }) runs.reads runs.all runs.last.parts
