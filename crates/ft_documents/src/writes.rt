@@ -34,7 +34,8 @@ pub fn additions(alloc: Global, documents: Vec<Document>) -> Result<Vec<Rewrite>
         .collect(alloc)
 }
 
-/// The rewrites of chosen documents, of which one may get another docid.
+/// The rewrites of chosen documents. A docid is given where one document is chosen at most: that one
+/// gets it.
 pub fn update_rewrites(
     alloc: Global,
     columns: &[Column],

@@ -70,11 +70,6 @@ pub record IsStoreFrom {D : Type 0} {g : disk.Ghosts D} (image : Image) (store :
 abbrev pub IsNoStoreFor : {D : Type 0} → disk.Ghosts D → Image → OpenFault → Type 0
 IsNoStoreFor g image f = (cause : StoreFault) × (f ≡ open_fault_of cause) × (IsPlainFault cause ⊎ IsNotTakenFrom g image cause)
 
--- both databases, empty and in memory: the plain tables are a new connection, and the store has no limit on steps
-pub record OpensMemory {P S : Type 0} (g : Ghosts P) (h : Ghosts S) (result : Result (Held P × StoreState S) OpenFault) : Type 0 where
-  pub plain : IfOk result (λ both. IsEmpty (state g both.0))
-  pub store : IfOk result (λ both. value_in h both.1 ≡ nothing_held)
-  pub clean : IfOk result (λ both. HasCleanDisk (state g both.0) × HasCleanDisk (shows h both.1))
-  pub fresh : IfOk result (λ both. IsNew both.0)
-  pub unlimited : IfOk result (λ both. both.1.held.step_limit ≡ None)
-  pub refused : IfErr result (λ f. (f ≡ fault.Database) ⊎ (f ≡ fault.Store))
+-- both databases, empty and in memory
+abbrev pub OpensMemory : {P S : Type 0} → Ghosts P → Ghosts S → Result (Held P × StoreState S) OpenFault → Type 0
+OpensMemory g h result = Opens result (λ both. IsNoPlain g both.0 × IsNoStore h both.1) (λ f. (f ≡ fault.Database) ⊎ (f ≡ fault.Store))

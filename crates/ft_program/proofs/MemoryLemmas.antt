@@ -33,13 +33,11 @@ from_nothing {D} g settings plain store tables texts inputs old new status alway
     go (inl unread) = inl (opening.Store, inr refl, unread.told)
     go (inr (runs, held)) = inr (record {
       plain = plain;
-      no_plain = opens.plain;
-      new_plain = opens.fresh;
+      no_plain = opens.opened.0;
       store = store;
-      no_store = opens.store;
-      unlimited = opens.unlimited;
+      no_store = opens.opened.1;
       runs = runs;
-      kept = runs.kept [] (subst (λ v. StoreHolds v []) (sym opens.store) tt) (always runs.last.parts.full_text.store);
+      kept = runs.kept [] (subst (λ v. StoreHolds v []) (sym opens.opened.1.empty) tt) (always runs.last.parts.full_text.store);
       tables = tables;
       texts = texts;
       closed = record {

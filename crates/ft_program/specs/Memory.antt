@@ -3,17 +3,15 @@ use Rattle.std.specs.Prelude.{ℕ, Bool, true, false, IsTrue, ◌≡◌, ◌⊎�
 use Rattle.std.specs.declared.alloc.Global.{Global}
 use Rattle.sqlite_disk.specs.declared.Disk as disk
 use Rattle.sqlite_store.specs.declared.store.FileStore.{FileStore}
-use Rattle.sqlite.specs.Files.{file_state, over_files}
-use Rattle.sqlite.specs.Held.{Held, IsNew}
-use Rattle.sqlite.specs.Steps.{IsEmpty}
+use Rattle.sqlite.specs.Files.{over_files}
+use Rattle.sqlite.specs.Held.{Held}
 use Rattle.ram_disk.specs.contracts.disk.RamDisk.TheImpl.{ghosts}
 use Rattle.clap.specs.Values.{kind_of}
 use Rattle.clap.specs.declared.error.Error.{Error}
 use Rattle.clap.specs.declared.error.kind.ErrorKind.{ErrorKind}
 use Rattle.clap.specs.declared.error.kind.ErrorKind.TheVariants as kind
 use Rattle.shell_text.specs.Print.{Settings}
-use Rattle.ft_store.specs.Kept.{StoreState, value_in}
-use Rattle.ft_rows.specs.Store.{nothing_held}
+use Rattle.ft_store.specs.Kept.{StoreState}
 use Rattle.ft_shell.specs.Promise.{PromiseKept}
 use Rattle.ft_line.specs.declared.line.Line.{Line}
 use Rattle.ft_line.specs.declared.line.LineFault.{LineFault}
@@ -23,17 +21,16 @@ use Rattle.ft_files.specs.declared.databases.OpenFault.{OpenFault}
 use Rattle.ft_files.specs.declared.databases.OpenFault.TheVariants as opening
 use Rattle.ft_program.specs.Inputs.{NotOpened, Outputs, RunsOver, Spares, due}
 use Rattle.ft_files.specs.Hosts.{Names, Stay}
+use Rattle.ft_files.specs.Opening.{IsNoPlain, IsNoStore}
 use Rattle.ft_program.specs.Closed.{AreClosed, Closed}
 use Rattle.ft_program.specs.InFiles.{RunsInFiles}
 
--- The inputs are run from two empty databases without a limit on steps, which are closed in the end.
+-- The inputs are run from two empty databases, which are closed in the end.
 pub record FromNothing {D : Type 0} (g : disk.Ghosts D) (settings : Settings) (inputs : List (Option (List ℕ))) (old new : Outputs) (status : ℕ) : Type 0 where
   pub plain : Held (FileStore D g)
-  pub no_plain : IsEmpty (file_state plain)
-  pub new_plain : IsNew plain
+  pub no_plain : IsNoPlain over_files plain
   pub store : StoreState (FileStore D g)
-  pub no_store : value_in over_files store ≡ nothing_held
-  pub unlimited : store.held.step_limit ≡ None
+  pub no_store : IsNoStore over_files store
   pub runs : RunsOver over_files over_files settings plain store inputs old new status
   -- nothing is supposed of the disk
   pub kept : PromiseKept over_files over_files [] (record { settings = settings; plain = plain; full_text = runs.made }) runs.reads runs.all runs.last.parts

@@ -22,7 +22,8 @@ pub enum StoreFault {
     /// The store has a version that is not taken.
     #[error("full-text store of version {0}")]
     Version(i64),
-    /// A list of places is not in its one form, or its term is no text.
+    /// A list of places is not in its one form, or its term is no text; or one of a change is none
+    /// that can be packed.
     #[error("a damaged posting list")]
     Damaged,
 }
