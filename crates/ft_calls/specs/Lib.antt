@@ -1,3 +1,4 @@
 -- Meaning
 pub mod Kept
+pub mod RowsRead
 pub mod Causes

@@ -9,6 +9,7 @@ ghost use Rattle.ft_commands.specs.Views.{command_of, answer_of};
 ghost use Rattle.ft_calls.specs.Kept.{FullText, IsUp, SurvivesCrash, store_value};
 ghost use Rattle.ft_calls.specs.Kept.{BlamesChanges, BlamesStore, Executed, Looked, Noted};
 ghost use Rattle.ft_calls.specs.Causes.{DoesForCause};
+ghost use Rattle.ft_calls.specs.RowsRead.{CountsRows};
 
 use ft_content::{Command, Fault, Reply, TableInfo};
 use sqlite::Alter;
@@ -26,15 +27,18 @@ pub trait TextTables {
     fn tables(&self) -> &[TableInfo]
         ensures { map shown_info result.now ≡ (known self.now).tables };
 
-    /// Executes a command. One that is refused leaves everything as it was.
+    /// Executes a command. One that is refused leaves everything as it was. A Select that is answered
+    /// reads exactly the rows that it needs.
     ///
     /// # Errors
     ///
     /// The first fault that the command deserves, in the order of the causes of `Fault`; or `Store`
     /// or `Memory`, where the store or memory refused it.
     fn execute(&mut self, command: &Command) -> Result<Reply, Fault>
-        ensures { DoesForCause Self.Over.Store (known self.old)
-            (Executed (command_of command.now) (answer_of result)) (known self.new) };
+        ensures does { DoesForCause Self.Over.Store (known self.old)
+            (Executed (command_of command.now) (answer_of result)) (known self.new) }
+        ensures counts { CountsRows Self.Over.Store (known self.old) (command_of command.now)
+            (answer_of result) (known self.new) };
 
     /// Notes a name, in its latest spelling.
     ///

@@ -83,8 +83,8 @@ pub use Rattle.ft_index.specs.Opened.{IsListed, state_of, AreMarked, HasState, H
 pub use Rattle.ft_index.specs.Planned.{table_change, PlansTable, changes_of}
 pub use Rattle.ft_index.specs.Refused.{AreThere, BlamesMade, BlamesDone}
 pub use Rattle.ft_calls.specs.Causes.{AreRewrites, alone, behind}
-unfoldable pub use Rattle.ft_index.specs.RowsRead.{rows_asked}
-pub use Rattle.ft_index.specs.RowsRead.{reads_document, CountsRows, CountsCommand, CountsFound, CountsHeld, count_asked, entries_asked}
+unfoldable pub use Rattle.ft_calls.specs.RowsRead.{rows_asked}
+pub use Rattle.ft_calls.specs.RowsRead.{reads_document, CountsRows, CountsCommand, CountsFound, CountsHeld, count_asked, entries_asked}
 pub use Rattle.ft_index.specs.Selected.{hit_cells, IsAsked, IsOf}
 unfoldable pub use Rattle.ft_index.specs.Walked.{table_documents}
 pub use Rattle.ft_index.specs.Walked.{IsIndexed, ReadsStore}

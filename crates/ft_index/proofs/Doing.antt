@@ -26,7 +26,7 @@ use Rattle.ft_store.specs.Kept.{Pings, ReadsRows}
 use Rattle.ft_store.specs.declared.fault.StoreFault.TheVariants as causes
 use Rattle.ft_rows.specs.Store.{PutEntries}
 use Rattle.ft_values.specs.declared.fault.Fault.TheVariants as faults
-use Rattle.ft_index.specs.RowsRead.{CountsIfRows}
+use Rattle.ft_calls.specs.RowsRead.{CountsIfRows}
 use Rattle.std.proofs.lemmas.List.Elements.{All-cons, All-head, All-tail, All-map, All-filter, All-take, All-drop}
 use Rattle.ft_rows.specs.Shown.{AreWhole}
 use Rattle.ft_store.specs.Blame.{Blames}

@@ -19,7 +19,7 @@ use Rattle.ft_content.specs.Content.{is_cell, is_document}
 use Rattle.ft_commands.specs.Command.{All, Grid}
 use Rattle.ft_content.specs.Answer.{named_cell, item_cells, offsets_cell, item_headers}
 use Rattle.ft_content.proofs.{item_cells_are, cut_of_map}
-use Rattle.ft_index.specs.RowsRead.{docids_asked}
+use Rattle.ft_calls.specs.RowsRead.{docids_asked}
 use Rattle.ft_documents.proofs.{chosen_again, chosen_all, chosen_one}
 use Rattle.std.proofs.lemmas.List.FromFn.{length-enumerate_from}
 use Rattle.ft_rows.specs.Shown.{shown_cell}

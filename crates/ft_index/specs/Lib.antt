@@ -1,5 +1,4 @@
 -- Meaning
-pub mod RowsRead
 pub mod DocumentsRead
 pub mod Planned
 pub mod Opened

@@ -3,7 +3,7 @@ ghost use Rattle.std.specs.Prelude.{map};
 ghost use Rattle.ft_content.specs.Views.{shown_info};
 ghost use Rattle.ft_commands.specs.Views.{command_of, answer_of};
 ghost use Rattle.ft_index.specs.Changed.{with_tables, Does};
-ghost use Rattle.ft_index.specs.RowsRead.{CountsRows};
+ghost use Rattle.ft_calls.specs.RowsRead.{CountsRows};
 ghost use Rattle.ft_index.specs.DocumentsRead.{Looks};
 ghost use Rattle.ft_index.specs.Refused.{BlamesOver, BlamesDone};
 ghost use Rattle.ft_index.specs.Written.{PlansIn};

@@ -9,7 +9,7 @@ ghost use Rattle.ft_content.specs.Content.{Content};
 ghost use Rattle.ft_content.specs.Answer.{cut};
 ghost use Rattle.ft_commands.specs.Views as views;
 ghost use Rattle.ft_index.specs.DocumentsRead.{HasRows, LooksFor, AsksStore};
-ghost use Rattle.ft_index.specs.RowsRead.{are_short, docids_asked};
+ghost use Rattle.ft_calls.specs.RowsRead.{are_short, docids_asked};
 ghost use Rattle.ft_documents.specs.Gathered.{shown_document, has_given};
 ghost use Rattle.ft_calls.specs.Kept.{BlamesStore, IsOutside};
 

@@ -55,7 +55,7 @@ impl<S: Alter> FullText<S> {
     ghost use Rattle.ft_content.specs.Views.{shown_info};
     ghost use Rattle.ft_commands.specs.Views.{command_of, answer_of};
     ghost use Rattle.ft_index.specs.Planned.{changes_of};
-    ghost use Rattle.ft_index.specs.RowsRead.{CountsRows};
+    ghost use Rattle.ft_calls.specs.RowsRead.{CountsRows};
     ghost use Rattle.ft_index.specs.DocumentsRead.{Looks};
     ghost use Rattle.ft_index.specs.Opened.{OpensStore, OpensWhatIsLeft};
     ghost use Rattle.ft_calls.specs.Kept.{IsUp, store_value, Holds, AreSound, OnlyLooks, BlamesStore, BlamesChanges, Executes, Plans, Notes};

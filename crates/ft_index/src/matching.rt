@@ -8,7 +8,7 @@ ghost use Rattle.ft_commands.specs.Command.{Match};
 ghost use Rattle.ft_content.specs.Answer.{reading, query_in, cut};
 ghost use Rattle.ft_index.specs.Walked.{IsIndexed};
 ghost use Rattle.ft_documents.specs.Matched.{chosen_hits, as_wanted};
-ghost use Rattle.ft_index.specs.RowsRead.{entries_asked};
+ghost use Rattle.ft_calls.specs.RowsRead.{entries_asked};
 ghost use Rattle.ft_index.specs.DocumentsRead.{LooksFor};
 ghost use Rattle.ft_calls.specs.Kept.{IsOutside};
 ghost use Rattle.ft_index.specs.Refused.{BlamesContent};

@@ -18,8 +18,8 @@ ghost use Rattle.ft_index.specs.Changed.{with_tables};
 ghost use Rattle.ft_index.specs.Refused.{BlamesContent, BlamesOver, AreThere, NeverStore};
 ghost use Rattle.ft_index.specs.DocumentsRead.{HasRows, LooksFor};
 ghost use Rattle.ft_documents.specs.Gathered.{shown_document};
-ghost use Rattle.ft_index.specs.RowsRead as rows;
-ghost use Rattle.ft_index.specs.RowsRead.{rows_asked, CountsRows};
+ghost use Rattle.ft_calls.specs.RowsRead as rows;
+ghost use Rattle.ft_calls.specs.RowsRead.{rows_asked, CountsRows};
 ghost use Rattle.ft_documents.specs.Chosen.{ReadsFilterAs, cells_at};
 ghost use Rattle.ft_index.specs.Selected.{hit_cells, IsOf, IsAsked};
 

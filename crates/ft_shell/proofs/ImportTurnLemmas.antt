@@ -1,8 +1,7 @@
 -- What is refused.
-use Rattle.std.proofs.Common.{◌≡◌, ◌≤◌, ◌⊎◌, ℕ, List, ◌∷◌, length, Some, Result, Err, refl, ap, ◌∙◌, inl, inr, codes}
+use Rattle.std.proofs.Common.{◌≡◌, ◌≤◌, ℕ, List, ◌∷◌, length, Some, Result, Err, refl}
 use Rattle.shell_text.specs.Records.{IsNoText, csv_reader}
 use Rattle.shell_text.specs.declared.records.RecordFault.{RecordFault}
-use Rattle.ft_values.specs.declared.fault.Fault.{Fault}
 use Rattle.shell_io.specs.FaultWords.{record_words}
 use Rattle.plain_sql.specs.declared.plain_import.ImportFault.{ImportFault}
 use Rattle.plain_sql.specs.declared.plain_import.ImportFault.TheVariants.{Refused, Memory}
@@ -10,10 +9,9 @@ use Rattle.plain_sql.specs.IntoTables.{fault_words}
 use Rattle.plain_sql.specs.PlainImports.{CommitsNothing, import_steps, Declines}
 use Rattle.plain_sql.specs.PlainStatements.{IfClean}
 use Rattle.shell_io.specs.Records.{records_in}
-use Rattle.shell_io.specs.Outcomes.{Answer, Tells, blames}
-use Rattle.ft_shell.proofs.Common.{fault_text, Ghosts, Held, state, FullText, Import, BytesTurn, IntoNew, declined, no_memory}
+use Rattle.shell_io.specs.Outcomes.{Answer, blames}
+use Rattle.ft_shell.proofs.Common.{Ghosts, Held, state, FullText, Import, BytesTurn, IntoNew, declined, no_memory}
 use Rattle.shell_text.specs.declared.records.RecordFault.TheVariants as records
-use Rattle.ft_values.specs.declared.fault.Fault.TheVariants as faults
 use Rattle.ft_shell.specs.ImportTurns as imports
 
 module _ {P : Type 0} (g : Ghosts P) (what : Import) (rows : List (ℕ × List (List ℕ))) where
@@ -28,8 +26,3 @@ pub records_refused : {P S T : Type 0} (g : Ghosts P) (h : Ghosts S) (what : Imp
     → (◌≡◌ {A = Result T RecordFault} (Err fault) (Err records.NotUtf8) → IsNoText (csv_reader delimiter) bytes) → answer ≡ blames (record_words fault) → BytesTurn g h what old old before before answer delimiter bytes
 records_refused g h what old before answer delimiter bytes records.NotUtf8 why is = imports.no_text (why refl) (refl, refl, is)
 records_refused g h what old before answer delimiter bytes records.Memory why is = imports.no_memory (refl, refl, is)
-
--- the noted names are not read
-pub store_told : (fault : Fault) (answer : Answer) → (fault ≡ faults.Store) ⊎ (fault ≡ faults.Memory) → answer ≡ blames (fault_text fault) → Tells (blames (codes "full-text store refused")) answer
-store_told fault answer (inl is) tells = inl (tells ∙ ap (λ f. blames (fault_text f)) is)
-store_told fault answer (inr is) tells = inr (tells ∙ ap (λ f. blames (fault_text f)) is)

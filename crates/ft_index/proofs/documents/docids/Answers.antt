@@ -4,7 +4,7 @@ use Rattle.ft_index.proofs.Common.{length-map, Cell, value_in, more_rows, shows,
 use Rattle.ft_store.specs.Docids.{docids_in}
 use Rattle.ft_content.proofs.{cut_of_map}
 use Rattle.ft_documents.proofs.{docids_read}
-use Rattle.ft_index.specs.RowsRead.{are_short}
+use Rattle.ft_calls.specs.RowsRead.{are_short}
 use Rattle.ft_index.proofs.SelectAnswers.{cut_is}
 use Rattle.ft_index.proofs.Doing.{store_blamed}
 use Rattle.ft_index.proofs.documents.docids.Goals as goal

@@ -17,7 +17,7 @@ returns-in_err-execute g c =
     let command : command_of c.in_ok-command.command ≡ Insert (string_bytes c.args.what.now.table) None (map (row_cells c.args.columns) (records_in rows)) =
     c.in_ok-command.ensures ∙ (λ j. Insert (c.as_str-2.ensures.value j) None (map (row_cells c.args.columns) (sym (records_numbered c.args.first (map texts_of c.args.records.items)) j))) in
     executed (subst (λ k. InsertTurn g.S.Store k (warnings (string_bytes c.args.what.now.file) c.args.columns rows) (g.T.TextTables.known c.args.full_text.now) (g.T.TextTables.known c.execute.new.self) answer) command
-    (record { answer = Err fault; does = c.in_err-execute.ensures; tells = is }))
+    (record { answer = Err fault; does = c.in_err-execute.ensures.does; tells = is }))
 
 pub returns : goal.returns
 returns g c =
@@ -29,4 +29,4 @@ returns g c =
     let answer = warned (string_bytes c.in_ok-lines.lines) in
     executed (subst (λ l. InsertTurn g.S.Store (Insert (string_bytes c.args.what.now.table) None (map (row_cells c.args.columns) (records_in rows))) l (g.T.TextTables.known c.args.full_text.now) (g.T.TextTables.known c.execute.new.self) answer) lines
     (subst (λ k. InsertTurn g.S.Store k (string_bytes c.in_ok-lines.lines) (g.T.TextTables.known c.args.full_text.now) (g.T.TextTables.known c.execute.new.self) answer) command
-    (record { answer = Ok (reply_of c.in_ok-execute.field-0); does = c.in_ok-execute.ensures; tells = refl })))
+    (record { answer = Ok (reply_of c.in_ok-execute.field-0); does = c.in_ok-execute.ensures.does; tells = refl })))
