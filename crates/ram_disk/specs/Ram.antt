@@ -5,3 +5,7 @@ use Rattle.ram_disk.specs.declared.disk.Ram.{Ram}
 -- its member `seen`
 abbrev pub ram_bytes : Ram → List ℕ
 ram_bytes r = r.bytes.items
+
+-- its member `faults`
+abbrev pub ram_faults : Ram → ℕ
+ram_faults r = r.faults

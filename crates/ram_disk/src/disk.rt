@@ -16,11 +16,12 @@ pub struct Ram {
 }
 
 impl Ram {
-    ghost use Rattle.ram_disk.specs.Ram.{ram_bytes};
+    ghost use Rattle.ram_disk.specs.Ram.{ram_bytes, ram_faults};
 
-    /// An empty file.
+    /// An empty file. Each write so far found memory.
     pub fn new(alloc: Global) -> Ram
-        ensures { ram_bytes result ≡ [] }
+        ensures bytes { ram_bytes result ≡ [] }
+        ensures faults { ram_faults result ≡ 0 }
     {
         Ram {
             bytes: Vec::new(alloc),
